@@ -1,0 +1,4 @@
+-- The greatest common divisor, the shortening rule, and what they mean for the vectors that two rows send to zero.
+pub mod Gcd
+pub mod Shorten
+pub mod Lattice

@@ -1,0 +1,87 @@
+//! The body: its operations, one instance, and the plain run.
+
+use crate::geometry::Array;
+
+/// What a line does with its operands.
+#[derive(Clone, Copy, Debug, PartialEq, Eq, PartialOrd, Ord)]
+pub enum Operation {
+    Copy,
+    Add,
+    Subtract,
+    Multiply,
+    Smaller,
+    Larger,
+}
+
+impl Operation {
+    /// The operations in the order of their words.
+    pub const ALL: [Operation; 6] = [
+        Operation::Copy,
+        Operation::Add,
+        Operation::Subtract,
+        Operation::Multiply,
+        Operation::Smaller,
+        Operation::Larger,
+    ];
+
+    /// The operation of a word, if it has one.
+    pub fn of_word(word: i32) -> Option<Operation> {
+        let number = usize::try_from(word).ok()?;
+        Operation::ALL.get(number).copied()
+    }
+
+    /// The word of an operation.
+    pub fn word(self) -> i32 {
+        self as i32
+    }
+
+    /// Values are unsigned 32-bit and arithmetic is modulo 2^32.
+    pub fn apply(self, first: u32, second: u32) -> u32 {
+        match self {
+            Operation::Copy => first,
+            Operation::Add => first.wrapping_add(second),
+            Operation::Subtract => first.wrapping_sub(second),
+            Operation::Multiply => first.wrapping_mul(second),
+            Operation::Smaller => first.min(second),
+            Operation::Larger => first.max(second),
+        }
+    }
+}
+
+/// A body line. The two numbers after the streams are scratch.
+#[derive(Clone, Copy, Debug, PartialEq, Eq)]
+pub struct Line {
+    pub operation: Operation,
+    pub target: usize,
+    pub first: usize,
+    pub second: usize,
+}
+
+/// Runs the lines in order on one value for each stream; scratch is zero at the start.
+pub fn run_instance(body: &[Line], values: &mut Vec<u32>) {
+    let streams = values.len();
+    values.extend([0, 0]);
+    for line in body {
+        let value = line
+            .operation
+            .apply(values[line.first], values[line.second]);
+        values[line.target] = value;
+    }
+    values.truncate(streams);
+}
+
+/// The final values: what the plain run leaves in each element, in element order.
+pub fn plain_run(array: &Array, values: &[u32]) -> Vec<u32> {
+    let mut elements = values.to_vec();
+    for instance in &array.instances {
+        let used: Vec<usize> = (0..array.streams.len())
+            .map(|stream| array.element(stream, instance))
+            .collect();
+        let mut hands: Vec<u32> = used.iter().map(|&element| elements[element]).collect();
+        run_instance(&array.description.body, &mut hands);
+        for (&element, value) in used.iter().zip(hands) {
+            elements[element] = value;
+        }
+    }
+    elements
+}

@@ -1,0 +1,186 @@
+//! The description: bytes, then words, then a `Description`. Refusals 1 to 5.
+
+use crate::body::{Line, Operation};
+use crate::{demand, Refusal};
+
+/// Rows of words.
+pub type Matrix = Vec<Vec<i32>>;
+
+/// A loop nest with its layout in time and place, every word within its range.
+#[derive(Clone, Debug, PartialEq, Eq)]
+pub struct Description {
+    /// Left bounds, one for each loop.
+    pub left: Vec<i32>,
+    /// Right bounds, one for each loop.
+    pub right: Vec<i32>,
+    /// Directions, 1 or −1.
+    pub directions: Vec<i32>,
+    /// Step coefficients.
+    pub step: Vec<i32>,
+    /// Place, a row fewer than there are loops.
+    pub place: Matrix,
+    /// The index map of each stream.
+    pub maps: Vec<Matrix>,
+    /// The loading vector of each stream.
+    pub loading: Vec<Vec<i32>>,
+    /// The body lines.
+    pub body: Vec<Line>,
+}
+
+impl Description {
+    /// The number of loops, r.
+    pub fn loops(&self) -> usize {
+        self.left.len()
+    }
+
+    /// The number of streams, m.
+    pub fn streams(&self) -> usize {
+        self.maps.len()
+    }
+
+    /// A stream is written if it is some line's target.
+    pub fn written(&self, stream: usize) -> bool {
+        self.body.iter().any(|line| line.target == stream)
+    }
+
+    /// Reads a description; declines by 1 to 5.
+    pub fn read(bytes: &[u8]) -> Result<Description, Refusal> {
+        demand(bytes.len() >= 12, 1)?;
+        let sizes = Sizes::read(bytes)?;
+        demand(bytes.len() == 4 * sizes.words(), 3)?;
+        let words: Vec<i32> = bytes.chunks_exact(4).map(word_of).collect();
+        let description = read_words(&sizes, &words[3..])?;
+        let bounds = description.left.iter().zip(&description.right);
+        demand(bounds.into_iter().all(|(left, right)| left <= right), 5)?;
+        Ok(description)
+    }
+
+    /// The words of the description in file order.
+    pub fn words(&self) -> Vec<i32> {
+        let mut words = vec![
+            self.loops() as i32,
+            self.streams() as i32,
+            self.body.len() as i32,
+        ];
+        for part in [&self.left, &self.right, &self.directions, &self.step] {
+            words.extend(part);
+        }
+        words.extend(self.place.iter().flatten());
+        words.extend(self.maps.iter().flatten().flatten());
+        words.extend(self.loading.iter().flatten());
+        for line in &self.body {
+            words.push(line.operation.word());
+            words.extend([line.target, line.first, line.second].map(|number| number as i32));
+        }
+        words
+    }
+
+    /// The bytes of the description.
+    pub fn bytes(&self) -> Vec<u8> {
+        bytes_of(&self.words())
+    }
+}
+
+/// Words as bytes, least byte first.
+pub fn bytes_of(words: &[i32]) -> Vec<u8> {
+    words.iter().flat_map(|word| word.to_le_bytes()).collect()
+}
+
+/// A word from four bytes, least byte first.
+fn word_of(bytes: &[u8]) -> i32 {
+    i32::from_le_bytes([bytes[0], bytes[1], bytes[2], bytes[3]])
+}
+
+/// The first three words.
+struct Sizes {
+    loops: usize,
+    streams: usize,
+    lines: usize,
+}
+
+impl Sizes {
+    /// Reads the sizes from 12 bytes or more; declines by 2.
+    fn read(bytes: &[u8]) -> Result<Sizes, Refusal> {
+        let size = |place: usize, least: i32, greatest: i32| {
+            let word = word_of(&bytes[4 * place..4 * place + 4]);
+            demand(least <= word && word <= greatest, 2).map(|()| word as usize)
+        };
+        Ok(Sizes {
+            loops: size(0, 2, 3)?,
+            streams: size(1, 1, 6)?,
+            lines: size(2, 1, 8)?,
+        })
+    }
+
+    /// The number of words that the sizes give, the sizes included.
+    fn words(&self) -> usize {
+        let vectors = 4 * self.loops;
+        let matrix = (self.loops - 1) * self.loops;
+        let loading = self.loops - 1;
+        3 + vectors + matrix + self.streams * (matrix + loading) + 4 * self.lines
+    }
+}
+
+/// Reads the words after the sizes; declines by 4.
+fn read_words(sizes: &Sizes, words: &[i32]) -> Result<Description, Refusal> {
+    let mut reader = Reader { words };
+    let rows = sizes.loops - 1;
+    let left = reader.list(sizes.loops, -64, 64)?;
+    let right = reader.list(sizes.loops, -64, 64)?;
+    let directions = reader.list(sizes.loops, -1, 1)?;
+    demand(directions.iter().all(|&direction| direction != 0), 4)?;
+    let step = reader.list(sizes.loops, -8, 8)?;
+    let place = reader.matrix(rows, sizes.loops)?;
+    let maps = (0..sizes.streams).map(|_| reader.matrix(rows, sizes.loops));
+    let maps = maps.collect::<Result<_, _>>()?;
+    let loading = (0..sizes.streams).map(|_| reader.list(rows, -1, 1));
+    let loading = loading.collect::<Result<_, _>>()?;
+    let body = (0..sizes.lines).map(|_| reader.line(sizes.streams));
+    let body = body.collect::<Result<_, _>>()?;
+    Ok(Description {
+        left,
+        right,
+        directions,
+        step,
+        place,
+        maps,
+        loading,
+        body,
+    })
+}
+
+/// Hands out the words in file order, each checked against its range.
+struct Reader<'a> {
+    words: &'a [i32],
+}
+
+impl Reader<'_> {
+    /// The next word, from least to greatest.
+    fn word(&mut self, least: i32, greatest: i32) -> Result<i32, Refusal> {
+        let (&word, rest) = self.words.split_first().ok_or(Refusal(3))?;
+        self.words = rest;
+        demand(least <= word && word <= greatest, 4)?;
+        Ok(word)
+    }
+
+    fn list(&mut self, length: usize, least: i32, greatest: i32) -> Result<Vec<i32>, Refusal> {
+        (0..length).map(|_| self.word(least, greatest)).collect()
+    }
+
+    /// Matrix words run from −4 to 4.
+    fn matrix(&mut self, rows: usize, columns: usize) -> Result<Matrix, Refusal> {
+        (0..rows).map(|_| self.list(columns, -4, 4)).collect()
+    }
+
+    /// A body line; targets and operands run from 0 to m+1.
+    fn line(&mut self, streams: usize) -> Result<Line, Refusal> {
+        let operation = Operation::of_word(self.word(0, 5)?).ok_or(Refusal(4))?;
+        let mut number = || self.word(0, streams as i32 + 1).map(|word| word as usize);
+        Ok(Line {
+            operation,
+            target: number()?,
+            first: number()?,
+            second: number()?,
+        })
+    }
+}

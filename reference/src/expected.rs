@@ -1,0 +1,123 @@
+//! Expected files: the inputs and outputs that other programs are held against.
+
+use std::fs;
+use std::io;
+use std::path::Path;
+
+use crate::description::bytes_of;
+use crate::divisor::shorten;
+use crate::random::Random;
+
+/// A program's standard input and the output that it should print.
+pub struct Case {
+    pub name: &'static str,
+    pub stdin: Vec<u8>,
+    pub stdout: Vec<u8>,
+}
+
+/// Every case that this implementation is responsible for.
+pub fn cases() -> Vec<Case> {
+    vec![shorten_case()]
+}
+
+/// Writes each case below a directory, as crates/NAME/stdin and crates/NAME/stdout.
+pub fn write_cases(directory: &Path) -> io::Result<()> {
+    for case in cases() {
+        let folder = directory.join("crates").join(case.name);
+        fs::create_dir_all(&folder)?;
+        fs::write(folder.join("stdin"), case.stdin)?;
+        fs::write(folder.join("stdout"), case.stdout)?;
+    }
+    Ok(())
+}
+
+/// The vectors in, and a line for each out: the divisor and the vector divided by it.
+fn shorten_case() -> Case {
+    let mut stdin = Vec::new();
+    let mut stdout = String::new();
+    for vector in vectors() {
+        stdin.extend(bytes_of(&vector));
+        let (divisor, short) = shorten(&vector);
+        stdout.push_str(&format!(
+            "{divisor} {} {} {}\n",
+            short[0], short[1], short[2]
+        ));
+    }
+    Case {
+        name: "shorten",
+        stdin,
+        stdout: stdout.into_bytes(),
+    }
+}
+
+/// Some 200 vectors: small ones, signs and zeros, the ends of the range, products of small primes,
+/// and random ones with a planted common factor.
+pub fn vectors() -> Vec<[i32; 3]> {
+    let mut vectors = small_vectors();
+    vectors.extend(end_vectors());
+    vectors.extend(prime_vectors());
+    vectors.extend(planted_vectors());
+    vectors
+}
+
+/// −2 to 2 in several combinations.
+fn small_vectors() -> Vec<[i32; 3]> {
+    let mut vectors = Vec::new();
+    for a in -2..=2 {
+        for b in -2..=2 {
+            vectors.extend([[a, b, 0], [0, a, b], [a, 2, b]]);
+        }
+    }
+    vectors
+}
+
+/// The least and the greatest word in various places, beside others.
+fn end_vectors() -> Vec<[i32; 3]> {
+    let (least, greatest) = (i32::MIN, i32::MAX);
+    let half = 1 << 30;
+    let mut vectors = vec![
+        [least, least, least],
+        [greatest, greatest, greatest],
+        [least, greatest, 0],
+        [greatest, -greatest, greatest],
+        [least, half, -half],
+    ];
+    for end in [least, greatest] {
+        for other in [0, 1, -1, 6, half, end] {
+            vectors.extend([[end, other, 0], [0, end, other], [other, 0, end]]);
+        }
+    }
+    vectors
+}
+
+/// Products of small primes, with changing signs.
+fn prime_vectors() -> Vec<[i32; 3]> {
+    let products = [
+        2 * 3 * 5,
+        2 * 2 * 7,
+        3 * 5 * 7,
+        2 * 3 * 7 * 11,
+        5 * 11 * 13,
+        9 * 25 * 49,
+    ];
+    let mut vectors = Vec::new();
+    for (number, &a) in products.iter().enumerate() {
+        for &b in &products[number + 1..] {
+            vectors.push([a, -b, a * b]);
+            vectors.push([-a * 6, b * 6, 30]);
+        }
+    }
+    vectors
+}
+
+/// Random vectors times a random factor.
+fn planted_vectors() -> Vec<[i32; 3]> {
+    let mut random = Random::new(1);
+    let mut vectors = Vec::new();
+    for _ in 0..60 {
+        let factor = random.between(1, 40_000);
+        let mut word = || factor * random.between(-50_000, 50_000);
+        vectors.push([word(), word(), word()]);
+    }
+    vectors
+}

@@ -1,0 +1,254 @@
+//! Words of the trade: instances, increment, processes, and the lines, moves, hops and elements of
+//! streams. Refusals 6 to 17.
+
+use crate::description::{Description, Matrix};
+use crate::pipes::{pipes, stations, Pipe, Station};
+use crate::vectors::{dot, is_zero, number_in, shortest, times, within_one, Bounds, Point};
+use crate::{demand, Refusal};
+
+/// The limits of refusals 6, 10 and 14.
+#[derive(Clone, Copy, Debug)]
+pub struct Limits {
+    pub instances: i64,
+    pub processes: i64,
+    pub hop: i32,
+}
+
+impl Limits {
+    /// The limits that document 01 names.
+    pub const NAMED: Limits = Limits {
+        instances: 4096,
+        processes: 1024,
+        hop: 8,
+    };
+}
+
+/// An accepted description with everything that follows from it.
+#[derive(Clone, Debug)]
+pub struct Array {
+    pub description: Description,
+    /// Instances in the order of the plain run.
+    pub instances: Vec<Point>,
+    pub increment: Point,
+    /// Processes in row order.
+    pub processes: Vec<Process>,
+    pub streams: Vec<Stream>,
+    /// Pipes by stream, then entry in row order.
+    pub pipes: Vec<Pipe>,
+    /// By process and stream: where the process stands, if it is on a pipe of the stream.
+    pub stations: Vec<Vec<Option<Station>>>,
+}
+
+/// A point of the process space.
+#[derive(Clone, Debug)]
+pub struct Process {
+    pub point: Point,
+    /// Its instances from least to greatest step; none if it is null.
+    pub instances: Vec<Point>,
+}
+
+/// What follows from a stream's index map and loading vector.
+#[derive(Clone, Debug)]
+pub struct Stream {
+    pub line: Point,
+    pub moving: bool,
+    /// Document 01's move; the loading vector if the stream is stationary.
+    pub travel: Point,
+    pub hop: usize,
+    /// The elements of its box in row order.
+    pub elements: Vec<Point>,
+    /// The number of its first element in element order.
+    pub start: usize,
+}
+
+impl Array {
+    /// Works out the array of a description; declines by 6 to 17.
+    pub fn of(description: &Description, limits: &Limits) -> Result<Array, Refusal> {
+        demand(number_of_instances(description) <= limits.instances, 6)?;
+        let instances = instances(description);
+        let increment = increment(description)?;
+        let processes = processes(description, &instances, limits)?;
+        let streams = streams(description, &instances, limits)?;
+        let mut array = Array {
+            description: description.clone(),
+            instances,
+            increment,
+            processes,
+            streams,
+            pipes: Vec::new(),
+            stations: Vec::new(),
+        };
+        array.pipes = pipes(&array);
+        array.stations = stations(&array);
+        Ok(array)
+    }
+
+    /// The number in element order of the element that an instance uses.
+    pub fn element(&self, stream: usize, instance: &[i32]) -> usize {
+        let element = times(&self.description.maps[stream], instance);
+        let stream = &self.streams[stream];
+        stream.start + number_in(&stream.elements, &element)
+    }
+
+    /// E, the number of elements over all streams.
+    pub fn number_of_elements(&self) -> usize {
+        self.streams
+            .iter()
+            .map(|stream| stream.elements.len())
+            .sum()
+    }
+
+    /// The instances plus, for each pipe, twice its elements times one more than its processes.
+    pub fn total_steps(&self) -> u64 {
+        let moves = self
+            .pipes
+            .iter()
+            .map(|pipe| 2 * pipe.elements.len() * (pipe.processes.len() + 1));
+        (self.instances.len() + moves.sum::<usize>()) as u64
+    }
+}
+
+// Instances.
+
+/// The number of whole points in the bounds.
+fn number_of_instances(description: &Description) -> i64 {
+    let bounds = description.left.iter().zip(&description.right);
+    bounds
+        .map(|(&left, &right)| i64::from(right - left + 1))
+        .product()
+}
+
+/// The instances in the order of the plain run: loop 0 outermost, each in its direction.
+fn instances(description: &Description) -> Vec<Point> {
+    let mut points = vec![Point::new()];
+    for number in 0..description.loops() {
+        let mut indices: Vec<i32> =
+            (description.left[number]..=description.right[number]).collect();
+        if description.directions[number] == -1 {
+            indices.reverse();
+        }
+        let mut longer = Vec::new();
+        for point in &points {
+            for &index in &indices {
+                longer.push([point.as_slice(), &[index]].concat());
+            }
+        }
+        points = longer;
+    }
+    points
+}
+
+// Increment.
+
+/// The increment; declines by 7 to 9.
+fn increment(description: &Description) -> Result<Point, Refusal> {
+    let increment = shortest(&description.place, &description.step, 7, 8)?;
+    demand(within_one(&increment), 9)?;
+    Ok(increment)
+}
+
+// Processes.
+
+/// The process space in row order, each process with its instances by step; declines by 10.
+fn processes(
+    description: &Description,
+    instances: &[Point],
+    limits: &Limits,
+) -> Result<Vec<Process>, Refusal> {
+    let places: Vec<Point> = instances
+        .iter()
+        .map(|instance| times(&description.place, instance))
+        .collect();
+    let space = Bounds::around(&places);
+    demand(space.size() <= limits.processes, 10)?;
+    let points: Vec<Point> = space.points().collect();
+    let mut at: Vec<Vec<Point>> = vec![Vec::new(); points.len()];
+    for (instance, place) in instances.iter().zip(&places) {
+        at[number_in(&points, place)].push(instance.clone());
+    }
+    let process = |(point, mut instances): (Point, Vec<Point>)| {
+        instances.sort_by_key(|instance| dot(&description.step, instance));
+        Process { point, instances }
+    };
+    Ok(points.into_iter().zip(at).map(process).collect())
+}
+
+impl Process {
+    /// The number of its instances.
+    pub fn count(&self) -> usize {
+        self.instances.len()
+    }
+
+    /// A process with no instance is null.
+    pub fn null(&self) -> bool {
+        self.instances.is_empty()
+    }
+}
+
+// Streams.
+
+/// The streams, lowest first; declines by 11 to 17.
+fn streams(
+    description: &Description,
+    instances: &[Point],
+    limits: &Limits,
+) -> Result<Vec<Stream>, Refusal> {
+    let mut streams = Vec::new();
+    let mut start = 0;
+    for number in 0..description.streams() {
+        let mut stream = stream(description, number, limits)?;
+        stream.elements = elements(&description.maps[number], instances)?;
+        stream.start = start;
+        start += stream.elements.len();
+        streams.push(stream);
+    }
+    Ok(streams)
+}
+
+/// Line, move and hop of one stream; declines by 11 to 16.
+fn stream(description: &Description, number: usize, limits: &Limits) -> Result<Stream, Refusal> {
+    let line = shortest(&description.maps[number], &description.step, 11, 12)?;
+    let travel = times(&description.place, &line);
+    demand(within_one(&travel), 13)?;
+    let moving = !is_zero(&travel);
+    let hop = dot(&description.step, &line);
+    demand(!moving || hop <= limits.hop, 14)?;
+    demand(
+        !description.written(number) || runs_on(description, &line),
+        15,
+    )?;
+    let loading = &description.loading[number];
+    demand(moving == is_zero(loading), 16)?;
+    Ok(Stream {
+        line,
+        moving,
+        travel: if moving { travel } else { loading.clone() },
+        hop: if moving { hop as usize } else { 1 },
+        elements: Vec::new(),
+        start: 0,
+    })
+}
+
+/// The first non-zero component of the line has the sign of that loop's direction.
+fn runs_on(description: &Description, line: &[i32]) -> bool {
+    let components = line.iter().zip(&description.directions);
+    components
+        .filter(|(&word, _)| word != 0)
+        .map(|(&word, &direction)| word.signum() == direction)
+        .next()
+        .unwrap_or(false)
+}
+
+/// The elements of the box in row order; declines by 17 at the first that no instance touches.
+fn elements(map: &Matrix, instances: &[Point]) -> Result<Vec<Point>, Refusal> {
+    let mut touched: Vec<Point> = instances
+        .iter()
+        .map(|instance| times(map, instance))
+        .collect();
+    touched.sort();
+    touched.dedup();
+    for element in Bounds::around(&touched).points() {
+        demand(touched.binary_search(&element).is_ok(), 17)?;
+    }
+    Ok(touched)
+}

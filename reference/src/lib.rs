@@ -1,0 +1,40 @@
+//! The second implementation of document 01, written from its words as plainly as possible.
+
+pub mod body;
+pub mod calls;
+pub mod description;
+pub mod designs;
+pub mod divisor;
+pub mod expected;
+pub mod geometry;
+pub mod network;
+pub mod pipes;
+pub mod random;
+pub mod random_description;
+pub mod random_script;
+pub mod replay;
+mod rules;
+pub mod table;
+pub mod vectors;
+mod words;
+
+use std::fmt;
+
+/// The number by which a call declines.
+#[derive(Clone, Copy, Debug, PartialEq, Eq, PartialOrd, Ord, Hash)]
+pub struct Refusal(pub u32);
+
+impl fmt::Display for Refusal {
+    fn fmt(&self, f: &mut fmt::Formatter<'_>) -> fmt::Result {
+        write!(f, "refused {}", self.0)
+    }
+}
+
+/// Declines by the number unless the condition holds.
+pub fn demand(condition: bool, number: u32) -> Result<(), Refusal> {
+    if condition {
+        Ok(())
+    } else {
+        Err(Refusal(number))
+    }
+}

@@ -1,0 +1,93 @@
+//! The command line: table, replay, random, expected.
+
+use std::ffi::OsString;
+use std::fs;
+use std::io::{self, Read, Write};
+use std::path::Path;
+use std::process::ExitCode;
+
+use reference::expected::write_cases;
+use reference::random_script::scripts;
+use reference::replay::replay;
+use reference::table::table_text;
+
+const USAGE: &str = "usage: reference table | replay | random SEED N [DIR] | expected DIR";
+
+fn main() -> ExitCode {
+    let arguments: Vec<OsString> = std::env::args_os().skip(1).collect();
+    match command(&arguments) {
+        Ok(()) => ExitCode::SUCCESS,
+        Err(message) => {
+            // Nothing is left to be done if this cannot be written either.
+            let _ = writeln!(io::stderr(), "reference: {message}\n{USAGE}");
+            ExitCode::from(2)
+        }
+    }
+}
+
+/// Does what the arguments ask for; the answer is a message if it cannot be done.
+fn command(arguments: &[OsString]) -> Result<(), String> {
+    let (name, rest) = arguments.split_first().ok_or("no command")?;
+    match (name.to_str(), rest) {
+        (Some("table"), []) => print(table_text(&input()?).as_bytes()),
+        (Some("replay"), []) => print(replay(&input()?).as_bytes()),
+        (Some("random"), [seed, count]) => {
+            print_scripts(number("SEED", seed)?, number("N", count)?)
+        }
+        (Some("random"), [seed, count, directory]) => write_scripts(
+            number("SEED", seed)?,
+            number("N", count)?,
+            Path::new(directory),
+        ),
+        (Some("expected"), [directory]) => write_cases(Path::new(directory))
+            .map_err(|error| format!("cannot write {directory:?}: {error}")),
+        (Some("table" | "replay" | "random" | "expected"), _) => {
+            Err(format!("wrong number of arguments for {name:?}"))
+        }
+        _ => Err(format!("unknown command {name:?}")),
+    }
+}
+
+/// A number in decimal.
+fn number<T: std::str::FromStr>(name: &str, text: &OsString) -> Result<T, String> {
+    let parsed = text.to_str().and_then(|text| text.parse().ok());
+    parsed.ok_or_else(|| format!("{name} is not a number: {text:?}"))
+}
+
+/// Standard input to its end.
+fn input() -> Result<Vec<u8>, String> {
+    let mut bytes = Vec::new();
+    io::stdin()
+        .read_to_end(&mut bytes)
+        .map_err(|error| format!("cannot read standard input: {error}"))?;
+    Ok(bytes)
+}
+
+/// Writes to standard output, all at once.
+fn print(bytes: &[u8]) -> Result<(), String> {
+    let mut output = io::stdout().lock();
+    output
+        .write_all(bytes)
+        .and_then(|()| output.flush())
+        .map_err(|error| format!("cannot write standard output: {error}"))
+}
+
+/// Writes scripts as one bundle: before each its number of bytes in a word.
+fn print_scripts(seed: u64, count: usize) -> Result<(), String> {
+    for script in scripts(seed, count) {
+        print(&(script.len() as u32).to_le_bytes())?;
+        print(&script)?;
+    }
+    Ok(())
+}
+
+/// Writes scripts into a directory, a file for each.
+fn write_scripts(seed: u64, count: usize, directory: &Path) -> Result<(), String> {
+    let failed = |path: &Path, error: io::Error| format!("cannot write {path:?}: {error}");
+    fs::create_dir_all(directory).map_err(|error| failed(directory, error))?;
+    for (number, script) in scripts(seed, count).enumerate() {
+        let path = directory.join(format!("{number:05}.script"));
+        fs::write(&path, script).map_err(|error| failed(&path, error))?;
+    }
+    Ok(())
+}

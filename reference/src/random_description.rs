@@ -1,0 +1,280 @@
+//! Random descriptions: accepted ones, large ones, and ones that Accept declines by a given number.
+
+use crate::body::{Line, Operation};
+use crate::calls::Calls;
+use crate::description::{bytes_of, Description, Matrix};
+use crate::designs;
+use crate::divisor::shorten;
+use crate::geometry::{Array, Limits};
+use crate::random::Random;
+use crate::Refusal;
+
+/// The most processes of a small array.
+const SMALL: usize = 60;
+
+/// How many descriptions are tried for a refusal; far more than it takes.
+const TRIED: usize = 1000;
+
+/// A small description that Accept accepts.
+pub fn accepted(random: &mut Random) -> Description {
+    loop {
+        let mut description = nest(random);
+        let streams = random.below(6) + 1;
+        description.body = body(random, streams);
+        let written: Vec<bool> = (0..streams)
+            .map(|stream| description.written(stream))
+            .collect();
+        let found = written
+            .into_iter()
+            .map(|written| stream(random, &description, written));
+        let Some(found) = found.collect::<Option<Vec<_>>>() else {
+            continue;
+        };
+        (description.maps, description.loading) = found.into_iter().unzip();
+        return description;
+    }
+}
+
+/// Loops, step and place that pass refusals 5 to 10, without a stream.
+fn nest(random: &mut Random) -> Description {
+    loop {
+        let loops = random.pick(&[2, 3]);
+        let (left, right) = (0..loops)
+            .map(|_| bounds(random, if loops == 2 { 5 } else { 3 }))
+            .unzip();
+        let reach = random.pick(&[1, 2, 3, 8]);
+        let step = random.words(loops, -reach, reach);
+        let reach = random.pick(&[1, 1, 1, 1, 2, 4]);
+        let place = matrix(random, loops, reach);
+        let directions = (0..loops).map(|_| random.pick(&[1, 1, -1])).collect();
+        let description = Description {
+            left,
+            right,
+            directions,
+            step,
+            place,
+            maps: Vec::new(),
+            loading: Vec::new(),
+            body: Vec::new(),
+        };
+        let array = Array::of(&description, &Limits::NAMED);
+        if array.is_ok_and(|array| array.processes.len() <= SMALL) {
+            return description;
+        }
+    }
+}
+
+/// A left and a right bound with at most so many indices between.
+fn bounds(random: &mut Random, most: i32) -> (i32, i32) {
+    let further = random.between(0, most - 1);
+    let left = match random.below(5) {
+        0 | 1 => 0,
+        2 | 3 => random.between(-3, 1),
+        _ => random.between(-64, 64 - further),
+    };
+    (left, left + further)
+}
+
+/// A row fewer than there are loops, of words up to the reach.
+fn matrix(random: &mut Random, loops: usize, reach: i32) -> Matrix {
+    (1..loops)
+        .map(|_| random.words(loops, -reach, reach))
+        .collect()
+}
+
+fn body(random: &mut Random, streams: usize) -> Vec<Line> {
+    let lines = random.below(8) + 1;
+    (0..lines)
+        .map(|_| Line {
+            operation: random.pick(&Operation::ALL),
+            target: random.below(streams + 2),
+            first: random.below(streams + 2),
+            second: random.below(streams + 2),
+        })
+        .collect()
+}
+
+/// An index map and a loading vector that pass refusals 11 to 17, if some are found soon.
+fn stream(random: &mut Random, nest: &Description, written: bool) -> Option<(Matrix, Vec<i32>)> {
+    for _ in 0..60 {
+        let map = map(random, nest);
+        let still = vec![0; nest.loops() - 1];
+        let loading = match tried(nest, &map, &still, written) {
+            Ok(()) => still,
+            Err(Refusal(16)) => random.words(still.len(), -1, 1),
+            Err(_) => continue,
+        };
+        if tried(nest, &map, &loading, written).is_ok() {
+            return Some((map, loading));
+        }
+    }
+    None
+}
+
+/// A random index map. Some are made from place, so that the stream is stationary.
+fn map(random: &mut Random, nest: &Description) -> Matrix {
+    if random.percent(20) {
+        let mut rows: Matrix = nest.place.iter().map(|row| shorten(row).1).collect();
+        if random.percent(50) {
+            rows.reverse();
+        }
+        let sign = random.pick(&[1, -1]);
+        rows[0].iter_mut().for_each(|word| *word *= sign);
+        return rows;
+    }
+    let reach = random.pick(&[1, 1, 1, 2, 2, 4]);
+    matrix(random, nest.loops(), reach)
+}
+
+/// What Accept says of a nest with one stream.
+fn tried(nest: &Description, map: &Matrix, loading: &[i32], written: bool) -> Result<(), Refusal> {
+    let target = usize::from(!written);
+    let mut description = nest.clone();
+    description.maps = vec![map.clone()];
+    description.loading = vec![loading.to_vec()];
+    description.body = vec![Line {
+        operation: Operation::Copy,
+        target,
+        first: 0,
+        second: 0,
+    }];
+    Array::of(&description, &Limits::NAMED).map(|_| ())
+}
+
+/// A description near the limits of refusals 6 and 10, on either side.
+pub fn large(random: &mut Random) -> Description {
+    let mut description = match random.below(6) {
+        0 => designs::polynomial_one(63),
+        1 => designs::polynomial_two(63),
+        2 => designs::matrix_straight(15),
+        3 => designs::matrix_moving(15),
+        4 => designs::matrix_slanted(11),
+        _ => {
+            let mut wide = designs::matrix_straight(31);
+            wide.right[2] = 3;
+            wide
+        }
+    };
+    if random.percent(20) {
+        let number = random.below(description.loops());
+        description.right[number] += random.between(-1, 1);
+    }
+    description
+}
+
+/// An accepted description with one word changed, whatever Accept says of it.
+pub fn changed(random: &mut Random) -> Vec<u8> {
+    let mut words = accepted(random).words();
+    let number = random.below(words.len() - 3) + 3;
+    words[number] += random.pick(&[-2, -1, 1, 2]);
+    bytes_of(&words)
+}
+
+/// A description that Accept declines by a number from 1 to 17.
+pub fn refused(random: &mut Random, number: u32) -> Vec<u8> {
+    let mut bytes = Vec::new();
+    for _ in 0..TRIED {
+        let base = accepted(random);
+        for _ in 0..30 {
+            bytes = spoiled(random, base.clone(), number);
+            if Calls::on(&bytes).accept() == Err(Refusal(number)) {
+                return bytes;
+            }
+        }
+    }
+    bytes
+}
+
+/// A description changed so that it may well be declined by the number.
+fn spoiled(random: &mut Random, mut description: Description, number: u32) -> Vec<u8> {
+    match number {
+        1..=4 => return spoiled_bytes(random, &description, number),
+        5 | 6 | 10 => spoil_bounds(random, &mut description, number),
+        7 => make_dependent(random, &mut description.place),
+        8 => description.step = random.words(description.loops(), -2, 2),
+        9 => description.place = matrix(random, description.loops(), 4),
+        _ => spoil_stream(random, &mut description, number),
+    }
+    description.bytes()
+}
+
+/// Bytes cut off or added, or a word out of range.
+fn spoiled_bytes(random: &mut Random, description: &Description, number: u32) -> Vec<u8> {
+    let mut words = description.words();
+    let far = [
+        0,
+        1,
+        2,
+        -2,
+        4,
+        5,
+        -5,
+        6,
+        7,
+        8,
+        9,
+        -9,
+        65,
+        -65,
+        i32::MIN,
+        i32::MAX,
+    ];
+    match number {
+        2 => words[random.below(3)] = random.pick(&far),
+        4 => {
+            let number = random.below(words.len() - 3) + 3;
+            words[number] = random.pick(&far);
+        }
+        _ => {}
+    }
+    let mut bytes = bytes_of(&words);
+    match number {
+        1 => bytes.truncate(random.below(12)),
+        3 if random.percent(50) => bytes.truncate(12 + random.below(bytes.len() - 12)),
+        3 => {
+            let more = random.below(8) + 1;
+            bytes.extend(random.bytes(more));
+        }
+        _ => {}
+    }
+    bytes
+}
+
+/// A left bound above its right, or bounds far apart.
+fn spoil_bounds(random: &mut Random, description: &mut Description, number: u32) {
+    if number == 5 {
+        let number = random.below(description.loops());
+        description.left[number] = random.between(-64, 64);
+        return;
+    }
+    let most = if description.loops() == 2 { 128 } else { 40 };
+    for (left, right) in description.left.iter_mut().zip(&mut description.right) {
+        *left = -random.between(0, 64);
+        *right = *left + random.between(0, most);
+    }
+}
+
+/// Rows of a rank below r−1.
+fn make_dependent(random: &mut Random, rows: &mut Matrix) {
+    let factor = random.between(-1, 1);
+    let source = if rows.len() == 1 {
+        vec![0; 2]
+    } else {
+        rows[1].clone()
+    };
+    rows[0] = source.iter().map(|word| factor * word).collect();
+}
+
+/// One stream, or the step or a direction that all share, changed.
+fn spoil_stream(random: &mut Random, description: &mut Description, number: u32) {
+    let loops = description.loops();
+    let stream = random.below(description.streams());
+    match number {
+        11 => make_dependent(random, &mut description.maps[stream]),
+        12 => description.step = random.words(loops, -2, 2),
+        14 => description.step = random.words(loops, -8, 8),
+        15 => description.directions[random.below(loops)] *= -1,
+        16 => description.loading[stream] = random.words(loops - 1, -1, 1),
+        _ => description.maps[stream] = matrix(random, loops, 4),
+    }
+}

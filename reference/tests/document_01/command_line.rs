@@ -1,0 +1,192 @@
+//! The command line: what it prints, and what it does with bad input.
+
+use std::fs::{self, File};
+use std::io::{Read, Write};
+use std::path::PathBuf;
+use std::process::{Command, Output, Stdio};
+
+use reference::designs::polynomial_two;
+use reference::expected::vectors;
+use reference::random_script::scripts;
+use reference::replay::replay;
+use reference::table::table_text;
+
+fn command(arguments: &[&str]) -> Command {
+    let mut command = Command::new(env!("CARGO_BIN_EXE_reference"));
+    command.args(arguments);
+    command
+}
+
+/// Runs a command on an input.
+fn run(arguments: &[&str], input: &[u8]) -> Output {
+    let mut child = command(arguments)
+        .stdin(Stdio::piped())
+        .stdout(Stdio::piped())
+        .stderr(Stdio::piped())
+        .spawn()
+        .expect("the program starts");
+    // A program that does not read its input may be gone by now.
+    let _ = child.stdin.take().expect("an input").write_all(input);
+    child.wait_with_output().expect("the program ends")
+}
+
+/// An empty directory of its own below the target directory.
+fn directory(name: &str) -> PathBuf {
+    let directory = PathBuf::from(env!("CARGO_TARGET_TMPDIR")).join(name);
+    let _ = fs::remove_dir_all(&directory);
+    directory
+}
+
+/// Status 2, nothing on standard output, a message and the usage on standard error.
+fn check_bad(output: &Output) {
+    assert_eq!(output.status.code(), Some(2));
+    let message = String::from_utf8_lossy(&output.stderr);
+    let lines: Vec<&str> = message.lines().collect();
+    assert_eq!(lines.len(), 2, "{message}");
+    assert!(lines[0].starts_with("reference: "), "{message}");
+    assert!(lines[1].starts_with("usage: "), "{message}");
+}
+
+#[test]
+fn table_and_replay() {
+    let description = polynomial_two(2).bytes();
+    let output = run(&["table"], &description);
+    assert!(output.status.success());
+    assert_eq!(output.stdout, table_text(&description).as_bytes());
+    assert_eq!(run(&["table"], &[1; 5000]).stdout, b"refused 2\n");
+    for script in scripts(3, 60) {
+        let output = run(&["replay"], &script);
+        assert!(output.status.success());
+        assert_eq!(output.stdout, replay(&script).as_bytes());
+    }
+}
+
+#[test]
+fn random_bundle_and_files() {
+    let bundle = run(&["random", "9", "55"], &[]).stdout;
+    let mut rest = bundle.as_slice();
+    let place = directory("scripts");
+    let text = place.to_str().expect("a path in plain text");
+    assert!(run(&["random", "9", "55", text], &[]).status.success());
+    for (number, script) in scripts(9, 55).enumerate() {
+        let (length, after) = rest.split_at(4);
+        assert_eq!(length, (script.len() as u32).to_le_bytes());
+        assert_eq!(after[..script.len()], script);
+        rest = &after[script.len()..];
+        let file = place.join(format!("{number:05}.script"));
+        assert_eq!(fs::read(file).expect("a script file"), script);
+    }
+    assert!(rest.is_empty());
+    assert_eq!(fs::read_dir(place).expect("a directory").count(), 55);
+}
+
+#[test]
+fn expected_files() {
+    let place = directory("expected");
+    let text = place.to_str().expect("a path in plain text");
+    for _ in 0..2 {
+        assert!(run(&["expected", text], &[]).status.success());
+    }
+    let folder = place.join("crates").join("shorten");
+    let input = fs::read(folder.join("stdin")).expect("an input file");
+    let output = fs::read_to_string(folder.join("stdout")).expect("an output file");
+    assert_eq!(input.len(), 12 * vectors().len());
+    assert_eq!(output.lines().count(), vectors().len());
+    for (vector, line) in vectors().iter().zip(output.lines()) {
+        let words: Vec<i64> = line
+            .split(' ')
+            .map(|word| word.parse().expect("a number"))
+            .collect();
+        let again: Vec<i64> = words[1..].iter().map(|word| word * words[0]).collect();
+        assert_eq!(vector.map(i64::from).to_vec(), again);
+        assert_eq!(words[0] == 0, vector == &[0; 3]);
+        // No prime is left in all three.
+        let left = |d: &i64| words[0] != 0 && words[1..].iter().all(|word| word % d == 0);
+        assert!(!(2..1000).any(|d| left(&d)), "{line}");
+    }
+    assert!(output.contains("2147483648 -1 0 0\n"));
+}
+
+#[test]
+fn bad_arguments() {
+    let bad: [&[&str]; 15] = [
+        &[],
+        &["tables"],
+        &[""],
+        &["table", "more"],
+        &["replay", "more"],
+        &["random"],
+        &["random", "1"],
+        &["random", "one", "2"],
+        &["random", "1", "-2"],
+        &["random", "1", "2.5"],
+        &["random", "99999999999999999999999", "2"],
+        &["random", "1", "2", "a", "b"],
+        &["expected"],
+        &["expected", "a", "b"],
+        &["--help\nme"],
+    ];
+    for arguments in bad {
+        check_bad(&run(arguments, &[]));
+    }
+}
+
+#[cfg(unix)]
+#[test]
+fn arguments_that_are_no_text() {
+    use std::ffi::OsStr;
+    use std::os::unix::ffi::OsStrExt;
+    let odd = OsStr::from_bytes(&[0xFF, b'a', 0xFE]);
+    check_bad(&command(&[]).arg(odd).output().expect("the program ends"));
+    check_bad(
+        &command(&["random", "1"])
+            .arg(odd)
+            .output()
+            .expect("the program ends"),
+    );
+}
+
+#[cfg(unix)]
+#[test]
+fn unreadable_input() {
+    for name in ["table", "replay"] {
+        let folder = File::open(env!("CARGO_TARGET_TMPDIR")).expect("a directory");
+        check_bad(
+            &command(&[name])
+                .stdin(folder)
+                .output()
+                .expect("the program ends"),
+        );
+    }
+}
+
+#[test]
+fn directories_that_cannot_be_written() {
+    let place = directory("blocked");
+    fs::create_dir_all(&place).expect("a directory");
+    let file = place.join("file");
+    fs::write(&file, "in the way").expect("a file");
+    let text = file.to_str().expect("a path in plain text");
+    check_bad(&run(&["expected", text], &[]));
+    check_bad(&run(&["random", "1", "3", text], &[]));
+    // A directory stands where a script should go.
+    fs::create_dir_all(place.join("00001.script")).expect("a directory");
+    check_bad(&run(
+        &["random", "1", "3", place.to_str().expect("a path")],
+        &[],
+    ));
+}
+
+#[test]
+fn a_reader_that_goes_away() {
+    let mut child = command(&["random", "1", "2000"])
+        .stdout(Stdio::piped())
+        .stderr(Stdio::piped())
+        .spawn()
+        .expect("the program starts");
+    let mut some = [0; 10];
+    let mut output = child.stdout.take().expect("an output");
+    output.read_exact(&mut some).expect("some bytes");
+    drop(output);
+    check_bad(&child.wait_with_output().expect("the program ends"));
+}
