@@ -1,0 +1,164 @@
+-- Document 01, "The description": bytes to signed words, the length that the sizes give, the range of every word, decoding; refusals 1 to 5.
+use mathlib.Core.Bool.{Bool, not, cond, _&&_, _||_}
+use mathlib.Core.List.{List, map, _++_}
+use Prim.Native.Nat.{ℕ, suc, _+_, _*_, _-_, _%_}
+use lib.Dec.{eqb, leb, ltb}
+use lib.ListN.{length, take, replicate}
+use lib.IntN.{ℤ, pos, negsuc}
+use lib.Signed.{leZ, ltZ}
+use Rattle.integers.specs.Bytes.{bitsAt, wordAt}
+use Rattle.integers.specs.Words.{eqZ}
+use Rattle.integers.specs.Vectors.{zero2, zero3}
+use Rattle.integers.specs.declared.V3.{V3}
+use Rattle.integers.specs.declared.V2.{V2}
+use Rattle.integers.specs.declared.Matrix.{Matrix}
+use Rattle.meaning.specs.declared.Sizes.{Sizes}
+use Rattle.meaning.specs.declared.Nest.{Nest}
+use Rattle.meaning.specs.declared.Stream.{Stream}
+use Rattle.meaning.specs.declared.Line.{Line}
+use Rattle.meaning.specs.declared.Description.{Description}
+use Rattle.meaning.specs.Lists.{every, any, numbers, numbersFrom}
+
+-- ---- sizes and lengths
+
+-- "first three sizes: loops r, streams m, body lines b"; as bits, so that a negative one is far out of range
+abbrev pub sizesOf : List ℕ → Sizes
+sizesOf s = record { loops = bitsAt s 0; streams = bitsAt s 1; lines = bitsAt s 2 }
+
+-- the words of a matrix: "r−1 rows of r words"
+abbrev pub matrixWords : Sizes → ℕ
+matrixWords z = (z .loops - 1) * z .loops
+
+-- the word at which each part begins: left and right bounds, directions, steps, place, index map i, loading vector i, line i
+abbrev pub leftAt : Sizes → ℕ
+leftAt z = 3
+
+abbrev pub rightAt : Sizes → ℕ
+rightAt z = leftAt z + z .loops
+
+abbrev pub directionAt : Sizes → ℕ
+directionAt z = rightAt z + z .loops
+
+abbrev pub stepAt : Sizes → ℕ
+stepAt z = directionAt z + z .loops
+
+abbrev pub placeAt : Sizes → ℕ
+placeAt z = stepAt z + z .loops
+
+abbrev pub mapAt : Sizes → ℕ → ℕ
+mapAt z i = placeAt z + matrixWords z + i * matrixWords z
+
+abbrev pub loadingAt : Sizes → ℕ → ℕ
+loadingAt z i = mapAt z (z .streams) + i * (z .loops - 1)
+
+abbrev pub lineAt : Sizes → ℕ → ℕ
+lineAt z i = loadingAt z (z .streams) + i * 4
+
+-- the number of words that the sizes give
+abbrev pub wordsOf : Sizes → ℕ
+wordsOf z = lineAt z (z .lines)
+
+-- ---- ranges
+
+abbrev pub between : ℤ → ℤ → ℤ → Bool
+between lo hi w = leZ lo w && leZ w hi
+
+-- the range of word k: bounds −64 to 64, directions 1 or −1, steps −8 to 8, matrix words −4 to 4, loading −1 to 1, operations 0 to 5, targets and
+-- operands 0 to m+1
+abbrev pub inRange : Sizes → ℕ → ℤ → Bool
+inRange z k w =
+    cond (ltb k (directionAt z)) (between (negsuc 63) (pos 64) w)
+    (cond (ltb k (stepAt z)) (eqZ w (pos 1) || eqZ w (negsuc 0))
+    (cond (ltb k (placeAt z)) (between (negsuc 7) (pos 8) w)
+    (cond (ltb k (loadingAt z 0)) (between (negsuc 3) (pos 4) w)
+    (cond (ltb k (lineAt z 0)) (between (negsuc 0) (pos 1) w)
+    (cond (eqb ((k - lineAt z 0) % 4) 0) (between (pos 0) (pos 5) w)
+    (between (pos 0) (pos (suc (z .streams))) w))))))
+
+-- ---- decoding: two loops become three
+
+-- r words from word k on, as a vector; pad is its third component for two loops
+abbrev pub vectorAt : List ℕ → Sizes → ℕ → ℤ → V3
+vectorAt s z k pad = record { x = wordAt s k; y = wordAt s (k + 1); z = cond (eqb (z .loops) 2) pad (wordAt s (k + 2)) }
+
+-- the second row of a matrix of two loops
+abbrev pub unit3 : V3
+unit3 = record { x = pos 0; y = pos 0; z = pos 1 }
+
+abbrev pub matrixAt : List ℕ → Sizes → ℕ → Matrix
+matrixAt s z k = record { top = vectorAt s z k (pos 0); low = cond (eqb (z .loops) 2) unit3 (vectorAt s z (k + 3) (pos 0)) }
+
+unfoldable pub nestOf : List ℕ → Sizes → Nest
+nestOf s z =
+    record {
+      left = vectorAt s z (leftAt z) (pos 0);
+      right = vectorAt s z (rightAt z) (pos 0);
+      direction = vectorAt s z (directionAt z) (pos 1);
+      step = vectorAt s z (stepAt z) (pos 0);
+      place = matrixAt s z (placeAt z);
+    }
+
+abbrev pub loadingOf : List ℕ → Sizes → ℕ → V2
+loadingOf s z k = record { a = wordAt s k; b = cond (eqb (z .loops) 2) (pos 0) (wordAt s (k + 1)) }
+
+unfoldable pub streamOf : List ℕ → Sizes → ℕ → Stream
+streamOf s z i = record { map = matrixAt s z (mapAt z i); loading = loadingOf s z (loadingAt z i) }
+
+unfoldable pub bodyLine : List ℕ → Sizes → ℕ → Line
+bodyLine s z i =
+    record {
+      operation = bitsAt s (lineAt z i);
+      target = bitsAt s (lineAt z i + 1);
+      first = bitsAt s (lineAt z i + 2);
+      second = bitsAt s (lineAt z i + 3);
+    }
+
+abbrev pub noStream : Stream
+noStream = record { map = record { top = zero3; low = zero3 }; loading = zero2 }
+
+abbrev pub noLine : Line
+noLine = record { operation = 0; target = 0; first = 0; second = 0 }
+
+unfoldable pub descriptionOf : List ℕ → Description
+descriptionOf s =
+    let z = sizesOf s in
+    record {
+      sizes = z;
+      nest = nestOf s z;
+      streams = map (streamOf s z) (numbers (z .streams)) ++ replicate (6 - z .streams) noStream;
+      lines = map (bodyLine s z) (numbers (z .lines)) ++ replicate (8 - z .lines) noLine;
+    }
+
+-- the streams and lines in use
+abbrev pub streamsOf : Description → List Stream
+streamsOf d = take (d .sizes .streams) (d .streams)
+
+abbrev pub linesOf : Description → List Line
+linesOf d = take (d .sizes .lines) (d .lines)
+
+-- "a stream is written if it is some line's target"
+abbrev pub written : Description → ℕ → Bool
+written d i = any (λ l. eqb (l .target) i) (linesOf d)
+
+-- ---- refusals 1 to 5
+
+-- 1: "under 12 bytes"
+abbrev pub refused1 : List ℕ → Bool
+refused1 s = ltb (length s) 12
+
+-- 2: "a size out of range"
+abbrev pub refused2 : Sizes → Bool
+refused2 z =
+    not (leb 2 (z .loops) && leb (z .loops) 3) || not (leb 1 (z .streams) && leb (z .streams) 6) || not (leb 1 (z .lines) && leb (z .lines) 8)
+
+-- 3: "not the length that the sizes give"
+abbrev pub refused3 : List ℕ → Sizes → Bool
+refused3 s z = not (eqb (length s) (4 * wordsOf z))
+
+-- 4: "a word out of range"
+abbrev pub refused4 : List ℕ → Sizes → Bool
+refused4 s z = not (every (λ k. inRange z k (wordAt s k)) (numbersFrom 3 (wordsOf z - 3)))
+
+-- 5: "a left bound above its right"
+abbrev pub refused5 : Nest → Bool
+refused5 n = ltZ (n .right .x) (n .left .x) || ltZ (n .right .y) (n .left .y) || ltZ (n .right .z) (n .left .z)

@@ -1,0 +1,21 @@
+-- What document 01 means; src/lib.rt lists the files.
+pub mod Limits
+pub mod Lists
+pub mod Tests
+pub mod Loops
+pub mod Space
+pub mod Streams
+pub mod Pipes
+pub mod Description
+pub mod Body
+pub mod Accept
+pub mod Array
+pub mod State
+pub mod Rules
+pub mod Answers
+pub mod Calls
+pub mod Demands
+pub mod Designs
+pub mod Comparison
+pub mod Cases
+pub mod Runs

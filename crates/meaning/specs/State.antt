@@ -1,0 +1,55 @@
+-- Document 01, the words of a state and where they stand: "for each process its firings, and for each stream taken, given, hand, keep and the places of
+-- the link into it; for each pipe sent, received and the places of its last link". That order is the program's choice (docs/STATE.md).
+use mathlib.Core.List.{List}
+use Prim.Native.Nat.{ℕ, suc, _+_, _*_}
+use lib.ListN.{getD, set, take}
+use Rattle.meaning.specs.Lists.{total}
+use Rattle.meaning.specs.Array.{Array, processCount, pipeAt}
+
+-- of process p; of process p and stream s; of pipe q. `place p s i` is a place of the link into p, `end q i` one of the pipe's last link
+pub data Word : Type 0 where
+  Firings : ℕ → Word
+  Taken : ℕ → ℕ → Word
+  Given : ℕ → ℕ → Word
+  Hand : ℕ → ℕ → Word
+  Keep : ℕ → ℕ → Word
+  Place : ℕ → ℕ → ℕ → Word
+  Sent : ℕ → Word
+  Received : ℕ → Word
+  End : ℕ → ℕ → Word
+
+-- the words of a process
+abbrev pub stride : Array → ℕ
+stride A = 1 + total (λ h. 4 + h) (A .hops)
+
+-- where the words of process p, those of its stream s, and those of pipe q begin
+abbrev pub processStart : Array → ℕ → ℕ
+processStart A p = p * stride A
+
+abbrev pub seatStart : Array → ℕ → ℕ → ℕ
+seatStart A p s = processStart A p + 1 + total (λ h. 4 + h) (take s (A .hops))
+
+abbrev pub endStart : Array → ℕ → ℕ
+endStart A q = processStart A (processCount A) + total (λ r. 2 + r .hop) (take q (A .pipes))
+
+-- the place of a word
+abbrev pub index : Array → Word → ℕ
+index A (Firings p) = processStart A p
+index A (Taken p s) = seatStart A p s
+index A (Given p s) = seatStart A p s + 1
+index A (Hand p s) = seatStart A p s + 2
+index A (Keep p s) = seatStart A p s + 3
+index A (Place p s i) = seatStart A p s + 4 + i
+index A (Sent q) = endStart A q
+index A (Received q) = endStart A q + 1
+index A (End q i) = endStart A q + 2 + i
+
+-- how many words there are
+abbrev pub wordCount : Array → ℕ
+wordCount A = processStart A (processCount A) + total (λ r. 2 + r .hop) (A .pipes)
+
+abbrev pub read : Array → List ℕ → Word → ℕ
+read A st w = getD st (index A w) 0
+
+abbrev pub write : Array → List ℕ → Word → ℕ → List ℕ
+write A st w v = set st (index A w) v

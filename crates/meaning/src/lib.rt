@@ -1,0 +1,125 @@
+// The types of document 01's calls. What they mean is in specs/, one definition for each word of document 01, in its order:
+//
+//   Limits            those of refusals 6, 10 and 14
+//   Lists, Tests      small helpers: lists filtered and searched, refusals tried in order
+//   Loops             instances, their written order, step, place, increment
+//   Space             boxes, row order, the process space; count, first and last
+//   Streams           line, move, hop; a stream's box and elements
+//   Pipes             pipes, their processes and elements; soak and drain
+//   Description       bytes to words, lengths, ranges, decoding
+//   Body              operations, lines, one instance on a store, the plain run
+//   Accept            the refusals 1 to 17, named one by one and chained; the figures
+//   Array, State      what the rules look at; the words of the state and where they stand
+//   Rules             send, take, fire, give, receive: ready and apply; sound; the lowest ready step
+//   Answers, Calls    the numbers and values of answers; the nine calls: the answer and every lent list afterwards
+//   Demands           lists of calls; demands 2 and 3 as statements
+//   Designs, Cases    document 01's designs as bytes, and its cases marked P, computed as one table (Comparison)
+//   Runs              cases beside them that hold the rules: tables, states stopped in the middle, other orders, declined calls
+//
+// Two loops are three, the third running from 0 to 0: its direction is 1, its step coefficient 0; place and every index map get a second row
+// (0, 0, 1), and a loading vector a second component 0. Then one set of definitions serves both.
+ghost use mathlib.Core.Path.{_≡_};
+ghost use Rattle.meaning.specs.Limits.{gaugeLimits};
+use integers::Matrix;
+use integers::V2;
+use integers::V3;
+
+// A description's three sizes: loops r, streams m, body lines b.
+pub struct Sizes {
+    pub loops: u32,
+    pub streams: u32,
+    pub lines: u32,
+}
+
+// The loops with their layout: left and right bounds, directions, step coefficients, place.
+pub struct Nest {
+    pub left: V3,
+    pub right: V3,
+    pub direction: V3,
+    pub step: V3,
+    pub place: Matrix,
+}
+
+// A stream: its index map and its loading vector.
+pub struct Stream {
+    pub map: Matrix,
+    pub loading: V2,
+}
+
+// A body line: operation, target, first and second operand.
+pub struct Line {
+    pub operation: u32,
+    pub target: u32,
+    pub first: u32,
+    pub second: u32,
+}
+
+// A decoded description. Streams and lines past the sizes are zero.
+pub struct Description {
+    pub sizes: Sizes,
+    pub nest: Nest,
+    pub streams: [Stream; 6],
+    pub lines: [Line; 8],
+}
+
+// The limits of refusals 6, 10 and 14.
+pub struct Limits {
+    pub instances: u32,
+    pub processes: u32,
+    pub hop: u32,
+}
+
+// What Accept answers: processes, instances, elements of all streams, pipes, words of a state, steps of a whole run.
+pub struct Figures {
+    pub processes: u32,
+    pub instances: u32,
+    pub elements: u32,
+    pub pipes: u32,
+    pub words: u32,
+    pub steps: u32,
+}
+
+// A row of the table.
+pub struct Row {
+    pub point: V2,
+    pub count: u32,
+    pub first: V3,
+    pub last: V3,
+    pub soak: [u32; 6],
+    pub drain: [u32; 6],
+}
+
+// The answers of the calls; a refusal has document 01's number.
+pub enum Acceptance {
+    Accepted(Figures),
+    Refused(u32),
+}
+
+// Of Table, Start, Step, Result and Plain run.
+pub enum Answer {
+    Done,
+    Refused(u32),
+}
+
+// Of Run: the steps done, and whether any is ready.
+pub enum Ran {
+    Ran { steps: u32, ready: bool },
+    Refused(u32),
+}
+
+// Of Ready: how many processes can take, fire or give, and the lowest (the number of processes when none).
+pub enum Readiness {
+    Ready { count: u32, lowest: u32 },
+    Refused(u32),
+}
+
+// The limits of document 01, those of the gauges.
+pub fn gauge() -> Limits
+    ensures { λ r. ⌜ r ≡ gaugeLimits ⌝ }
+{
+    Limits {
+        instances: 4096,
+        processes: 1024,
+        hop: 8,
+    }
+}
