@@ -1,0 +1,2 @@
+-- Bounds of vectors.
+pub mod Within

@@ -1,0 +1,36 @@
+-- Vectors whose components lie between −n and n. Assumes nothing.
+use mathlib.Core.Path.{_≡_, sym, subst}
+use Prim.Native.Nat.{ℕ, _≤_}
+use lib.Dec.{T, leb}
+use lib.IntN.{ℤ}
+use Rattle.integers.specs.Differences.{Abs}
+use Rattle.integers.specs.Bounds.{Abs-wider, Abs-quot, Abs-neg}
+use Rattle.integers.specs.Vectors.{neg3}
+use Rattle.integers.specs.declared.V3.{V3}
+use Rattle.integers.specs.declared.V2.{V2}
+use Rattle.integers.specs.declared.Matrix.{Matrix}
+use Rattle.lattice.specs.Shorten.{over}
+
+pub record Within (n : ℕ) (v : V3) : Type 0 where
+  pub xs : Abs (v .x) n
+  pub ys : Abs (v .y) n
+  pub zs : Abs (v .z) n
+
+pub record Within2 (n : ℕ) (p : V2) : Type 0 where
+  pub first : Abs (p .a) n
+  pub second : Abs (p .b) n
+
+pub record Rows (n : ℕ) (m : Matrix) : Type 0 where
+  pub top : Within n (m .top)
+  pub low : Within n (m .low)
+
+-- a wider bound; at literals `wider tt`
+pub wider : {v : V3} {m n : ℕ} → T (leb m n) → Within m v → Within n v
+wider t h = record { xs = Abs-wider t (h .xs); ys = Abs-wider t (h .ys); zs = Abs-wider t (h .zs) }
+
+-- a divided vector is no longer, and a negated one as long
+pub over-within : {v : V3} {n : ℕ} (d : ℕ) → Within n v → Within n (over v d)
+over-within d h = record { xs = Abs-quot d (h .xs); ys = Abs-quot d (h .ys); zs = Abs-quot d (h .zs) }
+
+pub neg-within : {v : V3} {n : ℕ} → Within n v → Within n (neg3 v)
+neg-within h = record { xs = Abs-neg (h .xs); ys = Abs-neg (h .ys); zs = Abs-neg (h .zs) }

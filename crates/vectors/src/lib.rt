@@ -1,0 +1,95 @@
+// Vectors of small words, as the tests of Accept use them: dot and cross product, the image under a matrix, the line of a matrix.
+ghost use mathlib.Core.Path.{_≡_};
+ghost use lib.IntN.{_-ℤ_, _*ℤ_};
+ghost use Rattle.integers.specs.Differences.{Abs};
+ghost use Rattle.integers.specs.Vectors.{dot, cross, neg3, image};
+ghost use Rattle.meaning.specs.Loops.{turn, lineOf};
+ghost use Rattle.vectors.specs.Within.{Within, Rows, Within2};
+use integers::Matrix;
+use integers::V2;
+use integers::V3;
+use meaning::Nest;
+
+// The last component of a cross product.
+fn minor(u: V3, v: V3) -> i32
+    requires { ⌜ (Within 4 u) × (Within 4 v) ⌝ }
+    ensures { λ r. ⌜ (r ≡ u .x *ℤ v .y -ℤ u .y *ℤ v .x) × (Abs r 32) ⌝ }
+{
+    u.x * v.y - u.y * v.x
+}
+
+// The components one place on: (y, z, x).
+fn rolled(u: V3) -> V3
+    requires { ⌜ Within 4 u ⌝ }
+    ensures { λ r. ⌜ (r .x ≡ u .y) × (r .y ≡ u .z) × (r .z ≡ u .x) × (Within 4 r) ⌝ }
+{
+    V3 {
+        x: u.y,
+        y: u.z,
+        z: u.x,
+    }
+}
+
+pub fn cross_of(u: V3, v: V3) -> V3
+    requires { ⌜ (Within 4 u) × (Within 4 v) ⌝ }
+    ensures { λ r. ⌜ (r ≡ cross u v) × (Within 32 r) ⌝ }
+{
+    let u1 = rolled(u);
+    let v1 = rolled(v);
+    V3 {
+        x: minor(u1, v1),
+        y: minor(rolled(u1), rolled(v1)),
+        z: minor(u, v),
+    }
+}
+
+pub fn dot_of(u: V3, v: V3) -> i32
+    requires { ⌜ (Within 8 u) × (Within 200 v) ⌝ }
+    ensures { λ r. ⌜ (r ≡ dot u v) × (Abs r 4800) ⌝ }
+{
+    u.x * v.x + u.y * v.y + u.z * v.z
+}
+
+pub fn image_of(m: Matrix, v: V3) -> V2
+    requires { ⌜ (Rows 8 m) × (Within 200 v) ⌝ }
+    ensures { λ r. ⌜ (r ≡ image m v) × (Within2 4800 r) ⌝ }
+{
+    let top = m.top;
+    let low = m.low;
+    V2 {
+        a: dot_of(top, v),
+        b: dot_of(low, v),
+    }
+}
+
+pub fn negated(v: V3) -> V3
+    requires { ⌜ Within 200 v ⌝ }
+    ensures { λ r. ⌜ (r ≡ neg3 v) × (Within 200 r) ⌝ }
+{
+    V3 {
+        x: -v.x,
+        y: -v.y,
+        z: -v.z,
+    }
+}
+
+// Turned so that its step is not negative.
+pub fn turned(step: V3, v: V3) -> V3
+    requires { ⌜ (Within 8 step) × (Within 200 v) ⌝ }
+    ensures { λ r. ⌜ (r ≡ turn step v) × (Within 200 r) ⌝ }
+{
+    if dot_of(step, v) < 0 { negated(v) } else { v }
+}
+
+// The line of a matrix; place's is the increment.
+pub fn line_of(n: Nest, m: Matrix) -> V3
+    requires { ⌜ (Within 8 (n .step)) × (Rows 4 m) ⌝ }
+    ensures { λ r. ⌜ (r ≡ lineOf n m) × (Within 200 r) ⌝ }
+{
+    let top = m.top;
+    let low = m.low;
+    let short = lattice::shorten(cross_of(top, low));
+    let v = short.vector;
+    let step = n.step;
+    turned(step, v)
+}
