@@ -1,0 +1,90 @@
+-- Row order as numbers: `rowIndex` and the list of a box's points determine each other. Assumes nothing.
+use mathlib.Core.Path.{_≡_, refl, sym, _∙_, ap, subst}
+use mathlib.Core.List.{List, map}
+use Prim.Native.Nat.{ℕ, zero, suc, _+_, _*_, _<_}
+use native.Mathlib.Nat.{mul-le-mul-right}
+use native.Mathlib.Omega.{arith}
+use lib.ListN.{length, getD, length-map}
+use lib.IntN.{ℤ, pos, _+ℤ_, _-ℤ_, _*ℤ_}
+use lib.Signed.{_≤ℤ_}
+use Rattle.integers.specs.Differences.{gaps, parts, up}
+use Rattle.integers.specs.Variables.{linear}
+use Rattle.integers.specs.Vectors.{same2}
+use Rattle.integers.specs.declared.V2.{V2}
+use Rattle.meaning.specs.Loops.{walk, size, loop}
+use Rattle.meaning.specs.Space.{Box, points, rowIndex}
+use Rattle.geometry.specs.Members.{map-at, each-length, each-at, total-same}
+use Rattle.geometry.specs.Numbers.{zero-on}
+use Rattle.geometry.specs.Places.{getD-in, distinct-at}
+use Rattle.geometry.specs.Instances.{next, Between}
+use Rattle.geometry.specs.Boxes.{Inside, row-distinct, points-inside, points-sorted}
+
+walk-length : (a d : ℤ) (n : ℕ) → length (walk a d n) ≡ n
+unfolding walk
+walk-length a d zero = refl
+walk-length a d (suc n) = ap suc (walk-length (a +ℤ d) d n)
+
+walk-at : (a d : ℤ) (n i : ℕ) (z : ℤ) → i < n → getD (walk a d n) i z ≡ a +ℤ pos i *ℤ d
+unfolding walk
+walk-at a d zero i z h = absurd (omega arith)
+walk-at a d (suc n) zero z h = sym (zero-on a d)
+walk-at a d (suc n) (suc i) z h = walk-at (a +ℤ d) d n i z (omega arith) ∙ next i a d
+
+-- a number between l and r is number x − l among them
+in-size : (l r x : ℤ) → l ≤ℤ x → x ≤ℤ r → up (x -ℤ l) < size l r
+in-size = linear 0 3 _ λ p m. simp (gaps, parts) (omega arith)
+
+among : (l r x : ℤ) → Between l r x → getD (walk l (pos 1) (size l r)) (up (x -ℤ l)) (pos 0) ≡ x
+among l r x b = walk-at l (pos 1) (size l r) (up (x -ℤ l)) (pos 0) (in-size l r x (b .lo) (b .hi)) ∙ back l x (b .lo)
+  where
+    back : (l x : ℤ) → l ≤ℤ x → l +ℤ pos (up (x -ℤ l)) *ℤ pos 1 ≡ x
+    back = linear 0 2 _ λ p m. simp (gaps, parts) (omega arith)
+
+module _ (k : Box) where
+  abbrev la : List ℤ
+  la = loop (k .lo .a) (k .hi .a) (pos 1)
+
+  abbrev lb : List ℤ
+  lb = loop (k .lo .b) (k .hi .b) (pos 1)
+
+  abbrev row : ℤ → List V2
+  row i = map (λ j. record { a = i; b = j }) lb
+
+  row-length : (i : ℤ) → length (row i) ≡ size (k .lo .b) (k .hi .b)
+  row-length i = length-map lb (λ j. record { a = i; b = j }) ∙ walk-length (k .lo .b) (pos 1) (size (k .lo .b) (k .hi .b))
+
+  -- the number of a box's points
+  pub points-length : length (points k) ≡ size (k .lo .a) (k .hi .a) * size (k .lo .b) (k .hi .b)
+  unfolding points
+  points-length =
+      each-length row la ∙ total-same (λ i. length (row i)) (size (k .lo .b) (k .hi .b)) row-length la
+      ∙ ap (λ (c : ℕ). c * size (k .lo .b) (k .hi .b)) (walk-length (k .lo .a) (pos 1) (size (k .lo .a) (k .hi .a)))
+
+  -- a point stands at its number
+  pub row-at : (p : V2) (d : V2) → Inside k p → getD (points k) (rowIndex k p) d ≡ p
+  unfolding points
+  row-at p d h =
+      let i = up (p .a -ℤ k .lo .a) in
+      let j = up (p .b -ℤ k .lo .b) in
+      let x = in-size (k .lo .a) (k .hi .a) (p .a) (h .ina .lo) (h .ina .hi) in
+      let y = in-size (k .lo .b) (k .hi .b) (p .b) (h .inb .lo) (h .inb .hi) in
+      each-at row (size (k .lo .b) (k .hi .b)) row-length la i j (pos 0) d
+      (subst (λ (c : ℕ). i < c) (sym (walk-length (k .lo .a) (pos 1) (size (k .lo .a) (k .hi .a)))) x) y
+      ∙ map-at (λ j. record { a = getD la i (pos 0); b = j }) lb j (pos 0) d
+      (subst (λ (c : ℕ). j < c) (sym (walk-length (k .lo .b) (pos 1) (size (k .lo .b) (k .hi .b)))) y)
+      ∙ same2 (among (k .lo .a) (k .hi .a) (p .a) (h .ina)) (among (k .lo .b) (k .hi .b) (p .b) (h .inb))
+
+  pub row-lt : (p : V2) → Inside k p → rowIndex k p < length (points k)
+  row-lt p h =
+      subst (λ (c : ℕ). rowIndex k p < c) (sym points-length)
+      (go _ _ _ _ (in-size (k .lo .a) (k .hi .a) (p .a) (h .ina .lo) (h .ina .hi)) (in-size (k .lo .b) (k .hi .b) (p .b) (h .inb .lo) (h .inb .hi)))
+    where
+      go : (i j a b : ℕ) → i < a → j < b → i * b + j < a * b
+      go i j a b h k = omega (arith, mul-le-mul-right b h)
+
+  -- and the number of what stands at i is i
+  pub row-number : (i : ℕ) (d : V2) → i < length (points k) → rowIndex k (getD (points k) i d) ≡ i
+  row-number i d h =
+      let w = points-inside k (getD (points k) i d) (getD-in (points k) i d h) in
+      distinct-at (row-distinct (points-sorted k)) (rowIndex k (getD (points k) i d)) i d (row-lt (getD (points k) i d) w) h
+      (row-at (getD (points k) i d) d w)

@@ -1,0 +1,26 @@
+// The geometry of an accepted description. Theory only: nothing here runs. The lemmas are numbered as in docs/PROMISES.md: L for lattice facts, G for
+// geometry.
+//
+//   the whole          `geometry` of Geometry: all that the network needs, from "no refusal applies" alone, whatever the limits
+//   increment, lines   Lines: `line-is`, `line-shortest`, `line-unique`; `not-sent` (L4), `one-line` (L5), `coordinates`, `determined` (G3);
+//                      of a stream: `passes`, `still-line` of Pipes
+//   instances          Instances: `within-in`, `in-within`, `distinct`, `number-earlier`, `earlier-number`: the points in the bounds, in order
+//   processes          Segments: `segment`, `numbered`, `instance` (G1); Processes: `instance-firing`, `firing-instance`, .. (G2);
+//                      Firings: `runs-are`; Passes: `demand2`: every pass of the loops is run by one processor
+//   boxes              Boxes: `inside-points`, `points-sorted`, `box-basis`, `box-least`; RowOrder: `row-at`, `row-number`
+//   pipes              Pipes: `one-pipe` (G4), `same-pipe`, `on-in`, `in-on`, `soak-rank`, `still-total` (G6), `no-pipe`;
+//                      Positions: `pipe-at`, `pipe-next`, `before-at`
+//   elements           Moving: `pipe-line`, `soak-is`, `drain-is`, `element-at`, `total-is` (G5); Elements: `home-in`, `home-is`, `pipes-total`,
+//                      `home-element`, `waiting-number`, `number-waiting` (G7); over all streams PipeOrder
+//   the clock          Clock: `clock` (G8)
+//   written order      Order: `step-earlier`, `earlier-step`, `written-moving`, `written-still` (G9)
+//   the report         Report: equations (3), (4), (8), (9), (10); (2) is `box-basis` of Boxes
+//   two loops          TwoLoops: that the padded third loop changes nothing
+//   from Accept        Descriptions: `laid`: what the refusals leave
+//   for the network    Wiring: `wired`, `flowing`, `keeping`, `meeting`; Arrays: `pipe-is`, `pipe-of`, `through`, `place-on`
+//
+// Members, Sorting, Best, Numbers, Places, Reach and BoxLines are what these use. No theorem uses that an increment's components lie in −1 to 1, nor
+// a limit.
+pub fn one() -> usize {
+    1
+}
