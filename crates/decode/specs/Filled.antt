@@ -1,0 +1,53 @@
+-- A list of k members, the first n made by a function and the others all one value: as document 01's definitions have it, and as a loop that
+-- stores leaves it. Assumes nothing.
+use mathlib.Core.Path.{_≡_, refl, sym, _∙_, ap, subst}
+use mathlib.Core.Bool.{Bool, true, false}
+use mathlib.Core.List.{List, [], _∷_, map, _++_}
+use Prim.Native.Nat.{ℕ, zero, suc, _+_, _-_, _≤_, _<_}
+use native.Mathlib.Omega.{arith}
+use lib.Dec.{ltb}
+use borrow.Author.Tests.{ltb-true, ltb-false}
+use lib.ListN.{length, getD, set, replicate, length-replicate, getD-replicate, List·getD-eq-default}
+use lib.Seq.{set-at, append-snoc}
+use Rattle.integers.specs.Fill.{fillBy, fill-at, fill-past}
+use Rattle.meaning.specs.Lists.{numbers, numbersFrom}
+
+module _ {A : Type 0} (f : ℕ → A) where
+  abbrev pub filled : ℕ → ℕ → A → List A
+  filled n k d = map f (numbers n) ++ replicate (k - n) d
+
+  map-length : (i n : ℕ) → length (map f (numbersFrom i n)) ≡ n
+  unfolding numbersFrom
+  map-length i zero = refl
+  map-length i (suc n) = ap suc (map-length (suc i) n)
+
+  map-more : (i n : ℕ) {j : ℕ} → i + n ≡ j → map f (numbersFrom i (suc n)) ≡ map f (numbersFrom i n) ++ (f j ∷ [])
+  unfolding numbersFrom
+  map-more i zero {j} e = let g : i ≡ j = omega arith in ap (λ (j : ℕ). f j ∷ []) g
+  map-more i (suc n) e = ap (λ (l : List A). f i ∷ l) (map-more (suc i) n (omega arith))
+
+  -- the loop that stores leaves it
+  pub fill-is : (n k : ℕ) (d : A) → n ≤ k → fillBy f n (replicate k d) ≡ filled n k d
+  unfolding fillBy numbersFrom
+  fill-is zero k d h = let e : k ≡ k - 0 = omega arith in ap (λ (j : ℕ). replicate j d) e
+  fill-is (suc n) k d h =
+      let e : k - n ≡ suc (k - suc n) = omega arith in
+      let rest = replicate (k - suc n) d in
+      ap (λ (l : List A). set l n (f n)) (fill-is n k d (omega arith) ∙ ap (λ (j : ℕ). map f (numbers n) ++ replicate j d) e)
+      ∙ set-at (map f (numbers n)) d rest (f n) n (map-length 0 n)
+      ∙ sym (append-snoc (map f (numbers n)) (f n) rest)
+      ∙ ap (λ (l : List A). l ++ rest) (sym (map-more 0 n (omega arith)))
+
+  -- what holds of the one value and of all that are made holds of every member
+  pub filled-each : (P : A → Type 0) (n k : ℕ) (d : A) → n ≤ k → P d → ((i : ℕ) → i < n → P (f i)) → (i : ℕ) → P (getD (filled n k d) i d)
+  filled-each P n k d h base step i =
+      subst (λ (l : List A). P (getD l i d)) (fill-is n k d h) (go (ltb i n) refl)
+    where
+      others : (b : Bool) → ltb i k ≡ b → getD (replicate k d) i d ≡ d
+      others true e = getD-replicate k i d d (ltb-true i k e)
+      others false e = List·getD-eq-default (replicate k d) d (omega (arith, length-replicate k d, ltb-false i k e))
+
+      go : (b : Bool) → ltb i n ≡ b → P (getD (fillBy f n (replicate k d)) i d)
+      go true e =
+          subst P (sym (fill-at f n i (replicate k d) d (ltb-true i n e) (omega (arith, length-replicate k d)))) (step i (ltb-true i n e))
+      go false e = subst P (sym (fill-past f n i (replicate k d) d (ltb-false i n e) ∙ others (ltb i k) refl)) base
