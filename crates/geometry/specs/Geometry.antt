@@ -1,5 +1,5 @@
--- All that the network asks of the geometry, as one record with one proof, for every description that Accept does not refuse, whatever the limits.
--- Nothing above looks further into this crate. Assumes nothing.
+-- Demand 2's mathematics as one theorem that names its parts, for every description that Accept does not refuse, whatever the limits. What the network
+-- asks of it is the network's record `Wired`, which `guarantee` proves from these parts. Assumes nothing.
 use mathlib.Core.Path.{_≡_}
 use mathlib.Core.Bool.{not}
 use mathlib.Core.List.{List, List·Memᴰ as In}

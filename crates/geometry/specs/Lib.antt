@@ -22,6 +22,7 @@ pub mod Accept
 pub mod Descriptions
 pub mod TwoLoops
 pub mod Firings
+pub mod Counts
 pub mod Report
 pub mod Passes
 pub mod Wiring

@@ -1,12 +1,12 @@
 // The geometry of an accepted description. Theory only: nothing here runs. The lemmas are numbered as in docs/PROMISES.md: L for lattice facts, G for
 // geometry.
 //
-//   the whole          `geometry` of Geometry: all that the network needs, from "no refusal applies" alone, whatever the limits
+//   the whole          `geometry` of Geometry: demand 2's mathematics, from "no refusal applies" alone, whatever the limits
 //   increment, lines   Lines: `line-is`, `line-shortest`, `line-unique`; `not-sent` (L4), `one-line` (L5), `coordinates`, `determined` (G3);
 //                      of a stream: `passes`, `still-line` of Pipes
 //   instances          Instances: `within-in`, `in-within`, `distinct`, `number-earlier`, `earlier-number`: the points in the bounds, in order
 //   processes          Segments: `segment`, `numbered`, `instance` (G1); Processes: `instance-firing`, `firing-instance`, .. (G2);
-//                      Firings: `runs-are`; Passes: `demand2`: every pass of the loops is run by one processor
+//                      Firings: `runs-are`; Passes: `demand2`: every pass of the loops is run by one processor; Counts: `counts-total`
 //   boxes              Boxes: `inside-points`, `points-sorted`, `box-basis`, `box-least`; RowOrder: `row-at`, `row-number`
 //   pipes              Pipes: `one-pipe` (G4), `same-pipe`, `on-in`, `in-on`, `soak-rank`, `still-total` (G6), `no-pipe`;
 //                      Positions: `pipe-at`, `pipe-next`, `before-at`
