@@ -1,13 +1,13 @@
 -- Products and the order on ℤ: signs, monotony, cancelling. Assumes nothing.
 use mathlib.Core.Path.{_≡_, refl, sym, _∙_}
-use Prim.Native.Nat.{ℕ, zero, suc, _+_, _<_}
+use Prim.Native.Nat.{ℕ, zero, suc, _+_}
 use native.Mathlib.Nat.{mul-le-mul-left, mul-lt-mul-of-pos-left, le-of-mul-le-mul-left, eq-of-mul-eq-mul-left}
 use native.Mathlib.Omega.{arith}
 use lib.IntN.{ℤ, pos, negsuc, negℤ, _*ℤ_}
 use lib.Signed.{_≤ℤ_, _<ℤ_}
 use Rattle.integers.specs.Differences.{gaps, le-out, lt-out, lt-in}
 use Rattle.integers.specs.Variables.{linear}
-use Rattle.integers.specs.Ring.{ring, quotes, literal, solve, solve-by, given, Ex.below}
+use Rattle.integers.specs.Ring.{ring, quotes, solve-by, given, Ex.below}
 
 -- ---- the three cases
 

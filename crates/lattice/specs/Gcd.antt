@@ -1,6 +1,6 @@
 -- The greatest common divisor by Euclid's rule, that it is the greatest, and Bezout's identity. Assumes nothing.
-use mathlib.Core.Path.{_≡_, refl, sym, _∙_, ap, ap₂, subst}
-use Prim.Native.Nat.{ℕ, zero, suc, _+_, _*_, _/_, _%_, _<_, _∣_}
+use mathlib.Core.Path.{_≡_, refl, _∙_, ap, ap₂}
+use Prim.Native.Nat.{ℕ, zero, suc, _/_, _%_, _<_, _∣_}
 use native.Mathlib.Nat.{div-add-mod', mod-lt, le-refl, dvd-refl, dvd-zero, dvd-mod-iff}
 use native.Mathlib.Omega.{arith}
 use lib.IntN.{ℤ, pos, negsuc, negℤ, natAbs, _+ℤ_, _-ℤ_, _*ℤ_}

@@ -1,9 +1,9 @@
 -- The whole vectors that two rows send to zero: the shortened cross product of the rows is one, every other is a whole multiple of it, and so
 -- none is shorter. Assumes nothing.
-use mathlib.Core.Path.{_≡_, refl, sym, _∙_, ap, ap₂, subst}
-use Prim.Native.Nat.{ℕ, zero, suc, _+_, _*_, _≤_, _<_}
+use mathlib.Core.Path.{_≡_, refl, sym, _∙_, ap}
+use Prim.Native.Nat.{ℕ, zero, suc, _*_, _≤_}
 use native.Mathlib.Omega.{arith}
-use lib.IntN.{ℤ, pos, negsuc, negℤ, natAbs, _+ℤ_, _-ℤ_, _*ℤ_}
+use lib.IntN.{ℤ, pos, negsuc, negℤ, natAbs, _-ℤ_, _*ℤ_}
 use Rattle.integers.specs.declared.V3.{V3}
 use Rattle.integers.specs.Ring.{ring, quotes, literal, solve, solve3, solve-by, given, _also_, Ex.var, Ex.minus}
 use Rattle.integers.specs.Vectors.{zero3, scale3, sub3, neg3, dot, cross, dot-scale, dot-neg, cross-left, cross-right, cross-scale, cross-cross, cancel3}

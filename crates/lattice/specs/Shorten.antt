@@ -1,18 +1,18 @@
 -- The shortening rule: a vector divided by the greatest common divisor of its components, with the divisor. Times its divisor it is the vector,
 -- and its components have no common divisor. Assumes nothing.
 use mathlib.Core.Path.{_≡_, refl, sym, _∙_, ap, subst}
-use Prim.Native.Nat.{ℕ, zero, suc, _+_, _*_, _/_, _≤_, _<_, _∣_}
-use native.Mathlib.Nat.{mul-div-cancel', dvd-trans, dvd-refl, mul-dvd-mul-left, dvd-of-mul-dvd-mul-left, eq-zero-of-zero-dvd, eq-one-of-dvd-one, mul-one}
+use Prim.Native.Nat.{ℕ, zero, suc, _*_, _/_, _<_, _∣_}
+use native.Mathlib.Nat.{mul-div-cancel', dvd-trans, mul-dvd-mul-left, dvd-of-mul-dvd-mul-left, eq-zero-of-zero-dvd, eq-one-of-dvd-one, mul-one}
 use native.Mathlib.Omega.{arith}
 use lib.IntN.{ℤ, pos, negsuc, negℤ, natAbs, _+ℤ_, _*ℤ_}
 use lib.Signed.{quotZ}
 use Rattle.integers.specs.declared.V3.{V3}
 use Rattle.integers.specs.Ring.{ring, quotes, literal, solve, solve-by, given, Ex.plain, Ex.minus}
-use Rattle.integers.specs.Bounds.{abs-quot, abs-mul}
+use Rattle.integers.specs.Bounds.{abs-mul}
 use Rattle.integers.specs.Vectors.{zero3, scale3, dot, dot-scale, same3}
 use Rattle.integers.specs.Order.{cancel}
 use Rattle.lattice.specs.declared.Short.{Short}
-use Rattle.lattice.specs.Gcd.{gcdOf, euclid, Greatest, gcd-greatest, Bezout, bezout}
+use Rattle.lattice.specs.Gcd.{gcdOf, euclid, gcd-greatest, bezout}
 
 -- the greatest common divisor of a vector's components: 0 for the zero vector alone
 abbrev pub divisorOf : V3 → ℕ

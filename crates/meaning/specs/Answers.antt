@@ -1,8 +1,7 @@
 -- What each case of an answer is in document 01's terms: its number, 0 where the call is not declined, and its values.
-use mathlib.Core.Bool.{Bool, cond}
+use mathlib.Core.Bool.{cond}
 use mathlib.Core.List.{List, [], _∷_}
 use Prim.Native.Nat.{ℕ}
-use Rattle.meaning.specs.declared.Figures.{Figures}
 use Rattle.meaning.specs.declared.Acceptance as Acceptance
 use Rattle.meaning.specs.declared.Answer as Answer
 use Rattle.meaning.specs.declared.Ran as Ran

@@ -1,8 +1,8 @@
 -- What the rules of the network look at, gathered from the description: for each process its instances in step order, for each pipe its stream,
 -- its elements and its processes in order. Nothing here is new; it is the words of the trade in the order in which the network counts.
-use mathlib.Core.Bool.{Bool, true, false, cond, _&&_}
+use mathlib.Core.Bool.{Bool, false, cond, _&&_}
 use mathlib.Core.List.{List, [], _∷_, _++_, map}
-use Prim.Native.Nat.{ℕ, zero, suc, _+_}
+use Prim.Native.Nat.{ℕ, suc, _+_}
 use lib.Dec.{eqb, ltb}
 use lib.ListN.{length, getD, take}
 use lib.Signed.{ltZ}
@@ -13,7 +13,7 @@ use Rattle.meaning.specs.declared.Nest.{Nest}
 use Rattle.meaning.specs.declared.Stream.{Stream}
 use Rattle.meaning.specs.declared.Line.{Line}
 use Rattle.meaning.specs.declared.Description.{Description}
-use Rattle.meaning.specs.Lists.{any, each, total, position, numbersFrom}
+use Rattle.meaning.specs.Lists.{any, each, total, position}
 use Rattle.meaning.specs.Loops.{stepOf}
 use Rattle.meaning.specs.Space.{boxOf, rowIndex, space, processes, instancesAt, computing}
 use Rattle.meaning.specs.Streams.{stationary, hop, elements}

@@ -1,7 +1,7 @@
 -- Document 01, the body and the plain run: operations modulo 2^32, lines, one instance on a store, the store after the first instances.
-use mathlib.Core.Bool.{Bool, cond}
+use mathlib.Core.Bool.{cond}
 use mathlib.Core.List.{List, [], _∷_, _++_, map}
-use Prim.Native.Nat.{ℕ, zero, suc, _+_, _*_, _-_, _^_, _%_}
+use Prim.Native.Nat.{ℕ, _+_, _*_, _-_, _^_, _%_}
 use lib.Dec.{eqb, ltb}
 use lib.ListN.{length, getD, set, take}
 use Rattle.integers.specs.Vectors.{image}

@@ -2,13 +2,11 @@
 -- list afterwards. "A declined call answers its number and changes no lent word"; "words beyond the named length never change".
 use mathlib.Core.Bool.{Bool, true, false, not, cond, _&&_, _||_}
 use mathlib.Core.List.{List, [], _∷_, _++_, map}
-use Prim.Native.Nat.{ℕ, zero, suc, _+_, _*_, _-_, _^_}
+use Prim.Native.Nat.{ℕ, _+_, _*_, _-_, _^_}
 use lib.Dec.{eqb, ltb}
 use lib.ListN.{length, getD, take, drop, replicate}
-use Rattle.integers.specs.Vectors.{zero3}
 use Rattle.integers.specs.declared.V2.{V2}
 use Rattle.meaning.specs.declared.Limits.{Limits}
-use Rattle.meaning.specs.declared.Nest.{Nest}
 use Rattle.meaning.specs.declared.Stream.{Stream}
 use Rattle.meaning.specs.declared.Description.{Description}
 use Rattle.meaning.specs.declared.Row.{Row}
@@ -23,7 +21,7 @@ use Rattle.meaning.specs.Pipes.{drain}
 use Rattle.meaning.specs.Description.{descriptionOf, streamsOf}
 use Rattle.meaning.specs.Body.{elementCount, gather, finalValues}
 use Rattle.meaning.specs.Accept.{refusalOf, stateWords}
-use Rattle.meaning.specs.Array.{Array, arrayOf, rowSoak, processCount, streamCount, pipeNumber, pipeAt, elementsOn, pipeOrder, partStart, onPipe}
+use Rattle.meaning.specs.Array.{Array, arrayOf, rowSoak, processCount, streamCount, pipeNumber, elementsOn, pipeOrder, partStart, onPipe}
 use Rattle.meaning.specs.State.{Received, read}
 use Rattle.meaning.specs.Rules.{sound, Step, Send, Take, Fire, Give, Receive, Memory, ready, apply, stepsOf, anyReady, Found, at, nothing, runSteps, applyAll}
 

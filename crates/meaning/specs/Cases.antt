@@ -1,7 +1,6 @@
 -- Document 01's cases marked P: one table, proved together by computing the definitions on the designs' bytes.
-use mathlib.Core.Path.{_≡_, refl}
-use mathlib.Core.Bool.{Bool}
-use mathlib.Core.List.{List, [], _∷_, _++_, map}
+use mathlib.Core.Path.{_≡_}
+use mathlib.Core.List.{List, [], _∷_, map}
 use Prim.Native.Nat.{ℕ}
 use lib.ListN.{getD, replicate, drop}
 use lib.IntN.{ℤ, pos, negsuc}

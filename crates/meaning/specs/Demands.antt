@@ -16,9 +16,8 @@ use Rattle.meaning.specs.Lists.{filter, every, numbers}
 use Rattle.meaning.specs.Loops.{instances}
 use Rattle.meaning.specs.Description.{descriptionOf, streamsOf}
 use Rattle.meaning.specs.Body.{finalValues}
-use Rattle.meaning.specs.Tests.{Test}
 use Rattle.meaning.specs.Accept.{allTests, accept, figures, totalSteps}
-use Rattle.meaning.specs.Array.{Array, arrayOf, processCount, countAt, instanceAt, pipeNumber, pipeAt, elementsOn, partStart}
+use Rattle.meaning.specs.Array.{arrayOf, processCount, countAt, instanceAt, pipeNumber, pipeAt, elementsOn, partStart}
 use Rattle.meaning.specs.Rules.{Step, Receive, Send, Take, Fire, Give, Memory, ready, anyReady, Found, at, nothing, runSteps}
 use Rattle.meaning.specs.Answers.{answerNumber, ranNumber}
 use Rattle.meaning.specs.Calls.{start, step, run, stepOf, stateLength}

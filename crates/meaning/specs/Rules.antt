@@ -1,14 +1,14 @@
 -- Document 01, "The network": links and their fill, sound states, and for each of send, take, fire, give and receive when it is ready and what it
 -- does, on the words of any sound state; the lowest ready step.
-use mathlib.Core.Bool.{Bool, true, false, cond, _&&_, _||_}
+use mathlib.Core.Bool.{Bool, cond, _&&_, _||_}
 use mathlib.Core.List.{List, [], _∷_, _++_, map}
 use Prim.Native.Nat.{ℕ, zero, suc, _+_, _-_}
 use lib.Dec.{eqb, leb, ltb}
 use lib.ListN.{length, getD, set, take}
 use Rattle.integers.specs.declared.V3.{V3}
-use Rattle.meaning.specs.Lists.{every, any, each, numbers, numbersFrom}
+use Rattle.meaning.specs.Lists.{every, any, each, numbers}
 use Rattle.meaning.specs.Body.{runLines}
-use Rattle.meaning.specs.Array.{Array, Pipe, Stop, countAt, instanceAt, processCount, streamCount, pipeNumber, pipeAt, stopsOn, elementsOn, stopAt, partStart, pipeThrough, onPipe, placeOn}
+use Rattle.meaning.specs.Array.{Array, countAt, instanceAt, processCount, streamCount, pipeNumber, pipeAt, stopsOn, elementsOn, stopAt, partStart, pipeThrough, onPipe, placeOn}
 use Rattle.meaning.specs.State.{Word, Firings, Taken, Given, Hand, Keep, Place, Sent, Received, End, read, write}
 
 -- ---- links: link k of pipe q lies before its process at place k; the last one, k the number of its processes, before its output end

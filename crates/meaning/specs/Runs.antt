@@ -1,13 +1,11 @@
 -- Cases beside document 01's, because they hold the rules: a whole table, states stopped in the middle of a run, two orders with one end, a link's
 -- places, a state that no start leads to, null processes, declined calls. The states' words are those of the second implementation.
 use mathlib.Core.Path.{_≡_}
-use mathlib.Core.Bool.{Bool, true, false}
 use mathlib.Core.List.{List, [], _∷_, _++_, map, reverse}
 use Prim.Native.Nat.{ℕ, zero, suc}
-use lib.ListN.{length, getD, replicate, drop}
+use lib.ListN.{getD, replicate, drop}
 use lib.IntN.{ℤ, pos, negsuc}
 use Rattle.integers.specs.Bytes.{bitsAt, wordAt}
-use Rattle.integers.specs.declared.V3.{V3}
 use Rattle.lattice.specs.Gcd.{gcdOf, euclid}
 use Rattle.meaning.specs.declared.Row.{Row}
 use Rattle.meaning.specs.Limits.{gaugeLimits}

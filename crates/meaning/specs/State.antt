@@ -1,10 +1,10 @@
 -- Document 01, the words of a state and where they stand: "for each process its firings, and for each stream taken, given, hand, keep and the places of
 -- the link into it; for each pipe sent, received and the places of its last link". That order is the program's choice (docs/STATE.md).
 use mathlib.Core.List.{List}
-use Prim.Native.Nat.{ℕ, suc, _+_, _*_}
+use Prim.Native.Nat.{ℕ, _+_, _*_}
 use lib.ListN.{getD, set, take}
 use Rattle.meaning.specs.Lists.{total}
-use Rattle.meaning.specs.Array.{Array, processCount, pipeAt}
+use Rattle.meaning.specs.Array.{Array, processCount}
 
 -- of process p; of process p and stream s; of pipe q. `place p s i` is a place of the link into p, `end q i` one of the pipe's last link
 pub data Word : Type 0 where

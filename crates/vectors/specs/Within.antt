@@ -1,8 +1,6 @@
 -- Vectors whose components lie between −n and n. Assumes nothing.
-use mathlib.Core.Path.{_≡_, sym, subst}
-use Prim.Native.Nat.{ℕ, _≤_}
+use Prim.Native.Nat.{ℕ}
 use lib.Dec.{T, leb}
-use lib.IntN.{ℤ}
 use Rattle.integers.specs.Differences.{Abs}
 use Rattle.integers.specs.Bounds.{Abs-wider, Abs-quot, Abs-neg}
 use Rattle.integers.specs.Vectors.{neg3}

@@ -5,10 +5,10 @@ use Prim.Native.Nat.{ℕ, _-_, suc, _<_, _^_}
 use lib.IntN.{ℤ, pos, negsuc, negℤ, _-ℤ_}
 use lib.Signed.{mag}
 use mir.Syntax.{w32}
-use mir.Val.{toZ, SFits}
+use mir.Val.{toZ}
 use mir.Facts.{toZ-ofZ}
 use mir.ValLaws.{toZ-neg}
-use Rattle.integers.specs.Words.{Holds, bits, box, minus, fits, neg-one}
+use Rattle.integers.specs.Words.{bits, box, minus, fits, neg-one}
 use borrow.Author.Needs.{needs}
 use Rattle.integers.proofs.signed.Statement.{statement}
 use Rattle.integers.proofs.signed.Tie as tie

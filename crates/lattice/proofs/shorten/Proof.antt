@@ -1,9 +1,8 @@
 -- `lattice::shorten` meets its contract. Assumes nothing.
-use mathlib.Core.Path.{_≡_, _∙_, ap, ap₂}
+use mathlib.Core.Path.{_≡_, _∙_, ap₂}
 use Prim.Native.Nat.{ℕ}
 use lib.IntN.{ℤ, pos}
 use lib.Signed.{quotZ}
-use Rattle.integers.specs.declared.V3.{V3}
 use Rattle.integers.specs.Words.{tower, held}
 use Rattle.lattice.specs.declared.Short.{Short}
 use borrow.Author.Needs.{needs}

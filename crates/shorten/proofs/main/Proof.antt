@@ -1,7 +1,6 @@
 -- `shorten::main` is safe and ends: it shortens at most 5,461 vectors. Assumes nothing.
 use mathlib.Core.Path.{_≡_}
 use Prim.Native.Nat.{_≤_, _-_}
-use native.Mathlib.Omega.{arith}
 use lib.ListN.{length}
 use borrow.Author.Needs.{needs}
 use Rattle.shorten.proofs.main.Statement.{statement}

@@ -1,5 +1,5 @@
 -- `vectors::line_of` meets its contract. Assumes nothing.
-use mathlib.Core.Path.{_≡_, ap, _∙_, subst, sym}
+use mathlib.Core.Path.{ap, _∙_, subst, sym}
 use borrow.Author.Needs.{needs}
 use Rattle.integers.specs.declared.V3.{V3}
 use Rattle.lattice.specs.declared.Short.{Short}
