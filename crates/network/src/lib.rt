@@ -1,0 +1,35 @@
+// The network proved: demand 3 for every description whose array is wired as geometry has to show. Theory only; what it says is in specs/.
+//
+// The abstract network, over numbers alone:
+//   Counters    stations, steps, rules and the counter invariant; `inv-step`: every granted step keeps it; `all-put`, `all-get`: all out, all done
+//   Sound       what is asked of any state; `sound-step`: every granted step keeps it; `inv-sound`: the invariant implies it
+//   Waits, Due, Descent, Clock
+//               what an occurrence waits for is due earlier; `progress`: some step is ready until all is out; `in-time`; the due times
+//   Values      the value invariant; `valued-fire`; Turns: `in-turn`, the order of firings at a written element
+//   Ranks       the order in which elements pass a link; `apart`: every element is in one place
+//   Words, Firing
+//               what the words are by counters and values; `stored-move`, `stored-fire`: every granted step keeps that
+//   System, Good
+//               what geometry knows of a network; the invariant of demand 3, `good-step`
+//   Claims      stretch, ready, finish for every reached state; Count: the granted steps are the sum of the counters
+//
+// The array of a description:
+//   Layout      `layout`: different live words of a state stand at different places below the number of words; reading after writing
+//   Wiring      `netOf`, and the record `Wired` of what geometry has to show; Programs: the program that an array runs; `systemOf`
+//   Slots       the words by pipe and place; `view-same`, `view-other`; the counters and the words of a state
+//   Decide, Ready
+//               `ready-exactly`: a step is ready in a sound state exactly if the abstract network may grant it
+//   Links, Moving, Gets, Puts, Fires, Parts, Steps
+//               the stores of each rule; `step-more`, `step-granted`: a ready step that is done is a granted step of the abstract network
+//   Members, Runs, Outcome, Finish
+//               lists of granted steps from a cleared state: `reached-all`, `after`: the claims; `same-state`, `same-received`: one finish
+//   States      `says-sound`; `sound-kept`: every granted step keeps a sound state sound, reached or not
+//   Calls       `calls-granted`, `calls-leave`: calls do granted steps only, and nothing else changes
+//   Plain       `plain-is`: the plain run on the flat store is the abstract one; the record `Described` of what geometry has to show
+//   Figures     `words-are`, `steps-are`: the figures that Accept answers
+//   Demand      `demand3`: demand 3, from `Wired` and `Described`; `guarantee`: for every accepted description, from what geometry owes
+//   Example     an array that is wired
+
+pub fn one() -> usize {
+    1
+}
