@@ -22,7 +22,7 @@ use Rattle.meaning.specs.Description.{streamsOf, linesOf}
 
 -- ---- processes
 
--- a process's instances in the order in which it fires them: by step
+-- a process's instances in the order in which it fires them: by step (that they are first, first + increment, .., last, `runs-are` of geometry says)
 unfoldable pub insertByStep : Nest → V3 → List V3 → List V3
 insertByStep n x [] = x ∷ []
 insertByStep n x (y ∷ l) = cond (ltZ (stepOf n y) (stepOf n x)) (y ∷ insertByStep n x l) (x ∷ y ∷ l)
@@ -50,7 +50,7 @@ pub record Pipe : Type 0 where
   pub elements : List ℕ
   pub stops : List Stop
 
--- the soak of a row of the table
+-- the soak of a row of the table (of a null process the report's equation (10): `null-report` of geometry)
 abbrev pub rowSoak : Nest → Stream → V2 → ℕ
 rowSoak n s y = cond (computing n y) (soak n s y) (length (pipeElements n s y))
 

@@ -27,6 +27,7 @@ use Rattle.meaning.specs.Calls.{start, step, run, stepOf, stateLength}
 abbrev pub Meets : Limits → List ℕ → Type 0
 Meets l s = every (λ t. not (t .applies)) (allTests l s) ≡ true
 
+-- (`accepted-exactly` of guarantee)
 abbrev pub AcceptedExactly : Type 0
 AcceptedExactly = (l : Limits) (s : List ℕ) → (accept l s ≡ Accepted (figures (descriptionOf s))) ↔ Meets l s
 
@@ -138,5 +139,6 @@ pub record Demand3 (l : Limits) (s : List ℕ) (values : List ℕ) (M₀ : Memor
       → allReceived (descriptionOf s) (grantedBy l s (start l s values M₀ .memory) cs') ≡ true
       → SameFinish (descriptionOf s) (memoryAfter l s (start l s values M₀ .memory) cs) (memoryAfter l s (start l s values M₀ .memory) cs')
 
+-- for every description, every start that is not declined, whatever was lent (`guarantee` of guarantee)
 abbrev pub Guarantee : Type 0
 Guarantee = (l : Limits) (s values : List ℕ) (M₀ : Memory) → start l s values M₀ .answer ≡ Done → Demand3 l s values M₀

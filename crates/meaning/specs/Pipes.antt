@@ -71,13 +71,15 @@ abbrev pub backward : V2 → Bool
 backward v = ltZ (v .a) (pos 0) || (eqZ (v .a) (pos 0) && ltZ (v .b) (pos 0))
 
 -- "of a moving pipe in the order of index map times increment; of a stationary pipe in the order in which the pipe, from its entry on, passes the
--- processes that hold them"
+-- processes that hold them" (that a moving pipe's are a whole segment, `pipe-line` of geometry says; that every element is on one pipe at one index,
+-- `home-element`)
 unfoldable pub pipeElements : Nest → Stream → V2 → List V2
 pipeElements n s y =
     cond (stationary n s) (map (λ p. image (s .map) (first n p)) (filter (computing n) (pipe n s y)))
     (cond (backward (pass n s)) (reverse (usedOn n s y)) (usedOn n s y))
 
--- ---- soak and drain: "the pipe's elements before the first and after the last that a process uses"
+-- ---- soak and drain: "the pipe's elements before the first and after the last that a process uses" (the report's equations (8) and (9):
+-- `soak-report` and `drain-report` of geometry)
 
 abbrev pub ahead : V2 → List V2 → ℕ
 ahead e l = position (λ p. eq2 p e) l

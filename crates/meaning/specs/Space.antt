@@ -90,7 +90,7 @@ lastOf n m y = bestOr zero3 (later n) (sentTo n m y)
 
 -- ---- processes
 
--- the process space; the processes in row order
+-- the process space (the report's equation (2): `box-basis` of geometry); the processes in row order
 abbrev pub space : Nest → Box
 space n = boxOf n (n .place)
 
@@ -100,6 +100,7 @@ processes n = points (space n)
 abbrev pub instancesAt : Nest → V2 → List V3
 instancesAt n y = sentTo n (n .place) y
 
+-- (the report's equation (4): `count-is` of geometry)
 abbrev pub count : Nest → V2 → ℕ
 count n y = countOf n (n .place) y
 

@@ -32,7 +32,7 @@ seatStart A p s = processStart A p + 1 + total (λ h. 4 + h) (take s (A .hops))
 abbrev pub endStart : Array → ℕ → ℕ
 endStart A q = processStart A (processCount A) + total (λ r. 2 + r .hop) (take q (A .pipes))
 
--- the place of a word
+-- the place of a word (that different words stand at different places, `layout` of network says)
 abbrev pub index : Array → Word → ℕ
 index A (Firings p) = processStart A p
 index A (Taken p s) = seatStart A p s
