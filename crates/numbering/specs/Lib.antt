@@ -1,0 +1,5 @@
+-- What the range tests leave; instances by turns; boxes; the table of row numbers.
+pub mod Ranges
+pub mod Turns
+pub mod Extents
+pub mod Numbers

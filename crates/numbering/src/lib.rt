@@ -1,0 +1,258 @@
+// The instances by their number in the written order, the box around their images under a matrix, and the table of the images' numbers in row
+// order: for place the numbers of the processes, for an index map those of the elements.
+//
+// specs/, by file:
+//
+//   Ranges      what the range tests leave of a nest and of one loop, and the numbers that then fit
+//   Turns       an instance by how often each loop has turned; `instances-length`, `instance-is`
+//   Extents     the box around the images, widened image by image; `box-spanning`
+//   Numbers     the table of row numbers
+ghost use mathlib.Core.Path.{_≡_};
+ghost use mathlib.Core.List.{_++_};
+ghost use Prim.Native.Nat.{_≤_, _<_};
+ghost use lib.IntN.{pos, _-ℤ_};
+ghost use lib.ListN.{length, getD, drop};
+ghost use Rattle.integers.specs.Differences.{up};
+ghost use Rattle.integers.specs.Vectors.{zero3, image};
+ghost use Rattle.meaning.specs.Loops.{instances};
+ghost use Rattle.meaning.specs.Space.{points, rowIndex, minZ, maxZ, widen, boxOf};
+ghost use Rattle.geometry.specs.Boxes.{Inside};
+ghost use Rattle.vectors.specs.Within.{Within, Rows};
+ghost use Rattle.numbering.specs.Ranges.{Bounded, Ranged, Apart, turns, values, outerOf, middleOf, innerOf};
+ghost use Rattle.numbering.specs.Turns.{Turned, turnsOf};
+ghost use Rattle.numbering.specs.Extents.{Spanning, Numbered, boxed};
+ghost use Rattle.numbering.specs.Numbers.{Fillable, numbersOf};
+use integers::Matrix;
+use integers::V2;
+use integers::V3;
+use meaning::Nest;
+
+// One loop of a nest.
+struct Loop {
+    left: i32,
+    right: i32,
+    direction: i32,
+}
+
+// How often each loop turns, or has turned.
+struct Turns {
+    outer: u32,
+    middle: u32,
+    inner: u32,
+}
+
+// The least and the greatest corner of a box.
+pub struct Extent {
+    pub lo: V2,
+    pub hi: V2,
+}
+
+// How far b lies above a.
+fn distance(a: i32, b: i32) -> u32
+    requires { ⌜ Apart a b ⌝ }
+    ensures { λ r. ⌜ (r ≡ up (b -ℤ a)) × (r ≤ 1536) ⌝ }
+{
+    (b - a) as u32
+}
+
+// Loop 0.
+fn outer(n: Nest) -> Loop
+    requires { ⌜ Bounded n ⌝ }
+    ensures { λ r. ⌜ (r ≡ outerOf n) × (Ranged r) ⌝ }
+{
+    let left = n.left;
+    let right = n.right;
+    let direction = n.direction;
+    Loop {
+        left: left.x,
+        right: right.x,
+        direction: direction.x,
+    }
+}
+
+// Loop 1.
+fn middle(n: Nest) -> Loop
+    requires { ⌜ Bounded n ⌝ }
+    ensures { λ r. ⌜ (r ≡ middleOf n) × (Ranged r) ⌝ }
+{
+    let left = n.left;
+    let right = n.right;
+    let direction = n.direction;
+    Loop {
+        left: left.y,
+        right: right.y,
+        direction: direction.y,
+    }
+}
+
+// Loop 2.
+fn inner(n: Nest) -> Loop
+    requires { ⌜ Bounded n ⌝ }
+    ensures { λ r. ⌜ (r ≡ innerOf n) × (Ranged r) ⌝ }
+{
+    let left = n.left;
+    let right = n.right;
+    let direction = n.direction;
+    Loop {
+        left: left.z,
+        right: right.z,
+        direction: direction.z,
+    }
+}
+
+// How often a loop turns.
+fn turn_count(l: Loop) -> u32
+    requires { ⌜ Ranged l ⌝ }
+    ensures { λ r. ⌜ r ≡ turns l ⌝ }
+{
+    distance(l.left, l.right) + 1
+}
+
+// The value of a loop after i turns.
+fn value_after(l: Loop, i: u32) -> i32
+    requires { ⌜ (Ranged l) × (i < turns l) ⌝ }
+    ensures { λ r. ⌜ r ≡ getD (values l) i (pos 0) ⌝ }
+{
+    if l.direction < 0 {
+        l.right - i as i32
+    } else {
+        l.left + i as i32
+    }
+}
+
+// The turns of all loops.
+fn turns_of(n: Nest) -> Turns
+    requires { ⌜ Bounded n ⌝ }
+    ensures { λ r. ⌜ r ≡ turnsOf n ⌝ }
+{
+    Turns {
+        outer: turn_count(outer(n)),
+        middle: turn_count(middle(n)),
+        inner: turn_count(inner(n)),
+    }
+}
+
+// How often each loop has turned before instance k.
+fn turns_before(n: Nest, k: u32) -> Turns
+    requires { ⌜ (Bounded n) × (k < length (instances n)) ⌝ }
+    ensures { λ r. ⌜ Turned n k r ⌝ }
+{
+    let t = turns_of(n);
+    let inner = t.inner;
+    let plane = t.middle * inner;
+    let rest = k % plane;
+    Turns {
+        outer: k / plane,
+        middle: rest / inner,
+        inner: rest % inner,
+    }
+}
+
+// The number of instances.
+pub fn instance_count(n: Nest) -> u32
+    requires { ⌜ Bounded n ⌝ }
+    ensures { λ r. ⌜ (r ≡ length (instances n)) × (0 < r) × (r ≤ 2146689) ⌝ }
+{
+    let t = turns_of(n);
+    t.outer * (t.middle * t.inner)
+}
+
+// Instance k in the written order.
+pub fn instance(n: Nest, k: u32) -> V3
+    requires { ⌜ (Bounded n) × (k < length (instances n)) ⌝ }
+    ensures { λ r. ⌜ (r ≡ getD (instances n) k zero3) × (Within 64 r) ⌝ }
+{
+    let t = turns_before(n, k);
+    V3 {
+        x: value_after(outer(n), t.outer),
+        y: value_after(middle(n), t.middle),
+        z: value_after(inner(n), t.inner),
+    }
+}
+
+// The image of instance k.
+fn image_at(n: Nest, m: Matrix, k: u32) -> V2
+    requires { ⌜ Numbered n m k ⌝ }
+    ensures { λ r. ⌜ r ≡ image m (getD (instances n) k zero3) ⌝ }
+{
+    vectors::image_of(m, instance(n, k))
+}
+
+fn smaller(a: i32, b: i32) -> i32
+    ensures { λ r. ⌜ r ≡ minZ a b ⌝ }
+{
+    if b < a { b } else { a }
+}
+
+fn greater(a: i32, b: i32) -> i32
+    ensures { λ r. ⌜ r ≡ maxZ a b ⌝ }
+{
+    if a < b { b } else { a }
+}
+
+// Widened so that it holds p.
+fn widened(e: Extent, p: V2) -> Extent
+    ensures { λ r. ⌜ boxed r ≡ widen (boxed e) p ⌝ }
+{
+    let lo = e.lo;
+    let hi = e.hi;
+    Extent {
+        lo: V2 {
+            a: smaller(lo.a, p.a),
+            b: smaller(lo.b, p.b),
+        },
+        hi: V2 {
+            a: greater(hi.a, p.a),
+            b: greater(hi.b, p.b),
+        },
+    }
+}
+
+// The smallest box around the images of all instances: the process space for place, a stream's box for its index map.
+pub fn extent_of(n: Nest, m: Matrix) -> Extent
+    requires { ⌜ (Bounded n) × (Rows 4 m) ⌝ }
+    ensures { λ r. ⌜ (boxed r ≡ boxOf n m) × (Spanning (boxed r)) ⌝ }
+{
+    let count = instance_count(n);
+    let p = image_at(n, m, 0);
+    let mut e = Extent { lo: p, hi: p };
+    let mut k: u32 = 1;
+    while k < count {
+        e = widened(e, image_at(n, m, k));
+        k += 1;
+    }
+    e
+}
+
+// The number of a box's points.
+pub fn size_of(e: Extent) -> u32
+    requires { ⌜ Spanning (boxed e) ⌝ }
+    ensures { λ r. ⌜ (r ≡ length (points (boxed e))) × (r ≤ 2362369) ⌝ }
+{
+    let lo = e.lo;
+    let hi = e.hi;
+    (distance(lo.a, hi.a) + 1) * (distance(lo.b, hi.b) + 1)
+}
+
+// The number of a point of a box in row order.
+pub fn row_number(e: Extent, p: V2) -> u32
+    requires { ⌜ (Spanning (boxed e)) × (Inside (boxed e) p) ⌝ }
+    ensures { λ r. ⌜ r ≡ rowIndex (boxed e) p ⌝ }
+{
+    let lo = e.lo;
+    let hi = e.hi;
+    distance(lo.a, p.a) * (distance(lo.b, hi.b) + 1) + distance(lo.b, p.b)
+}
+
+// The row numbers of the images of all instances, in the written order; e is the box around the images. What lies past them stays.
+pub fn fill_numbers(n: Nest, m: Matrix, e: Extent, out: &mut [u32])
+    requires { ⌜ Fillable n m e (now out) ⌝ }
+    ensures { λ r. ⌜ now (out .exit) ≡ numbersOf n m ++ drop (length (instances n)) (now (out .entry)) ⌝ }
+{
+    let count = instance_count(n);
+    let mut k: u32 = 0;
+    while k < count {
+        out[k as usize] = row_number(e, image_at(n, m, k));
+        k += 1;
+    }
+}
