@@ -1,0 +1,5 @@
+-- Ranges, as the refusals 1 to 5 leave them; tests on small words; the tests of Accept in stages; accepted descriptions.
+pub mod InRange
+pub mod Small
+pub mod Stages
+pub mod Accepted

@@ -1,0 +1,136 @@
+-- The refusals 6 to 17 in stages, each a test or two and the stage after them; lists of tests one after the other; stream by stream. Assumes
+-- nothing.
+use mathlib.Core.Path.{_≡_, refl, sym, _∙_, subst}
+use mathlib.Core.Bool.{Bool, true, false, not, cond}
+use mathlib.Core.List.{List, [], _∷_, _++_}
+use Prim.Native.Nat.{ℕ, _+_, _≤_, _<_}
+use native.Mathlib.Decide.{ℕ-discrete}
+use native.Mathlib.Numerals.{add-one}
+use native.Mathlib.Omega.{arith}
+use lib.Dec.{T, eqb}
+use lib.ListN.{length, getD, drop, drop-of-length-le}
+use lib.Seq.{drop-cons, length-take-le, getD-take}
+use borrow.Author.Tests.{eq-eqb, ltb-false}
+use Rattle.meaning.specs.declared.Limits.{Limits}
+use Rattle.meaning.specs.declared.Nest.{Nest}
+use Rattle.meaning.specs.declared.Stream.{Stream}
+use Rattle.meaning.specs.declared.Description.{Description}
+use Rattle.meaning.specs.Tests.{Test, _if_, refusal}
+use Rattle.meaning.specs.Loops.{instances}
+use Rattle.meaning.specs.Description.{descriptionOf, streamsOf, noStream, written}
+use Rattle.meaning.specs.Accept.{refused6, refused7, refused8, refused9, refused10, refused13, refused14, refused15, refused16, refused17, streamTests, testsFrom, refusalOf}
+use Rattle.decode.specs.Refusals.{firstTests, refuses, passes, passed}
+
+-- ---- the stages
+
+-- 8 to 10, and 6 to 10
+abbrev pub incrementTests : Limits → Nest → List Test
+incrementTests l n = (8 if refused8 n) ∷ (9 if refused9 n) ∷ (10 if refused10 l n) ∷ []
+
+abbrev pub layoutTests : Limits → Nest → List Test
+layoutTests l n = (6 if refused6 l n) ∷ (7 if refused7 n) ∷ incrementTests l n
+
+-- 15 to 17, and 13 to 17; 11 to 17 are `streamTests`
+abbrev pub orderTests : Nest → Bool → Stream → List Test
+orderTests n w s = (15 if refused15 w n s) ∷ (16 if refused16 n s) ∷ (17 if refused17 n s) ∷ []
+
+abbrev pub moveTests : Limits → Nest → Bool → Stream → List Test
+moveTests l n w s = (13 if refused13 n s) ∷ (14 if refused14 l n s) ∷ orderTests n w s
+
+-- 6 to 17
+abbrev pub laterTests : Limits → Description → List Test
+laterTests l d = layoutTests l (d .nest) ++ testsFrom l d 0 (streamsOf d)
+
+-- all, after those of the bytes
+pub all-tests : (l : Limits) (s : List ℕ) → refusal (firstTests s ++ laterTests l (descriptionOf s)) ≡ refusalOf l s
+unfolding descriptionOf refusalOf
+all-tests l s = refl
+
+-- the instances are within the limit
+pub few : (l : Limits) (n : Nest) → refusal (layoutTests l n) ≡ 0 → length (instances n) ≤ l .instances
+few l n e = ltb-false (l .instances) (length (instances n)) (passed 6 (refused6 l n) _ (λ g. omega arith) e .0)
+
+-- a stage, from what a call ensures of its flag f: a test that applies, and one that does not
+pub applies : (n : ℕ) {f b : Bool} (l : List Test) → f ≡ b → f ≡ true → n ≡ refusal ((n if b) ∷ l)
+applies n l e t = refuses n l (sym e ∙ t)
+
+pub skips : {r : ℕ} (n : ℕ) {f b : Bool} (l : List Test) → f ≡ b → f ≡ false → r ≡ refusal l → r ≡ refusal ((n if b) ∷ l)
+skips n l e t h = passes n l (sym e ∙ t) h
+
+-- ---- one list of tests after another
+
+-- no test has the number 0
+unfoldable pub numbered : List Test → Bool
+numbered [] = true
+numbered (t ∷ l) = cond (eqb (t .number) 0) false (numbered l)
+
+none-applies : (a b : List Test) → T (numbered a) → refusal a ≡ 0 → refusal b ≡ refusal (a ++ b)
+unfolding refusal numbered
+none-applies [] b h e = refl
+none-applies (t ∷ a) b h e = go (t .applies) (eqb (t .number) 0) (eq-eqb (t .number) 0) h e (none-applies a b)
+  where
+    go : (p z : Bool) → (t .number ≡ 0 → z ≡ true) → T (cond z false (numbered a)) → cond p (t .number) (refusal a) ≡ 0
+        → (T (numbered a) → refusal a ≡ 0 → refusal b ≡ refusal (a ++ b)) → refusal b ≡ cond p (t .number) (refusal (a ++ b))
+    go p true f h e ih = absurd h
+    go true false f h e ih = absurd (subst (λ (x : Bool). T (not x)) (f e) tt)
+    go false false f h e ih = ih h e
+
+one-applies : (a b : List Test) → (refusal a ≡ 0 → ⊥) → refusal a ≡ refusal (a ++ b)
+unfolding refusal
+one-applies [] b f = absurd (f refl)
+one-applies (t ∷ a) b f = go (t .applies) f (one-applies a b)
+  where
+    go : (p : Bool) → (cond p (t .number) (refusal a) ≡ 0 → ⊥) → ((refusal a ≡ 0 → ⊥) → refusal a ≡ refusal (a ++ b))
+        → cond p (t .number) (refusal a) ≡ cond p (t .number) (refusal (a ++ b))
+    go true f ih = refl
+    go false f ih = ih f
+
+-- from what a call ensures of its answer q: none of the first list applies, or one does
+pub goes-on : {q r : ℕ} (a b : List Test) → T (numbered a) → q ≡ refusal a → q ≡ 0 → r ≡ refusal b → r ≡ refusal (a ++ b)
+goes-on a b t e z h = h ∙ none-applies a b t (sym e ∙ z)
+
+pub stops : {q : ℕ} (a b : List Test) → q ≡ refusal a → (q ≡ 0 → ⊥) → q ≡ refusal (a ++ b)
+stops a b e f = e ∙ one-applies a b (λ z. f (e ∙ z))
+
+-- none of both applies
+pub both-pass : (a b : List Test) → T (numbered a) → refusal (a ++ b) ≡ 0 → (refusal a ≡ 0) × (refusal b ≡ 0)
+both-pass a b t e = let z = first (ℕ-discrete (refusal a) 0) in (z, none-applies a b t z ∙ e)
+  where
+    first : Dec (refusal a ≡ 0) → refusal a ≡ 0
+    first (yes z) = z
+    first (no f) = one-applies a b f ∙ e
+
+-- ---- stream by stream
+
+-- the refusal of the streams from i on, of a description that holds six
+module _ (l : Limits) (d : Description) where
+  abbrev pub from : ℕ → ℕ
+  from i = refusal (testsFrom l d i (drop i (streamsOf d)))
+
+  module _ (few : d .sizes .streams ≤ 6) (all : length (d .streams) ≡ 6) where
+    in-use : length (streamsOf d) ≡ d .sizes .streams
+    in-use = length-take-le (d .sizes .streams) (d .streams) (omega arith)
+
+    pub streams-end : (i : ℕ) → d .sizes .streams ≤ i → 0 ≡ from i
+    unfolding testsFrom refusal
+    streams-end i h = let k : length (streamsOf d) ≤ i = omega (arith, in-use) in rw (drop-of-length-le (streamsOf d) k)
+
+    module _ (i : ℕ) (h : i < d .sizes .streams) {s : Stream} (e : s ≡ getD (d .streams) i noStream) where
+      tests : List Test
+      tests = streamTests l (d .nest) (written d i) s
+
+      split : refusal (tests ++ testsFrom l d (i + 1) (drop (i + 1) (streamsOf d))) ≡ from i
+      unfolding testsFrom tests
+      split =
+          let k : i < length (streamsOf d) = omega (arith, in-use) in
+          let at : s ≡ getD (streamsOf d) i noStream = e ∙ sym (getD-take (d .sizes .streams) (d .streams) i noStream h) in
+          rw (at, add-one i, drop-cons (streamsOf d) i noStream k)
+
+      -- one stream is passed, or refused
+      pub stream-passed : {r : ℕ} → r ≡ refusal (streamTests l (d .nest) (written d i) s) → r ≡ 0 → from (i + 1) ≡ from i
+      unfolding numbered tests
+      stream-passed g z = goes-on tests (testsFrom l d (i + 1) (drop (i + 1) (streamsOf d))) tt g z refl ∙ split
+
+      pub stream-refused : {r : ℕ} → r ≡ refusal (streamTests l (d .nest) (written d i) s) → (r ≡ 0 → ⊥) → r ≡ from i
+      unfolding tests
+      stream-refused g f = stops tests (testsFrom l d (i + 1) (drop (i + 1) (streamsOf d))) g f ∙ split
