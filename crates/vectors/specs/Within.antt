@@ -2,8 +2,7 @@
 use Prim.Native.Nat.{ℕ}
 use lib.Dec.{T, leb}
 use Rattle.integers.specs.Differences.{Abs}
-use Rattle.integers.specs.Bounds.{Abs-wider, Abs-quot, Abs-neg}
-use Rattle.integers.specs.Vectors.{neg3}
+use Rattle.integers.specs.Bounds.{Abs-wider, Abs-quot}
 use Rattle.integers.specs.declared.V3.{V3}
 use Rattle.integers.specs.declared.V2.{V2}
 use Rattle.integers.specs.declared.Matrix.{Matrix}
@@ -26,9 +25,6 @@ pub record Rows (n : ℕ) (m : Matrix) : Type 0 where
 pub wider : {v : V3} {m n : ℕ} → T (leb m n) → Within m v → Within n v
 wider t h = record { xs = Abs-wider t (h .xs); ys = Abs-wider t (h .ys); zs = Abs-wider t (h .zs) }
 
--- a divided vector is no longer, and a negated one as long
+-- a divided vector is no longer
 pub over-within : {v : V3} {n : ℕ} (d : ℕ) → Within n v → Within n (over v d)
 over-within d h = record { xs = Abs-quot d (h .xs); ys = Abs-quot d (h .ys); zs = Abs-quot d (h .zs) }
-
-pub neg-within : {v : V3} {n : ℕ} → Within n v → Within n (neg3 v)
-neg-within h = record { xs = Abs-neg (h .xs); ys = Abs-neg (h .ys); zs = Abs-neg (h .zs) }
