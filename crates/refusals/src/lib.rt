@@ -15,6 +15,7 @@ ghost use Rattle.integers.specs.Differences.{Abs};
 ghost use Rattle.integers.specs.Words.{eqZ};
 ghost use Rattle.integers.specs.Vectors.{zero2};
 ghost use Rattle.meaning.specs.Tests.{refusal};
+ghost use Rattle.meaning.specs.Limits.{gaugeLimits};
 ghost use Rattle.meaning.specs.Description.{streamsOf};
 ghost use Rattle.meaning.specs.Loops.{instances, stepOf, placeOf, lineOf};
 ghost use Rattle.meaning.specs.Space.{eq2};
@@ -360,8 +361,8 @@ fn later_refusal(d: Description, limits: Limits) -> u32
     }
 }
 
-// The refusal of a description by its number, 0 if it is accepted; the limit of instances may not exceed the places of the table.
-pub fn refusal_of(s: &[u8], limits: Limits) -> u32
+// The refusal of a description under some limits, 0 if it is accepted; the limit of instances may not exceed the places of the table.
+fn refusal_within(s: &[u8], limits: Limits) -> u32
     requires { ⌜ limits .instances ≤ 4096 ⌝ }
     ensures { λ r. ⌜ r ≡ refusalOf limits (now (s .entry)) ⌝ }
 {
@@ -371,4 +372,11 @@ pub fn refusal_of(s: &[u8], limits: Limits) -> u32
     } else {
         r
     }
+}
+
+// The refusal of a description by its number, 0 if it is accepted.
+pub fn refusal_of(s: &[u8]) -> u32
+    ensures { λ r. ⌜ r ≡ refusalOf gaugeLimits (now (s .entry)) ⌝ }
+{
+    refusal_within(s, meaning::gauge())
 }

@@ -1,42 +1,23 @@
--- `refusals::refusal_of` meets its contract. Assumes nothing.
-use mathlib.Core.Path.{sym, _∙_}
+-- `refusals::refusal_of` meets its contract: the gauge's limits are within the places of the table. Assumes nothing.
+use mathlib.Core.Path.{ap, _∙_}
 use denote.Ref.{now}
-use Rattle.meaning.specs.Description.{descriptionOf}
-use Rattle.decode.specs.Refusals.{firstTests}
-use Rattle.decode.specs.Ranged.{decoded}
-use Rattle.refusals.specs.Stages.{laterTests, all-tests, numbered, goes-on, stops}
+use native.Mathlib.Omega.{arith}
+use Rattle.meaning.specs.declared.Limits.{Limits}
+use Rattle.meaning.specs.Accept.{refusalOf}
 use borrow.Author.Needs.{needs}
 use Rattle.refusals.proofs.refusal_of.Statement.{statement}
 use Rattle.refusals.proofs.refusal_of.Tie as tie
 
-refusal-requires : tie.Need-refusal-requires
-refusal-requires c κs = search needs
+gauge-requires : tie.Need-gauge-requires
+gauge-requires c κs = search needs
 
-description-requires : tie.Need-description-requires
-description-requires c κs = decoded _ (sym (c .before .refusal .ensures) ∙ c .if1 .taken) .sized
-
-later-refusal-requires : tie.Need-later-refusal-requires
-later-refusal-requires c κs =
-    let b = c .before .before in
-    let a = b .before .before in
-    (rw (← c .description .ensures) at (decoded (now (a .args .s)) (sym (b .refusal .ensures) ∙ c .before .if1 .taken) .ranged), a .pre)
+refusal-within-requires : tie.Need-refusal-within-requires
+refusal-within-requires c κs = omega (arith, ap (λ (l : Limits). l .instances) (c .gauge .ensures))
 
 returns : tie.Need-returns
-unfolding numbered
 returns c =
-    let b = c .before .before in
-    let a = b .before .before .before .args in
-    let s = now (a .s) in
-    goes-on (firstTests s) (laterTests (a .limits) (descriptionOf s)) tt (b .before .refusal .ensures) (b .if1 .taken)
-    (rw (c .before .description .ensures) at (c .later-refusal .ensures))
-    ∙ all-tests (a .limits) s
-
-returns-2 : tie.Need-returns-2
-returns-2 c =
-    let a = c .before .before .before .args in
-    let s = now (a .s) in
-    stops (firstTests s) (laterTests (a .limits) (descriptionOf s)) (c .before .refusal .ensures) (c .if1 .left) ∙ all-tests (a .limits) s
+    let s = now (c .before .before .before .args .s) in
+    c .refusal-within .ensures ∙ ap (λ (l : Limits). refusalOf l s) (c .before .gauge .ensures)
 
 pub refusal-of-spec : {M : Type 1} → statement M
-refusal-of-spec =
-    tie.close (tie.spec refusal-requires description-requires later-refusal-requires returns returns-2)
+refusal-of-spec = tie.close (tie.spec gauge-requires refusal-within-requires returns)
