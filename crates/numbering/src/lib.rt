@@ -48,7 +48,7 @@ pub struct Extent {
 }
 
 // How far b lies above a.
-fn distance(a: i32, b: i32) -> u32
+pub fn distance(a: i32, b: i32) -> u32
     requires { ⌜ Apart a b ⌝ }
     ensures { λ r. ⌜ (r ≡ up (b -ℤ a)) × (r ≤ 1536) ⌝ }
 {

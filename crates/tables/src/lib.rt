@@ -37,7 +37,7 @@ pub fn fill_steps(n: Nest, out: &mut [i32])
 }
 
 // Zero for each of the points.
-fn clear(points: u32, out: &mut [u32])
+pub fn clear(points: u32, out: &mut [u32])
     requires { ⌜ points ≤ length (now out) ⌝ }
     ensures { λ r. ⌜ now (out .exit) ≡ fillBy (λ p. 0) points (now (out .entry)) ⌝ }
 {

@@ -1,0 +1,37 @@
+-- `accept::joined` meets its contract. Assumes nothing.
+use borrow.Author.Needs.{needs}
+use Prim.Native.Nat.{ℕ, _*_, _+_, _≤_}
+use native.Mathlib.Nat.{mul-le-mul}
+use native.Mathlib.Omega.{arith}
+use Rattle.accept.proofs.joined.Statement.{statement}
+use Rattle.accept.proofs.joined.Tie as tie
+
+most : {a h : ℕ} → a ≤ 1024 → h ≤ 8 → a * (2 + h) ≤ 10240
+most p q = mul-le-mul {n₂ = 1024} {m₂ = 10} p (omega arith)
+
+add-t3 : tie.Need-add-t3
+add-t3 c = search needs
+
+add-t4 : tie.Need-add-t4
+add-t4 c = search needs
+
+add-t5 : tie.Need-add-t5
+add-t5 c = search needs
+
+add-t6 : tie.Need-add-t6
+add-t6 c = search needs
+
+mul-t7 : tie.Need-mul-t7
+mul-t7 c = let p = c .before .before .before .before .before .before .pre in record { fits = omega (arith, most (p .1 .pipes) (p .1 .hop)) }
+
+add-t8 : tie.Need-add-t8
+add-t8 c = let p = c .before .before .before .before .before .before .before .pre in record { fits = omega (arith, most (p .1 .pipes) (p .1 .hop), p .0 .ends) }
+
+add-t9 : tie.Need-add-t9
+add-t9 c = search needs
+
+returns : tie.Need-returns
+returns c = search needs
+
+pub joined-spec : {M : Type 1} → statement M
+joined-spec = tie.close (tie.spec add-t3 add-t4 add-t5 add-t6 mul-t7 add-t8 add-t9 returns)

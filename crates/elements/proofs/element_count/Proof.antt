@@ -1,0 +1,23 @@
+-- `elements::element_count` meets its contract. Assumes nothing.
+use mathlib.Core.Path.{_≡_, _∙_}
+use native.Mathlib.Omega.{arith}
+use lib.ListN.{length, length-map}
+use Rattle.elements.specs.Counts.{start-most, start-all}
+use borrow.Author.Needs.{needs}
+use Rattle.elements.proofs.element_count.Statement.{statement}
+use Rattle.elements.proofs.element_count.Tie as tie
+
+elements-in-requires : tie.Need-elements-in-requires
+elements-in-requires c κs = search needs
+
+returns : tie.Need-returns
+returns c =
+    let a = c .before in
+    let d = a .args .d in
+    let six : length (d .streams) ≡ 6 = rw length-map at (a .good .0 .1 .1 .1 .1 .0 .1 .0 .1) in (
+      c .elements-in .ensures ∙ start-all d six (a .pre),
+      omega (arith, c .elements-in .ensures, start-most d six (a .pre) (d .sizes .streams) (omega arith), a .pre .ranged .sized .most-streams),
+    )
+
+pub element-count-spec : {M : Type 1} → statement M
+element-count-spec = tie.close (tie.spec elements-in-requires returns)

@@ -1,0 +1,77 @@
+-- `layout::fill_processes` meets its contract. Assumes nothing.
+use native.Mathlib.Omega.{arith}
+use borrow.Author.Needs.{needs}
+use Rattle.tables.specs.Tables.{filled-steps, table-listed}
+use Rattle.layout.specs.Ends.{process-table, steps-long, ends-are}
+use Rattle.layout.proofs.fill_processes.Statement.{statement}
+use Rattle.layout.proofs.fill_processes.Tie as tie
+
+extent-of-requires : tie.Need-extent-of-requires
+extent-of-requires c κs = search needs
+
+size-of-requires : tie.Need-size-of-requires
+size-of-requires c κs = search needs
+
+instance-count-requires : tie.Need-instance-count-requires
+instance-count-requires c κs = search needs
+
+slice-aggregate-fill-numbers : tie.Need-slice-aggregate-fill-numbers
+slice-aggregate-fill-numbers c = search needs
+
+fill-numbers-requires : tie.Need-fill-numbers-requires
+fill-numbers-requires c κs = search needs
+
+slice-aggregate-fill-steps : tie.Need-slice-aggregate-fill-steps
+slice-aggregate-fill-steps c = search needs
+
+fill-steps-requires : tie.Need-fill-steps-requires
+fill-steps-requires c κs = search needs
+
+slice-aggregate-fill-ends : tie.Need-slice-aggregate-fill-ends
+slice-aggregate-fill-ends c = search needs
+
+slice-aggregate-fill-ends-2 : tie.Need-slice-aggregate-fill-ends-2
+slice-aggregate-fill-ends-2 c = search needs
+
+fill-ends-requires : tie.Need-fill-ends-requires
+fill-ends-requires c κs =
+    let f = c .before .before .before .before .before .before .before in
+    let s = f .before .before .before .before .before .before .before in
+    let i = f .before .before in
+    let t = process-table _ (f .fill-numbers .ensures) (i .instance-count .ensures .0) (i .before .size-of .ensures .0) (i .before .before .extent-of .ensures .0) in
+    record {
+      table = table-listed (s .pre .0 .directed) t;
+      timed = steps-long (s .args .n) _ (c .before .before .before .before .fill-steps .ensures) (i .instance-count .ensures .0);
+      few = omega (arith, t .sized, s .pre .2);
+      words = s .pre .3;
+    }
+
+same-length : tie.Need-same-length
+same-length c = search needs
+
+returns : tie.Need-returns
+returns c =
+    let g = c .before .before .before .before .before .before .before in
+    let f = g .before .before .before in
+    let s = f .before .before .before .before .before .before .before in
+    let i = f .before .before in
+    ends-are (s .pre .0 .directed)
+    (process-table _ (f .fill-numbers .ensures) (i .instance-count .ensures .0) (i .before .size-of .ensures .0) (i .before .before .extent-of .ensures .0))
+    (filled-steps _ (g .fill-steps .ensures)) (c .before .before .fill-ends .ensures)
+
+pub fill-processes-spec : {M : Type 1} → statement M
+fill-processes-spec =
+    tie.close
+    (tie.spec
+    extent-of-requires
+    size-of-requires
+    instance-count-requires
+    slice-aggregate-fill-numbers
+    fill-numbers-requires
+    slice-aggregate-fill-steps
+    fill-steps-requires
+    slice-aggregate-fill-ends
+    slice-aggregate-fill-ends-2
+    fill-ends-requires
+    same-length
+    returns)

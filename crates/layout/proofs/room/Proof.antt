@@ -1,0 +1,67 @@
+-- `layout::room` meets its contract. Assumes nothing.
+use mathlib.Core.Path.{refl, sym, _∙_, ap₂}
+use Prim.Native.Nat.{_/_}
+use native.Mathlib.Omega.{arith}
+use borrow.Author.Needs.{needs}
+use borrow.Author.Tests.{eq-eqb, ne-eqb}
+use Rattle.integers.specs.Words.{at, less-of, not-less-of}
+use Rattle.numbering.specs.Ranges.{apart-words, words-up}
+use Rattle.layout.specs.Rays.{room-free, room-down, room-up, some-step, step-test, step-size}
+use Rattle.layout.proofs.room.Statement.{statement}
+use Rattle.layout.proofs.room.Tie as tie
+
+returns : tie.Need-returns
+returns c =
+    let s = c .before .before .before in room-free (s .args .r) (sym (step-test (s .pre .by)) ∙ eq-eqb _ _ (c .if1 .taken))
+
+magnitude-requires : tie.Need-magnitude-requires
+magnitude-requires c κs = search needs
+
+distance-requires : tie.Need-distance-requires
+distance-requires c κs = apart-words (c .before .before .before .before .before .before .before .before .before .before .pre .low)
+
+div-result : tie.Need-div-result
+div-result c =
+    let m = c .before .before .before .before .before .before in
+    let i = m .before .before in
+    let s = i .before .before .before in
+    omega (arith, step-size (s .pre .by) (m .magnitude .ensures), some-step (s .args .r .by) (sym (step-test (s .pre .by)) ∙ ne-eqb _ _ (i .if1 .left)))
+
+distance-requires-2 : tie.Need-distance-requires-2
+distance-requires-2 c κs = apart-words (c .before .before .before .before .before .before .before .before .before .before .pre .high)
+
+div-result-2 : tie.Need-div-result-2
+div-result-2 c =
+    let m = c .before .before .before .before .before .before in
+    let i = m .before .before in
+    let s = i .before .before .before in
+    omega (arith, step-size (s .pre .by) (m .magnitude .ensures), some-step (s .args .r .by) (sym (step-test (s .pre .by)) ∙ ne-eqb _ _ (i .if1 .left)))
+
+returns-2 : tie.Need-returns-2
+returns-2 c =
+    let m = c .before .before .before .before .before .before in
+    let s = m .before .before .before .before .before in
+    ap₂ _/_ (words-up (s .pre .low) (c .distance .ensures .0)) (step-size (s .pre .by) (m .magnitude .ensures))
+    ∙ room-down (s .args .r) (less-of (at tt (s .pre .by) .eq) refl (c .before .before .before .if2 .taken))
+
+returns-3 : tie.Need-returns-3
+returns-3 c =
+    let m = c .before .before .before .before .before .before in
+    let i = m .before .before in
+    let s = i .before .before .before in
+    ap₂ _/_ (words-up (s .pre .high) (c .distance2 .ensures .0)) (step-size (s .pre .by) (m .magnitude .ensures))
+    ∙ room-up (s .args .r) (sym (step-test (s .pre .by)) ∙ ne-eqb _ _ (i .if1 .left))
+    (not-less-of (at tt (s .pre .by) .eq) refl (c .before .before .before .if2 .left))
+
+pub room-spec : {M : Type 1} → statement M
+room-spec =
+    tie.close
+    (tie.spec
+    returns
+    magnitude-requires
+    distance-requires
+    div-result
+    distance-requires-2
+    div-result-2
+    returns-2
+    returns-3)

@@ -1,0 +1,5 @@
+-- How far one can go on in a box; points by number; what the words say of the processes.
+pub mod Rays
+pub mod Points
+pub mod Parts
+pub mod Ends

@@ -1,0 +1,138 @@
+// Points and processes by number: the point of a row number, how far one can go on from a point in a box, and of each process its count, its
+// first and its last instance.
+//
+// specs/, by file:
+//
+//   Rays      how often one can go on is the least that either coordinate allows
+//   Points    the point of a row number; points moved on
+//   Parts     what stands where a part of a list was replaced
+//   Ends      what the words say of the processes: `Ends`
+ghost use mathlib.Core.Path.{_≡_};
+ghost use Prim.Native.Nat.{_≤_, _<_};
+ghost use lib.IntN.{pos};
+ghost use lib.ListN.{length, getD};
+ghost use Rattle.integers.specs.Vectors.{zero2, shift2};
+ghost use Rattle.meaning.specs.Loops.{instances};
+ghost use Rattle.meaning.specs.Space.{points, processes};
+ghost use Rattle.meaning.specs.Pipes.{reach};
+ghost use Rattle.vectors.specs.Within.{Within2};
+ghost use Rattle.numbering.specs.Ranges.{Bounded};
+ghost use Rattle.numbering.specs.Extents.{Spanning, boxed};
+ghost use Rattle.layout.specs.Rays.{roomOf, Along, firstRay, secondRay, Going};
+ghost use Rattle.layout.specs.Ends.{Sweepable, Swept, Ends};
+use integers::V2;
+use meaning::Nest;
+use numbering::Extent;
+
+// One coordinate of a box, of a point in it and of the way on from there.
+struct Ray {
+    lo: i32,
+    hi: i32,
+    at: i32,
+    by: i32,
+}
+
+fn first_ray(e: Extent, d: V2, p: V2) -> Ray
+    requires { ⌜ Going (boxed e) d p ⌝ }
+    ensures { λ r. ⌜ r ≡ firstRay (boxed e) d p ⌝ }
+{
+    let lo = e.lo;
+    let hi = e.hi;
+    Ray {
+        lo: lo.a,
+        hi: hi.a,
+        at: p.a,
+        by: d.a,
+    }
+}
+
+fn second_ray(e: Extent, d: V2, p: V2) -> Ray
+    requires { ⌜ Going (boxed e) d p ⌝ }
+    ensures { λ r. ⌜ r ≡ secondRay (boxed e) d p ⌝ }
+{
+    let lo = e.lo;
+    let hi = e.hi;
+    Ray {
+        lo: lo.b,
+        hi: hi.b,
+        at: p.b,
+        by: d.b,
+    }
+}
+
+// How often one coordinate allows to go on; 4,096 where it does not change, more than any box is wide.
+fn room(r: Ray) -> u32
+    requires { ⌜ Along r ⌝ }
+    ensures { λ r′. ⌜ r′ ≡ roomOf r ⌝ }
+{
+    if r.by == 0 {
+        return 4096;
+    }
+    let steps = integers::magnitude(r.by);
+    if r.by < 0 {
+        numbering::distance(r.lo, r.at) / steps
+    } else {
+        numbering::distance(r.at, r.hi) / steps
+    }
+}
+
+// How often one can go on from p by d without leaving a box.
+pub fn reach_of(e: Extent, d: V2, p: V2) -> u32
+    requires { ⌜ Going (boxed e) d p ⌝ }
+    ensures { λ r. ⌜ (r ≡ reach (boxed e) d p) × (r ≤ 1536) ⌝ }
+{
+    let a = room(first_ray(e, d, p));
+    let b = room(second_ray(e, d, p));
+    if a < b { a } else { b }
+}
+
+// The point that lies k times d on from p.
+pub fn moved(p: V2, d: V2, k: u32) -> V2
+    requires { ⌜ (Within2 768 p) × (Within2 1 d) × (k ≤ 1536) ⌝ }
+    ensures { λ r. ⌜ r ≡ shift2 p (pos k) d ⌝ }
+{
+    V2 {
+        a: p.a + k as i32 * d.a,
+        b: p.b + k as i32 * d.b,
+    }
+}
+
+// The point of a row number.
+pub fn point_at(e: Extent, p: u32) -> V2
+    requires { ⌜ (Spanning (boxed e)) × (p < length (points (boxed e))) ⌝ }
+    ensures { λ r. ⌜ r ≡ getD (points (boxed e)) p zero2 ⌝ }
+{
+    let lo = e.lo;
+    let hi = e.hi;
+    let columns = numbering::distance(lo.b, hi.b) + 1;
+    V2 {
+        a: lo.a + (p / columns) as i32,
+        b: lo.b + (p % columns) as i32,
+    }
+}
+
+// The counts, the first and the last instances, from the numbers of the instances' processes and their steps.
+fn fill_ends(numbers: &[u32], count: u32, steps: &[i32], processes: u32, ends: &mut [u32])
+    requires { ⌜ Sweepable (now numbers) count (now steps) processes (now ends) ⌝ }
+    ensures { λ r. ⌜ Swept (now (numbers .entry)) count (now (steps .entry)) processes (now (ends .exit)) ⌝ }
+{
+    tables::fill_counts(numbers, count, processes, &mut ends[0..1024]);
+    tables::fill_firsts(numbers, count, steps, processes, &mut ends[1024..2048]);
+    tables::fill_lasts(numbers, count, steps, processes, &mut ends[2048..3072]);
+}
+
+// Of each process its count, its first and its last instance.
+pub fn fill_processes(n: Nest, ends: &mut [u32])
+    requires { ⌜ (Bounded n) × (length (instances n) ≤ 4096) × (length (processes n) ≤ 1024) × (length (now ends) ≡ 3072) ⌝ }
+    ensures { λ r. ⌜ Ends n (now (ends .exit)) ⌝ }
+{
+    let place = n.place;
+    let space = numbering::extent_of(n, place);
+    let processes = numbering::size_of(space);
+    let count = numbering::instance_count(n);
+    let mut numbers = [0u32; 4096];
+    numbering::fill_numbers(n, place, space, &mut numbers);
+    let mut steps = [0i32; 4096];
+    tables::fill_steps(n, &mut steps);
+    fill_ends(&numbers, count, &steps, processes, ends);
+}

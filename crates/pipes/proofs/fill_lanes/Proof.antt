@@ -1,0 +1,117 @@
+-- `pipes::fill_lanes` meets its contract. Assumes nothing.
+use mathlib.Core.Path.{_≡_, ap, subst}
+use mathlib.Core.Bool.{not}
+use Prim.Native.Nat.{ℕ, _≤_, _-_}
+use native.Mathlib.Omega.{arith}
+use lib.Dec.{eqb}
+use borrow.Author.Needs.{needs}
+use Rattle.pipes.specs.Lanes.{Lanes, lanes-start, lanes-step, cleared-at, cleared-length, held-le}
+use Rattle.pipes.specs.Held.{entryNumber, computes}
+use Rattle.pipes.proofs.fill_lanes.Statement.{statement}
+use Rattle.pipes.proofs.fill_lanes.Tie as tie
+
+abbrev Inv-loop : tie.InvT-loop
+Inv-loop f processes ends lanes₀ p₀ lanes p =
+    (p ≤ processes) × (Lanes (entryNumber (f .nest) (f .stream)) (computes (f .nest)) processes p lanes)
+
+abbrev μ-loop : tie.MeasureT-loop
+μ-loop f processes ends lanes₀ p₀ lanes p = processes - p
+
+clear-requires : tie.Need-clear-requires Inv-loop μ-loop
+clear-requires c κs = omega (arith, c .before .before .before .pre .words)
+
+loop-holds : tie.Need-loop-holds Inv-loop μ-loop
+loop-holds c =
+    let s = c .before .before .before .before .before .before in
+    let e = c .before .before .clear .ensures in (
+      omega arith,
+      lanes-start _ _ (s .args .processes) _ (omega (arith, s .pre .counted, s .pre .flows .laid .processes))
+          (cleared-length _ e (s .pre .words)) (cleared-at _ e (s .pre .words)),
+    )
+
+entry-number-requires : tie.Need-entry-number-requires Inv-loop μ-loop
+entry-number-requires c κs = let p = c .before .before .before .before .before .before .before .before .pre in (p .flows, omega (arith, p .counted))
+
+cast-visit : tie.Need-cast-visit Inv-loop μ-loop
+cast-visit c = search needs
+
+cast-visit-2 : tie.Need-cast-visit-2 Inv-loop μ-loop
+cast-visit-2 c = search needs
+
+cast-visit-3 : tie.Need-cast-visit-3 Inv-loop μ-loop
+cast-visit-3 c = search needs
+
+mul-visit : tie.Need-mul-visit Inv-loop μ-loop
+mul-visit c = search needs
+
+shared-slice-read-visit : tie.Need-shared-slice-read-visit Inv-loop μ-loop
+shared-slice-read-visit c = let p = c .before .before .before .before .before .before .before .before .before .before .before .pre in omega (arith, p .counted, p .flows .laid .processes, p .long)
+
+visit-requires : tie.Need-visit-requires Inv-loop μ-loop
+visit-requires c κs =
+    let s = c .before .before .before .before .before .before .before .before .before .before .before in
+    let p = s .pre in
+    let v = c .before .before .before .before .loop .inv .1 in
+    let e = c .before .before .entry-number in
+    let few = p .flows .laid .processes in
+    record {
+      words = v .words;
+      process = omega (arith, p .counted);
+      entry = omega (arith, e .ensures .1);
+      held = omega (arith, v .held (e .result) (omega (arith, e .ensures .1, p .counted)), held-le (entryNumber (s .args .f .nest) (s .args .f .stream)) (computes (s .args .f .nest)) (c .before .before .before .before .loop .p) (e .result), p .counted);
+    }
+
+add-p : tie.Need-add-p Inv-loop μ-loop
+add-p c = search needs
+
+loop-less : tie.Need-loop-less Inv-loop μ-loop
+loop-less c = search needs
+
+loop-again : tie.Need-loop-again Inv-loop μ-loop
+loop-again c =
+    let s = c .before .before .before .before .before .before .before .before .before .before .before .before .before .before in
+    let l = c .before .before .before .before .before .before .before .loop in
+    let e = c .before .before .before .before .before .entry-number in
+    let t = c .before .before .before .before .before .before .loop-test .taken in (
+      omega (arith, t),
+      lanes-step _ _ (omega (arith, s .pre .counted, s .pre .flows .laid .processes)) (omega (arith, t)) (l .inv .1) (e .result) (e .ensures .0)
+          (omega (arith, e .ensures .1, s .pre .counted)) _ (ap (λ (k : ℕ). not (eqb k 0)) (s .pre .of-ends .counts (l .p) (omega (arith, s .pre .counted, t)))) (c .before .before .visit .ensures),
+    )
+
+same-length : tie.Need-same-length Inv-loop μ-loop
+same-length c = omega (arith, c .before .loop .inv .1 .words, c .before .before .before .before .before .before .before .before .pre .words)
+
+returns : tie.Need-returns Inv-loop μ-loop
+returns c =
+    let s = c .before .before .before .before .before .before .before .before in
+    let l = c .before .loop in
+    let e : l .p ≡ s .args .processes = omega (arith, c .loop-test .left, l .inv .0) in
+    let E = entryNumber (s .args .f .nest) (s .args .f .stream) in
+    let C = computes (s .args .f .nest) in
+    record {
+      flows = s .pre .flows;
+      of-ends = s .pre .of-ends;
+      long = s .pre .long;
+      of-lanes = subst (λ (k : ℕ). Lanes E C k k (l .lanes)) (s .pre .counted) (subst (λ (k : ℕ). Lanes E C (s .args .processes) k (l .lanes)) e (l .inv .1));
+    }
+
+pub fill-lanes-spec : {M : Type 1} → statement M
+fill-lanes-spec =
+    tie.close
+    (tie.spec
+    Inv-loop
+    μ-loop
+    clear-requires
+    loop-holds
+    entry-number-requires
+    cast-visit
+    cast-visit-2
+    cast-visit-3
+    mul-visit
+    shared-slice-read-visit
+    visit-requires
+    add-p
+    loop-less
+    loop-again
+    same-length
+    returns)

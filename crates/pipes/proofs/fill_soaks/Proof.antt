@@ -1,0 +1,69 @@
+-- `pipes::fill_soaks` meets its contract. Assumes nothing.
+use mathlib.Core.Path.{_≡_, refl, sym}
+use Prim.Native.Nat.{_≤_, _-_}
+use native.Mathlib.Omega.{arith}
+use lib.ListN.{length, length-set}
+use borrow.Author.Needs.{needs}
+use Rattle.integers.specs.Fill.{fillBy, fill-zero, fill-step, fill-done}
+use Rattle.meaning.specs.Array.{rowSoak}
+use Rattle.layout.specs.Ends.{processOf}
+use Rattle.pipes.proofs.fill_soaks.Statement.{statement}
+use Rattle.pipes.proofs.fill_soaks.Tie as tie
+
+abbrev Inv-loop : tie.InvT-loop
+Inv-loop f processes ends lanes out₀ p₀ out p =
+    (p ≤ processes) × (length out ≡ length out₀) × (out ≡ fillBy (λ q. rowSoak (f .nest) (f .stream) (processOf (f .nest) q)) p out₀)
+
+abbrev μ-loop : tie.MeasureT-loop
+μ-loop f processes ends lanes out₀ p₀ out p = processes - p
+
+loop-holds : tie.Need-loop-holds Inv-loop μ-loop
+loop-holds c = (omega arith, refl, sym (fill-zero _ _))
+
+cast-soak-of : tie.Need-cast-soak-of Inv-loop μ-loop
+cast-soak-of c = search needs
+
+soak-of-requires : tie.Need-soak-of-requires Inv-loop μ-loop
+soak-of-requires c κs = let p = c .before .before .before .before .before .pre in record { seen = p .seen; lt = omega (arith, p .counted) }
+
+cast-out : tie.Need-cast-out Inv-loop μ-loop
+cast-out c = search needs
+
+mul-out : tie.Need-mul-out Inv-loop μ-loop
+mul-out c = search needs
+
+slice-write-out : tie.Need-slice-write-out Inv-loop μ-loop
+slice-write-out c = omega (arith, c .before .before .loop .inv .1, c .before .before .before .before .before .before .pre .room)
+
+add-p : tie.Need-add-p Inv-loop μ-loop
+add-p c = search needs
+
+loop-less : tie.Need-loop-less Inv-loop μ-loop
+loop-less c = search needs
+
+loop-again : tie.Need-loop-again Inv-loop μ-loop
+loop-again c = let v = c .before .before .loop .inv in (omega arith, simp length-set (v .1), rw (fill-step, v .2, c .soak-of .ensures))
+
+same-length : tie.Need-same-length Inv-loop μ-loop
+same-length c = search needs
+
+returns : tie.Need-returns Inv-loop μ-loop
+returns c = fill-done _ _ _ _ (c .before .loop .inv .2) (omega arith)
+
+pub fill-soaks-spec : {M : Type 1} → statement M
+fill-soaks-spec =
+    tie.close
+    (tie.spec
+    Inv-loop
+    μ-loop
+    loop-holds
+    cast-soak-of
+    soak-of-requires
+    cast-out
+    mul-out
+    slice-write-out
+    add-p
+    loop-less
+    loop-again
+    same-length
+    returns)

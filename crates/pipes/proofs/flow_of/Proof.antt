@@ -1,0 +1,83 @@
+-- `pipes::flow_of` meets its contract. Assumes nothing.
+use mathlib.Core.Path.{refl, sym, _∙_, ap, subst}
+use borrow.Author.Needs.{needs}
+use Rattle.integers.specs.Vectors.{neg2, image}
+use Rattle.meaning.specs.Pipes.{backward}
+use Rattle.vectors.specs.Within.{Within2}
+use Rattle.pipes.specs.Flow.{wider2, neg-small}
+use Rattle.pipes.proofs.flow_of.Statement.{statement}
+use Rattle.pipes.proofs.flow_of.Tie as tie
+
+move-of-requires : tie.Need-move-of-requires
+move-of-requires c κs = search needs
+
+line-of-requires : tie.Need-line-of-requires
+line-of-requires c κs = search needs
+
+image-of-requires : tie.Need-image-of-requires
+image-of-requires c κs = search needs
+
+extent-of-requires : tie.Need-extent-of-requires
+extent-of-requires c κs = search needs
+
+extent-of-requires-2 : tie.Need-extent-of-requires-2
+extent-of-requires-2 c κs = search needs
+
+negated-requires : tie.Need-negated-requires
+negated-requires c κs =
+    let m = c .before .before .before .before in
+    subst (Within2 4800) (sym (m .move-of .ensures)) (wider2 (m .before .before .before .pre .small))
+
+negated-requires-2 : tie.Need-negated-requires-2
+negated-requires-2 c κs = search needs
+
+moves-requires : tie.Need-moves-requires
+moves-requires c κs = c .before .before .before .before .before .before .before .before .before .pre .in-range
+
+backward-requires : tie.Need-backward-requires
+backward-requires c κs =
+    let m = c .before .before .before .before .before .before .before in
+    subst (Within2 4800) (sym (m .move-of .ensures)) (wider2 (m .before .before .before .pre .small))
+
+returns : tie.Need-returns
+returns c =
+    let g = c .before .before in
+    let k = g .before in
+    let b = k .before in
+    let i = b .before .before in
+    let m = i .before .before in
+    let s = m .before .before .before in
+    let e = k .negated .ensures .0 ∙ ap neg2 (m .move-of .ensures) in
+    let q = i .image-of .ensures .0 ∙ ap (image (s .args .s .map)) (i .before .line-of .ensures .0) in (
+      refl,
+      refl,
+      record {
+        laid = s .pre;
+        space-is = b .before .extent-of .ensures .0;
+        elements-is = b .extent-of2 .ensures .0;
+        way-is = m .move-of .ensures;
+        back-is = e;
+        back-small = subst (Within2 1) (sym e) (neg-small (s .pre .small));
+        pass-is = q;
+        pass-small = i .image-of .ensures .1;
+        against-is = g .negated2 .ensures .0 ∙ ap neg2 q;
+        against-small = g .negated2 .ensures .1;
+        moving-is = c .before .moves .ensures;
+        turned-is = c .backward .ensures ∙ ap backward (m .move-of .ensures);
+      },
+    )
+
+pub flow-of-spec : {M : Type 1} → statement M
+flow-of-spec =
+    tie.close
+    (tie.spec
+    move-of-requires
+    line-of-requires
+    image-of-requires
+    extent-of-requires
+    extent-of-requires-2
+    negated-requires
+    negated-requires-2
+    moves-requires
+    backward-requires
+    returns)

@@ -1,0 +1,166 @@
+-- What is asked of a stream, and what is known of it once and for all its processes. Assumes nothing.
+use mathlib.Core.Path.{_≡_, refl, sym, _∙_, ap, ap₂, subst}
+use mathlib.Core.Bool.{Bool, true, false, not, _||_}
+use mathlib.Core.List.{List}
+use Prim.Native.Nat.{ℕ, _+_, _≤_, _<_}
+use native.Mathlib.Omega.{arith}
+use lib.ListN.{length, getD}
+use lib.IntN.{pos}
+use lib.Signed.{ltZ}
+use Rattle.integers.specs.Bounds.{Abs-wider, Abs-neg}
+use Rattle.integers.specs.Words.{eqZ, eqZ→eq}
+use Rattle.integers.specs.Vectors.{zero2, neg2, shift2}
+use Rattle.integers.specs.declared.V2.{V2}
+use Rattle.meaning.specs.declared.Nest.{Nest}
+use Rattle.meaning.specs.declared.Stream.{Stream}
+use Rattle.meaning.specs.Loops.{instances}
+use Rattle.meaning.specs.Space.{Box, points, rowIndex, boxOf, space, processes}
+use Rattle.meaning.specs.Streams.{stationary, move, pass}
+use Rattle.meaning.specs.Pipes.{reach, backward}
+use Rattle.geometry.specs.Numbers.{shift-neg, neg-not}
+use Rattle.geometry.specs.Places.{getD-in}
+use Rattle.geometry.specs.Boxes.{Inside, points-inside}
+use Rattle.geometry.specs.RowOrder.{row-lt}
+use Rattle.geometry.specs.Pipes.{Accepted}
+use Rattle.geometry.specs.Elements.{entryOf, entry-is}
+use Rattle.vectors.specs.Within.{Within2}
+use Rattle.refusals.specs.InRange.{InRange}
+use Rattle.numbering.specs.Ranges.{between-apart}
+use Rattle.numbering.specs.Extents.{Spanning, boxed, box-spanning}
+use Rattle.layout.specs.Rays.{Going}
+use Rattle.layout.specs.Ends.{processOf, Ends}
+use Rattle.pipes.specs.declared.Flow.{Flow}
+use Rattle.pipes.specs.Lanes.{Lanes}
+use Rattle.pipes.specs.Held.{entryNumber, computes}
+
+-- a vector that leads back, by the test of its first component
+pub back-level : (v : V2) → eqZ (v .a) (pos 0) ≡ true → ltZ (v .b) (pos 0) ≡ backward v
+back-level v e = rw (eqZ→eq (v .a) (pos 0) e) refl
+
+pub back-steep : (v : V2) → eqZ (v .a) (pos 0) ≡ false → ltZ (v .a) (pos 0) ≡ backward v
+back-steep v e = rw e (go (ltZ (v .a) (pos 0)))
+  where
+    go : (b : Bool) → b ≡ (b || false)
+    go true = refl
+    go false = refl
+
+-- a vector turned round is as small
+pub neg-small : {n : ℕ} {v : V2} → Within2 n v → Within2 n (neg2 v)
+neg-small h = record { first = Abs-neg (h .first); second = Abs-neg (h .second) }
+
+pub wider2 : {v : V2} → Within2 1 v → Within2 4800 v
+wider2 h = record { first = Abs-wider tt (h .first); second = Abs-wider tt (h .second) }
+
+-- a stream of an accepted description: words in range, few instances and processes, a small move, and what the geometry asks
+pub record Laid (n : Nest) (s : Stream) : Type 0 where
+  pub in-range : InRange n s
+  pub instances : length (instances n) ≤ 4096
+  pub processes : length (processes n) ≤ 1024
+  pub small : Within2 1 (move n s)
+  pub accepted : Accepted n s
+
+pub record Flows (f : Flow) : Type 0 where
+  pub laid : Laid (f .nest) (f .stream)
+  pub space-is : boxed (f .space) ≡ space (f .nest)
+  pub elements-is : boxed (f .elements) ≡ boxOf (f .nest) (f .stream .map)
+  pub way-is : f .way ≡ move (f .nest) (f .stream)
+  pub back-is : f .back ≡ neg2 (move (f .nest) (f .stream))
+  pub back-small : Within2 1 (f .back)
+  pub pass-is : f .pass ≡ pass (f .nest) (f .stream)
+  pub pass-small : Within2 4800 (f .pass)
+  pub against-is : f .against ≡ neg2 (pass (f .nest) (f .stream))
+  pub against-small : Within2 4800 (f .against)
+  pub moving-is : f .moving ≡ not (stationary (f .nest) (f .stream))
+  pub turned-is : f .turned ≡ backward (move (f .nest) (f .stream))
+
+-- room for a process and an entry in the lanes
+pub record Visitable (l : List ℕ) (p e : ℕ) : Type 0 where
+  pub words : length l ≡ 4096
+  pub process : p < 1024
+  pub entry : e < 1024
+  pub held : getD l (2048 + e) 0 ≤ 1024
+
+-- what the later functions look at: the words of the processes, and the lanes of all of them
+pub record Seen (f : Flow) (ends lanes : List ℕ) : Type 0 where
+  pub flows : Flows f
+  pub of-ends : Ends (f .nest) ends
+  pub long : 3072 ≤ length ends
+  pub of-lanes : Lanes (entryNumber (f .nest) (f .stream)) (computes (f .nest)) (length (processes (f .nest))) (length (processes (f .nest))) lanes
+
+-- what filling the lanes is lent
+pub record Fillable (f : Flow) (count : ℕ) (ends lanes : List ℕ) : Type 0 where
+  pub flows : Flows f
+  pub counted : count ≡ length (processes (f .nest))
+  pub of-ends : Ends (f .nest) ends
+  pub long : 3072 ≤ length ends
+  pub words : length lanes ≡ 4096
+
+module _ {f : Flow} (h : Flows f) where
+  pub spanning : Spanning (boxed (f .space))
+  spanning = subst Spanning (sym (h .space-is)) (box-spanning (h .laid .in-range .nest) (h .laid .in-range .nest .place))
+
+  pub point-lt : {p : ℕ} → p < length (processes (f .nest)) → p < length (points (boxed (f .space)))
+  point-lt {p} l = subst (λ (k : Box). p < length (points k)) (sym (h .space-is)) l
+
+  pub counted-is : {k : ℕ} → k ≡ length (points (boxed (f .space))) → k ≡ length (processes (f .nest))
+  counted-is e = e ∙ ap (λ (b : Box). length (points b)) (h .space-is)
+
+  module _ {p : ℕ} (lt : p < length (processes (f .nest))) {y : V2} (ey : y ≡ getD (points (boxed (f .space))) p zero2) where
+    pub point-is : y ≡ processOf (f .nest) p
+    point-is = ey ∙ ap (λ (k : Box). getD (points k) p zero2) (h .space-is)
+
+    pub inside-space : Inside (space (f .nest)) y
+    inside-space = subst (Inside (space (f .nest))) (sym point-is) (points-inside (space (f .nest)) (processOf (f .nest) p) (getD-in (processes (f .nest)) p zero2 lt))
+
+    inside-box : Inside (boxed (f .space)) y
+    inside-box = subst (λ (k : Box). Inside k y) (sym (h .space-is)) inside-space
+
+    pub going-back : Going (boxed (f .space)) (f .back) y
+    going-back =
+        record {
+          box = spanning;
+          inside = inside-box;
+          by = wider2 (h .back-small);
+          on = subst (λ (d : V2). d ≡ zero2 → ⊥) (sym (h .back-is)) (neg-not (h .laid .accepted .goes));
+        }
+
+    pub going-on : Going (boxed (f .space)) (f .way) y
+    going-on =
+        record {
+          box = spanning;
+          inside = inside-box;
+          by = subst (Within2 4800) (sym (h .way-is)) (wider2 (h .laid .small));
+          on = subst (λ (d : V2). d ≡ zero2 → ⊥) (sym (h .way-is)) (h .laid .accepted .goes);
+        }
+
+    -- how far the line goes on from it
+    pub reach-on : {k : ℕ} → k ≡ reach (boxed (f .space)) (f .way) y → k ≡ reach (space (f .nest)) (move (f .nest) (f .stream)) (processOf (f .nest) p)
+    reach-on e =
+        e ∙ ap₂ (λ (b : Box) (d : V2). reach b d y) (h .space-is) (h .way-is) ∙ ap (reach (space (f .nest)) (move (f .nest) (f .stream))) point-is
+
+    pub point-small : Within2 768 y
+    point-small =
+        record {
+          first = between-apart (spanning .first) (inside-box .ina) .high;
+          second = between-apart (spanning .second) (inside-box .inb) .high;
+        }
+
+    module _ {k : ℕ} (ek : k ≡ reach (boxed (f .space)) (f .back) y) {z : V2} (ez : z ≡ shift2 y (pos k) (f .back)) where
+      entry-eq : z ≡ entryOf (f .nest) (f .stream) (processOf (f .nest) p)
+      entry-eq =
+          ez ∙ ap₂ (λ (i : ℕ) (d : V2). shift2 y (pos i) d) (ek ∙ ap₂ (λ (b : Box) (d : V2). reach b d y) (h .space-is) (h .back-is)) (h .back-is)
+          ∙ shift-neg y (move (f .nest) (f .stream)) (pos _) ∙ ap (entryOf (f .nest) (f .stream)) point-is
+
+      entry-inside : Inside (space (f .nest)) z
+      entry-inside =
+          subst (Inside (space (f .nest))) (sym entry-eq)
+          (entry-is (h .laid .accepted) (subst (Inside (space (f .nest))) point-is inside-space) .inside)
+
+      pub entry-box : Inside (boxed (f .space)) z
+      entry-box = subst (λ (k : Box). Inside k z) (sym (h .space-is)) entry-inside
+
+      pub entry-number : {r : ℕ} → r ≡ rowIndex (boxed (f .space)) z
+          → (r ≡ entryNumber (f .nest) (f .stream) p) × (r < length (processes (f .nest)))
+      entry-number e =
+          let e' = e ∙ ap (λ (k : Box). rowIndex k z) (h .space-is) in
+          (e' ∙ ap (rowIndex (space (f .nest))) entry-eq, omega (arith, e', row-lt (space (f .nest)) z entry-inside))

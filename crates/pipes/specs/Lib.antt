@@ -1,0 +1,7 @@
+-- Lanes by numbers; what they hold of a stream's pipes; what a stream's way needs.
+pub mod Lanes
+pub mod Held
+pub mod Flow
+pub mod Elements
+pub mod Passed
+pub mod Accepted

@@ -1,0 +1,68 @@
+-- `plain::run_instance` meets its contract. Assumes nothing.
+use mathlib.Core.Path.{_≡_, sym, subst₂}
+use lib.ListN.{length, length-map}
+use borrow.Author.Needs.{needs}
+use Rattle.refusals.specs.InRange.{nest-bounded}
+use Rattle.body.specs.Fit.{Runnable}
+use Rattle.plain.specs.Places.{lent, runnable}
+use Rattle.plain.specs.Run.{executed}
+use Rattle.plain.proofs.run_instance.Statement.{statement}
+use Rattle.plain.proofs.run_instance.Tie as tie
+
+mul-from : tie.Need-mul-from
+mul-from c = search needs
+
+cast-to : tie.Need-cast-to
+cast-to c = search needs
+
+add-to : tie.Need-add-to
+add-to c = search needs
+
+instance-requires : tie.Need-instance-requires
+instance-requires c κs = let p = c .before .before .before .before .before .pre in (nest-bounded (p .0 .few .ranged .nest), p .2)
+
+mul-execute : tie.Need-mul-execute
+mul-execute c = search needs
+
+sub-execute : tie.Need-sub-execute
+sub-execute c = search needs
+
+part-execute-start : tie.Need-part-execute-start
+part-execute-start c = search needs
+
+part-execute-end : tie.Need-part-execute-end
+part-execute-end c = search needs
+
+execute-requires : tie.Need-execute-requires
+execute-requires c κs =
+    let a = c .before .before .before .before .before .before .before .before in
+    let d = a .args .d in
+    let p = a .pre in
+    let six : length (d .streams) ≡ 6 = rw length-map at (a .good .0 .1 .1 .1 .1 .0 .1 .0 .1) in
+    subst₂ (Runnable (d .sizes .lines) (d .lines)) (sym (p .3)) (sym (lent d (a .args .table .now) (a .args .k) (p .1) (p .2)))
+    (runnable d six (p .0) (a .args .k) (p .2))
+
+same-length : tie.Need-same-length
+same-length c = search needs
+
+returns : tie.Need-returns
+returns c =
+    let a = c .before .before .before .before .before .before .before .before .before .before .before in
+    executed (a .args .d) (a .args .k) (a .args .table .now) (a .args .store .now) (a .pre .1) (a .pre .2)
+    (c .before .before .before .before .before .instance .ensures .0) (c .before .before .execute .ensures)
+
+pub run-instance-spec : {M : Type 1} → statement M
+run-instance-spec =
+    tie.close
+    (tie.spec
+    mul-from
+    cast-to
+    add-to
+    instance-requires
+    mul-execute
+    sub-execute
+    part-execute-start
+    part-execute-end
+    execute-requires
+    same-length
+    returns)

@@ -1,0 +1,41 @@
+-- `plain::run_loops` meets its contract. Assumes nothing.
+use mathlib.Core.Path.{_≡_, sym, _∙_, ap, subst}
+use Prim.Native.Nat.{ℕ}
+use lib.ListN.{length, length-map, length-replicate}
+use borrow.Author.Needs.{needs}
+use Rattle.plain.specs.Places.{Table, columns-length, columns-table}
+use Rattle.plain.proofs.run_loops.Statement.{statement}
+use Rattle.plain.proofs.run_loops.Tie as tie
+
+fill-table-requires : tie.Need-fill-table-requires
+fill-table-requires c κs = search needs
+
+slice-aggregate-run-instances : tie.Need-slice-aggregate-run-instances
+slice-aggregate-run-instances c =
+    sym (ap length (c .before .fill-table .ensures) ∙ columns-length _ _ _ ∙ length-replicate {A = ℕ} 24576 0)
+
+run-instances-requires : tie.Need-run-instances-requires
+run-instances-requires c κs =
+    let a = c .before .before .before .before .before in
+    let d = a .args .d in
+    let six : length (d .streams) ≡ 6 = rw length-map at (a .good .0 .1 .1 .1 .1 .0 .1 .0 .1) in (
+      a .pre .0,
+      subst (Table d) (sym (c .before .before .fill-table .ensures)) (columns-table d six (a .pre .0) _ (length-replicate {A = ℕ} 24576 0)),
+      a .pre .1,
+    )
+
+same-length : tie.Need-same-length
+same-length c = search needs
+
+returns : tie.Need-returns
+returns c = search needs
+
+pub run-loops-spec : {M : Type 1} → statement M
+run-loops-spec =
+    tie.close
+    (tie.spec
+    fill-table-requires
+    slice-aggregate-run-instances
+    run-instances-requires
+    same-length
+    returns)

@@ -1,0 +1,99 @@
+-- The run of the instances one by one, a list copied, and what the call answers. Assumes nothing.
+use mathlib.Core.Path.{_≡_, refl, sym, _∙_, ap, ap₂, subst}
+use mathlib.Core.Bool.{not, cond}
+use mathlib.Core.List.{List, [], _∷_}
+use Prim.Native.Nat.{ℕ, _+_, _*_, _-_, _≤_, _<_}
+use native.Mathlib.Numerals.{add-one}
+use native.Mathlib.Omega.{arith}
+use lib.Dec.{eqb}
+use lib.ListN.{length, getD, take, drop, drop-of-length-le}
+use lib.Seq.{drop-cons, ext-getD}
+use borrow.Author.Tests.{ne-eqb, eqb-true, not-false}
+use Rattle.integers.specs.Fill.{fillBy, fill-length, fill-at}
+use Rattle.integers.specs.Vectors.{zero3}
+use Rattle.integers.specs.declared.V3.{V3}
+use Rattle.meaning.specs.declared.Description.{Description}
+use Rattle.meaning.specs.declared.Answer.{Answer}
+use Rattle.meaning.specs.declared.Answer.the-variants.{Done, Refused}
+use Rattle.meaning.specs.Tests.{Test, _if_, refusal}
+use Rattle.meaning.specs.Limits.{gaugeLimits}
+use Rattle.meaning.specs.Loops.{instances}
+use Rattle.meaning.specs.Description.{descriptionOf, linesOf}
+use Rattle.meaning.specs.Body.{execute, executeAll, finalValues}
+use Rattle.meaning.specs.Accept.{refusalOf}
+use Rattle.meaning.specs.Calls.{lengthOf, answer, plainRun}
+use Rattle.decode.specs.Refusals.{passed}
+use Rattle.refusals.specs.Accepted.{accepted-within}
+use Rattle.elements.specs.Few.{accepted-few}
+use Rattle.body.specs.Execute.{executeAt, execute-touched}
+use Rattle.plain.specs.Places.{Fitting, Table, lent}
+
+-- ---- instance by instance
+
+module _ (d : Description) (xs : List V3) (k : ℕ) (store : List ℕ) where
+  pub run-next : k < length xs → executeAll d (drop (k + 1) xs) (execute d (getD xs k zero3) store) ≡ executeAll d (drop k xs) store
+  unfolding executeAll
+  run-next h = rw (add-one, drop-cons xs k zero3 h)
+
+  pub run-end : length xs ≤ k → store ≡ executeAll d (drop k xs) store
+  unfolding executeAll
+  run-end h = rw (drop-of-length-le xs h)
+
+-- instance k, on its row of the table
+pub executed : (d : Description) (k : ℕ) {x : V3} (table store : List ℕ) {out : List ℕ} → Table d table → k < length (instances (d .nest))
+    → x ≡ getD (instances (d .nest)) k zero3
+    → out ≡ executeAt x (linesOf d) store (take (6 * k + d .sizes .streams - 6 * k) (drop (6 * k) table))
+    → out ≡ execute d (getD (instances (d .nest)) k zero3) store
+executed d k table store h l e o =
+    o ∙ ap₂ (λ (x : V3) (ps : List ℕ). executeAt x (linesOf d) store ps) e (lent d table k h l)
+    ∙ execute-touched d (getD (instances (d .nest)) k zero3) store
+
+-- ---- a list copied onto another of its length
+
+pub copied : (vs out : List ℕ) → length out ≡ length vs → fillBy (λ k. getD vs k 0) (length vs) out ≡ vs
+copied vs out e =
+    ext-getD 0 _ _ (fill-length (λ k. getD vs k 0) (length vs) out ∙ e) λ i h.
+    fill-at (λ k. getD vs k 0) (length vs) i out 0 (omega (arith, fill-length (λ k. getD vs k 0) (length vs) out)) (omega arith)
+
+-- ---- what the call answers
+
+-- the call's own tests, of the lengths of values and of output
+abbrev pub ownTests : Description → ℕ → ℕ → List Test
+ownTests d values output = (20 if not (eqb values (lengthOf d))) ∷ (28 if not (eqb output (lengthOf d))) ∷ []
+
+-- what the call answers and leaves once its description is accepted
+pub record Called (d : Description) (values output : List ℕ) (r : Answer) (out : List ℕ) : Type 0 where
+  pub answers : r ≡ answer (refusal (ownTests d (length values) (length output)))
+  pub leaves : out ≡ cond (eqb (refusal (ownTests d (length values) (length output))) 0) (finalValues d values) output
+
+-- none of them applies
+pub lengths-are : (d : Description) (values output : ℕ) {n : ℕ} → n ≡ refusal (ownTests d values output) → n ≡ 0
+    → (values ≡ lengthOf d) × (output ≡ lengthOf d)
+lengths-are d values output e z =
+    let p20 = passed 20 (not (eqb values (lengthOf d))) _ (λ g. omega arith) (sym e ∙ z) in
+    let p28 = passed 28 (not (eqb output (lengthOf d))) _ (λ g. omega arith) (p20 .1) in
+    (eqb-true values (lengthOf d) (not-false _ (p20 .0)), eqb-true output (lengthOf d) (not-false _ (p28 .0)))
+
+module _ (d : Description) (values output : List ℕ) {n : ℕ} (e : n ≡ refusal (ownTests d (length values) (length output))) where
+  -- the values copied, and the instances run on the copy
+  pub run-done : n ≡ 0 → {copy out : List ℕ} → copy ≡ values → out ≡ finalValues d copy → Called d values output Done out
+  run-done z c o = let q = sym e ∙ z in record { answers = rw q refl; leaves = rw q (o ∙ ap (finalValues d) c) }
+
+  pub run-refused : (n ≡ 0 → ⊥) → Called d values output (Refused n) output
+  run-refused f = let q = ne-eqb n 0 f in record { answers = rw (← e, q) refl; leaves = rw (← e, q) refl }
+
+-- an accepted description has a table with room
+pub accepted-fitting : (s : List ℕ) → refusalOf gaugeLimits s ≡ 0 → Fitting (descriptionOf s)
+accepted-fitting s e = record { few = accepted-few s e; instances = accepted-within gaugeLimits s e .1 .instances }
+
+module _ (s values output : List ℕ) where
+  pub accepted-call : {d : Description} {r : Answer} {out : List ℕ} → refusalOf gaugeLimits s ≡ 0 → d ≡ descriptionOf s → Called d values output r out
+      → (r ≡ plainRun gaugeLimits s values output .answer) × (out ≡ plainRun gaugeLimits s values output .output)
+  unfolding plainRun
+  accepted-call {r} {out} z e h =
+      let c = subst (λ (d : Description). Called d values output r out) e h in rw z (c .answers, c .leaves)
+
+  pub refused-call : {n : ℕ} → n ≡ refusalOf gaugeLimits s → (n ≡ 0 → ⊥)
+      → (Refused n ≡ plainRun gaugeLimits s values output .answer) × (output ≡ plainRun gaugeLimits s values output .output)
+  unfolding plainRun
+  refused-call {n} e f = rw (← e, ne-eqb n 0 f, ne-eqb n 0 f) (refl, refl)

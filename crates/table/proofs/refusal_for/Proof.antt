@@ -1,0 +1,51 @@
+-- `table::refusal_for` meets its contract. Assumes nothing.
+use mathlib.Core.Path.{sym, _∙_, ap, subst}
+use native.Mathlib.Omega.{arith}
+use lib.ListN.{length}
+use Rattle.meaning.specs.declared.Description.{Description}
+use Rattle.meaning.specs.Space.{processes}
+use Rattle.numbering.specs.Ranges.{Bounded}
+use Rattle.table.specs.Drawable.{accepted-sized, accepted-bounded, refused-18, refused-none, refused-first}
+use borrow.Author.Needs.{needs}
+use Rattle.table.proofs.refusal_for.Statement.{statement}
+use Rattle.table.proofs.refusal_for.Tie as tie
+
+refusal-of-requires : tie.Need-refusal-of-requires
+refusal-of-requires c κs = search needs
+
+description-requires : tie.Need-description-requires
+description-requires c κs = accepted-sized _ (sym (c .before .refusal-of .ensures) ∙ c .if1 .taken)
+
+process-count-requires : tie.Need-process-count-requires
+process-count-requires c κs =
+    let t = c .before .before in
+    subst (λ (d : Description). Bounded (d .nest)) (sym (c .before .description .ensures))
+    (accepted-bounded _ (sym (t .before .refusal-of .ensures) ∙ t .if1 .taken))
+
+returns : tie.Need-returns
+returns c =
+    let b = c .before .before .before in
+    let t = b .before in
+    let n = c .before .process-count .ensures ∙ ap (λ (d : Description). length (processes (d .nest))) (b .description .ensures) in
+    refused-18 _ _ (sym (t .before .refusal-of .ensures) ∙ t .if1 .taken) (omega (arith, n, c .if2 .taken))
+
+returns-2 : tie.Need-returns-2
+returns-2 c =
+    let b = c .before .before .before in
+    let t = b .before in
+    let n = c .before .process-count .ensures ∙ ap (λ (d : Description). length (processes (d .nest))) (b .description .ensures) in
+    refused-none _ _ (sym (t .before .refusal-of .ensures) ∙ t .if1 .taken) (omega (arith, n, c .if2 .left))
+
+returns-3 : tie.Need-returns-3
+returns-3 c = refused-first _ _ (c .before .refusal-of .ensures) (c .if1 .left)
+
+pub refusal-for-spec : {M : Type 1} → statement M
+refusal-for-spec =
+    tie.close
+    (tie.spec
+    refusal-of-requires
+    description-requires
+    process-count-requires
+    returns
+    returns-2
+    returns-3)

@@ -1,0 +1,85 @@
+-- `table::row_at` meets its contract. Assumes nothing.
+use borrow.Author.Needs.{needs}
+use Rattle.table.proofs.row_at.Statement.{statement}
+use Rattle.table.proofs.row_at.Tie as tie
+
+add-first : tie.Need-add-first
+add-first c = search needs
+
+mul-first : tie.Need-mul-first
+mul-first c = search needs
+
+element-copy-out-first : tie.Need-element-copy-out-first
+element-copy-out-first c = search needs
+
+add-last : tie.Need-add-last
+add-last c = search needs
+
+mul-last : tie.Need-mul-last
+mul-last c = search needs
+
+element-copy-out-last : tie.Need-element-copy-out-last
+element-copy-out-last c = search needs
+
+cast-point-at : tie.Need-cast-point-at
+cast-point-at c = search needs
+
+point-at-requires : tie.Need-point-at-requires
+point-at-requires c κs = search needs
+
+mul-t8 : tie.Need-mul-t8
+mul-t8 c = search needs
+
+element-copy-out-t18 : tie.Need-element-copy-out-t18
+element-copy-out-t18 c = search needs
+
+instance-numbered-requires : tie.Need-instance-numbered-requires
+instance-numbered-requires c κs = search needs
+
+instance-numbered-requires-2 : tie.Need-instance-numbered-requires-2
+instance-numbered-requires-2 c κs = search needs
+
+add-by-stream : tie.Need-add-by-stream
+add-by-stream c = search needs
+
+by-stream-requires : tie.Need-by-stream-requires
+by-stream-requires c κs = search needs
+
+add-by-stream-2 : tie.Need-add-by-stream-2
+add-by-stream-2 c = search needs
+
+by-stream-requires-2 : tie.Need-by-stream-requires-2
+by-stream-requires-2 c κs = search needs
+
+returns : tie.Need-returns
+returns c =
+    let i = c .before .before .before in
+    rw (
+      c .by-stream2 .ensures,
+      c .before .by-stream .ensures,
+      c .before .before .instance-numbered2 .ensures,
+      i .instance-numbered .ensures,
+      i .before .before .point-at .ensures,
+    )
+
+pub row-at-spec : {M : Type 1} → statement M
+row-at-spec =
+    tie.close
+    (tie.spec
+    add-first
+    mul-first
+    element-copy-out-first
+    add-last
+    mul-last
+    element-copy-out-last
+    cast-point-at
+    point-at-requires
+    mul-t8
+    element-copy-out-t18
+    instance-numbered-requires
+    instance-numbered-requires-2
+    add-by-stream
+    by-stream-requires
+    add-by-stream-2
+    by-stream-requires-2
+    returns)

@@ -1,0 +1,113 @@
+-- What a refusal of 0 leaves for the plan, and the refusal of the call by its tests. Assumes nothing.
+use mathlib.Core.Path.{_≡_, refl, sym, _∙_, ap, subst}
+use mathlib.Core.Bool.{Bool, true, false, cond}
+use mathlib.Core.List.{List, [], _∷_}
+use Prim.Native.Nat.{ℕ, _≤_, _<_}
+use native.Mathlib.Omega.{arith}
+use lib.Dec.{eqb, ltb}
+use lib.ListN.{length, getD}
+use lib.Seq.{getD-take}
+use borrow.Author.Tests.{eqb-true, eqb-false, eq-eqb, ne-eqb, lt-ltb, le-ltb, ltb-false}
+use Rattle.meaning.specs.declared.Stream.{Stream}
+use Rattle.meaning.specs.declared.Description.{Description}
+use Rattle.meaning.specs.Limits.{gaugeLimits}
+use Rattle.meaning.specs.Tests.{Test, _if_, refusal}
+use Rattle.meaning.specs.Loops.{instances}
+use Rattle.meaning.specs.Space.{processes}
+use Rattle.meaning.specs.Description.{sizesOf, descriptionOf, streamsOf, noStream}
+use Rattle.meaning.specs.Accept.{refusalOf}
+use Rattle.geometry.specs.Descriptions.{laid}
+use Rattle.decode.specs.Offsets.{Sized}
+use Rattle.decode.specs.Refusals.{refuses, passes, accepts, passed}
+use Rattle.numbering.specs.Ranges.{Bounded}
+use Rattle.refusals.specs.InRange.{nest-bounded}
+use Rattle.refusals.specs.Accepted.{accepted-within}
+use Rattle.pipes.specs.Flow.{Laid}
+use Rattle.pipes.specs.Accepted.{streams-used, laid-stream}
+use Rattle.table.specs.declared.Shape.{Shape}
+use Rattle.table.specs.Planned.{refusedFor, Drawn, Planned}
+
+pub record Drawable (d : Description) : Type 0 where
+  pub bounded : Bounded (d .nest)
+  pub instances : length (instances (d .nest)) ≤ 4096
+  pub processes : length (processes (d .nest)) ≤ 1024
+  pub most : d .sizes .streams ≤ 6
+  pub used : length (streamsOf d) ≡ d .sizes .streams
+  pub laid : (i : ℕ) → i < length (streamsOf d) → Laid (d .nest) (getD (streamsOf d) i noStream)
+
+-- a refusal of 0
+pub accepted-sized : (s : List ℕ) → refusalOf gaugeLimits s ≡ 0 → Sized (sizesOf s)
+accepted-sized s e = accepted-within gaugeLimits s e .0 .sized
+
+pub accepted-bounded : (s : List ℕ) → refusalOf gaugeLimits s ≡ 0 → Bounded (descriptionOf s .nest)
+accepted-bounded s e = nest-bounded (accepted-within gaugeLimits s e .0 .ranged .nest)
+
+pub drawable : (s : List ℕ) → refusalOf gaugeLimits s ≡ 0 → Drawable (descriptionOf s)
+drawable s e =
+    let a = accepted-within gaugeLimits s e in
+    record {
+      bounded = accepted-bounded s e;
+      instances = a .1 .instances;
+      processes = a .1 .processes;
+      most = a .0 .ranged .sized .most-streams;
+      used = streams-used s;
+      laid = laid-stream s e;
+    }
+
+-- stream i as it is read
+module _ {d : Description} {i : ℕ} {t : Stream} (g : Drawable d) (l : i < d .sizes .streams) (e : t ≡ getD (d .streams) i noStream) where
+  pub stream-read : t ≡ getD (streamsOf d) i noStream
+  stream-read = e ∙ sym (getD-take (d .sizes .streams) (d .streams) i noStream l)
+
+  pub stream-laid : Laid (d .nest) t
+  stream-laid = subst (Laid (d .nest)) (sym stream-read) (g .laid i (omega (arith, g .used)))
+
+-- ---- the refusal of the call
+
+module _ (s : List ℕ) (room : ℕ) where
+  abbrev own : List Test
+  own = (18 if ltb room (length (processes (descriptionOf s .nest)))) ∷ []
+
+  pub refused-first : {r : ℕ} → r ≡ refusalOf gaugeLimits s → (r ≡ 0 → ⊥) → r ≡ refusedFor s room
+  refused-first {r} e h =
+      e ∙ ap (λ (b : Bool). cond b (refusal own) (refusalOf gaugeLimits s)) (sym (ne-eqb (refusalOf gaugeLimits s) 0 (λ z. h (e ∙ z))))
+
+  then-own : refusalOf gaugeLimits s ≡ 0 → refusal own ≡ refusedFor s room
+  then-own e = ap (λ (b : Bool). cond b (refusal own) (refusalOf gaugeLimits s)) (sym (eq-eqb (refusalOf gaugeLimits s) 0 e))
+
+  pub refused-18 : refusalOf gaugeLimits s ≡ 0 → room < length (processes (descriptionOf s .nest)) → 18 ≡ refusedFor s room
+  refused-18 e h = refuses 18 [] (lt-ltb room _ h) ∙ then-own e
+
+  pub refused-none : refusalOf gaugeLimits s ≡ 0 → length (processes (descriptionOf s .nest)) ≤ room → 0 ≡ refusedFor s room
+  refused-none e h = passes 18 [] (le-ltb room _ h) accepts ∙ then-own e
+
+  -- a refusal of 0
+  pub none-refused : refusedFor s room ≡ 0 → (refusalOf gaugeLimits s ≡ 0) × (length (processes (descriptionOf s .nest)) ≤ room)
+  none-refused e = go (eqb (refusalOf gaugeLimits s) 0) refl e
+    where
+      go : (b : Bool) → eqb (refusalOf gaugeLimits s) 0 ≡ b → cond b (refusal own) (refusalOf gaugeLimits s) ≡ 0
+          → (refusalOf gaugeLimits s ≡ 0) × (length (processes (descriptionOf s .nest)) ≤ room)
+      go true f z = (eqb-true _ 0 f, ltb-false room _ (passed 18 _ [] (λ g. omega arith) z .0))
+      go false f z = absurd (eqb-false _ 0 f z)
+
+-- ---- the plan of the call
+
+pub planned-drawn : {s w : List ℕ} {room r : ℕ} {d : Description} {h : Shape} → r ≡ refusedFor s room → r ≡ 0 → d ≡ descriptionOf s
+    → (h .refusal ≡ 0) × Drawn d h w → Planned s room h w
+planned-drawn {s} {w} {room} {r} {d} {h} e z f g =
+    record {
+      refused = g .0 ∙ sym z ∙ e;
+      enough = omega (arith, g .1 .shaped .rows, ap (λ (d : Description). length (processes (d .nest))) f, none-refused s room (sym e ∙ z) .1);
+      none = λ k. absurd (k (g .0));
+      drawn = λ k. subst (λ (d : Description). Drawn d h w) f (g .1);
+    }
+
+pub planned-declined : {s w : List ℕ} {room r : ℕ} {h : Shape} → r ≡ refusedFor s room → (r ≡ 0 → ⊥) → (h .refusal ≡ r) × (h .rows ≡ 0)
+    → Planned s room h w
+planned-declined e z g =
+    record {
+      refused = g .0 ∙ e;
+      enough = omega (arith, g .1);
+      none = λ k. g .1;
+      drawn = λ k. absurd (z (sym (g .0) ∙ k));
+    }

@@ -1,0 +1,251 @@
+// Table: document 01's table of the processes, one row for each, in row order.
+//
+// specs/, by file:
+//
+//   Rows        a row as it is read off the plan's words, and what it takes to read it
+//   Blocks      the words, block by block: the processes' and each stream's
+//   Planned     what the plan holds; `planned-rows`: the rows read off it are document 01's
+//   Drawable    what a refusal of 0 leaves for the plan; the refusal of the call
+ghost use mathlib.Core.Path.{_≡_};
+ghost use Prim.Native.Nat.{ℕ, _<_, _≤_, _+_};
+ghost use lib.ListN.{length, getD, replicate};
+ghost use Rattle.integers.specs.Fill.{fillBy};
+ghost use Rattle.meaning.specs.Limits.{gaugeLimits};
+ghost use Rattle.meaning.specs.Loops.{instances};
+ghost use Rattle.meaning.specs.Space.{processes};
+ghost use Rattle.meaning.specs.Description.{streamsOf};
+ghost use Rattle.meaning.specs.Calls.{answer, table};
+ghost use Rattle.numbering.specs.Ranges.{Bounded};
+ghost use Rattle.layout.specs.Ends.{numbered, Ends};
+ghost use Rattle.table.specs.Rows.{byStream, rowFrom, Readable};
+ghost use Rattle.table.specs.Blocks.{Streamed};
+ghost use Rattle.table.specs.Planned.{Shaped, Drawn, refusedFor, Planned};
+ghost use Rattle.table.specs.Drawable.{Drawable};
+use integers::Matrix;
+use integers::V2;
+use integers::V3;
+use meaning::Answer;
+use meaning::Description;
+use meaning::Nest;
+use meaning::Row;
+use numbering::Extent;
+
+// What the rows need beside the plan's words: the refusal, 0 if there is none, the number of rows to fill, the loops and the process space.
+struct Shape {
+    refusal: u32,
+    rows: usize,
+    nest: Nest,
+    space: Extent,
+}
+
+// ---- one row
+
+// The instance of a number plus one, zero for none.
+fn instance_numbered(n: Nest, k: u32) -> V3
+    requires { ⌜ (Bounded n) × (k ≤ length (instances n)) ⌝ }
+    ensures { λ r. ⌜ r ≡ numbered n k ⌝ }
+{
+    if k == 0 {
+        V3 { x: 0, y: 0, z: 0 }
+    } else {
+        numbering::instance(n, k - 1)
+    }
+}
+
+// The words of all streams at one process, the first stream's at word k.
+fn by_stream(words: &[u32; 15360], k: usize) -> [u32; 6]
+    requires { ⌜ k + 10240 < 15360 ⌝ }
+    ensures { λ r. ⌜ r ≡ byStream (now (words .entry)) k ⌝ }
+{
+    [
+        words[k],
+        words[k + 2048],
+        words[k + 4096],
+        words[k + 6144],
+        words[k + 8192],
+        words[k + 10240],
+    ]
+}
+
+// The row of process p.
+fn row_at(shape: Shape, words: &[u32; 15360], p: usize) -> Row
+    requires { ⌜ Readable shape (now words) p ⌝ }
+    ensures { λ r. ⌜ r ≡ rowFrom shape (now (words .entry)) p ⌝ }
+{
+    let nest = shape.nest;
+    let space = shape.space;
+    let first = words[1024 + p];
+    let last = words[2048 + p];
+    Row {
+        point: layout::point_at(space, p as u32),
+        count: words[p],
+        first: instance_numbered(nest, first),
+        last: instance_numbered(nest, last),
+        soak: by_stream(words, 3072 + p),
+        drain: by_stream(words, 4096 + p),
+    }
+}
+
+// ---- the plan
+
+// The words of all streams in use.
+fn fill_streams(d: Description, ends: &[u32], words: &mut [u32])
+    requires { ⌜ (Drawable d) × (Ends (d .nest) (now ends)) × (3072 ≤ length (now ends)) × (now words ≡ replicate 15360 0) ⌝ }
+    ensures { λ r. ⌜ Streamed (d .nest) (streamsOf d) (length (streamsOf d)) (now (words .exit)) ⌝ }
+{
+    let n = d.nest;
+    let m = d.sizes.streams as usize;
+    let mut i: usize = 0;
+    while i < m {
+        let a = 3072 + 2048 * i;
+        let e = a + 2048;
+        pipes::fill_stream(n, decode::stream(d, i), ends, &mut words[a..e]);
+        i += 1;
+    }
+}
+
+// The words of the processes go in front.
+fn copy_ends(ends: &[u32], words: &mut [u32])
+    requires { ⌜ (3072 ≤ length (now ends)) × (3072 ≤ length (now words)) ⌝ }
+    ensures { λ r. ⌜ now (words .exit) ≡ fillBy (λ k. getD (now (ends .entry)) k 0) 3072 (now (words .entry)) ⌝ }
+{
+    let mut k: usize = 0;
+    while k < 3072 {
+        words[k] = ends[k];
+        k += 1;
+    }
+}
+
+// What the rows need of a nest.
+fn shape_of(n: Nest) -> Shape
+    requires { ⌜ Bounded n ⌝ }
+    ensures { λ r. ⌜ Shaped n r ⌝ }
+{
+    let place = n.place;
+    let space = numbering::extent_of(n, place);
+    Shape {
+        refusal: 0,
+        rows: numbering::size_of(space) as usize,
+        nest: n,
+        space: space,
+    }
+}
+
+// The plan of a description; its words come as zeros.
+fn draw(d: Description, words: &mut [u32]) -> Shape
+    requires { ⌜ (Drawable d) × (now words ≡ replicate 15360 0) ⌝ }
+    ensures { λ r. ⌜ (r .refusal ≡ 0) × (Drawn d r (now (words .exit))) ⌝ }
+{
+    let n = d.nest;
+    let mut ends = [0u32; 3072];
+    layout::fill_processes(n, &mut ends);
+    fill_streams(d, &ends, words);
+    copy_ends(&ends, words);
+    shape_of(n)
+}
+
+// The plan of a declined call: no rows.
+fn declined(refusal: u32) -> Shape
+    ensures { λ r. ⌜ (r .refusal ≡ refusal) × (r .rows ≡ 0) ⌝ }
+{
+    let zero2 = V2 { a: 0, b: 0 };
+    let zero3 = V3 { x: 0, y: 0, z: 0 };
+    Shape {
+        refusal: refusal,
+        rows: 0,
+        nest: Nest {
+            left: zero3,
+            right: zero3,
+            direction: zero3,
+            step: zero3,
+            place: Matrix {
+                top: zero3,
+                low: zero3,
+            },
+        },
+        space: Extent {
+            lo: zero2,
+            hi: zero2,
+        },
+    }
+}
+
+// The number of processes.
+fn process_count(n: Nest) -> usize
+    requires { ⌜ Bounded n ⌝ }
+    ensures { λ r. ⌜ r ≡ length (processes n) ⌝ }
+{
+    let place = n.place;
+    numbering::size_of(numbering::extent_of(n, place)) as usize
+}
+
+// The refusal of the call, 0 if there is none.
+fn refusal_for(s: &[u8], room: usize) -> u32
+    ensures { λ r. ⌜ r ≡ refusedFor (now (s .entry)) room ⌝ }
+{
+    let r = refusals::refusal_of(s);
+    if r == 0 {
+        let n = decode::description(s).nest;
+        if room < process_count(n) { 18 } else { 0 }
+    } else {
+        r
+    }
+}
+
+// The plan of the call; its words come as zeros.
+fn plan(s: &[u8], room: usize, words: &mut [u32; 15360]) -> Shape
+    requires { ⌜ now words ≡ replicate 15360 0 ⌝ }
+    ensures { λ r. ⌜ Planned (now (s .entry)) room r (now (words .exit)) ⌝ }
+{
+    let refusal = refusal_for(s, room);
+    if refusal == 0 {
+        draw(decode::description(s), words)
+    } else {
+        declined(refusal)
+    }
+}
+
+// How many rows are filled.
+fn row_count(shape: Shape) -> usize
+    ensures { λ r. ⌜ r ≡ shape .rows ⌝ }
+{
+    shape.rows
+}
+
+// Done, or the refusal.
+fn answer_for(shape: Shape) -> Answer
+    ensures { λ r. ⌜ r ≡ answer (shape .refusal) ⌝ }
+{
+    if shape.refusal == 0 {
+        Answer::Done
+    } else {
+        Answer::Refused(shape.refusal)
+    }
+}
+
+// ---- all rows
+
+// The first n rows are filled.
+fn fill_rows<'r, 'a>(rows: &'r mut [Row], shape: Shape, words: &'a [u32; 15360], n: usize)
+    requires { ⌜ (n ≤ length (now rows)) × ((p : ℕ) → p < n → Readable shape (now words) p) ⌝ }
+    ensures { λ _. ⌜ now (rows .exit) ≡ fillBy (rowFrom shape (now (words .entry))) n (now (rows .entry)) ⌝ }
+{
+    let mut i = 0;
+    while i < n {
+        rows[i] = row_at(shape, words, i);
+        i = i + 1;
+    }
+}
+
+// Table: one row for each process, in row order, or the refusal and no row.
+pub fn table<'s, 'r>(s: &'s [u8], rows: &'r mut [Row]) -> Answer
+    ensures { λ r. ⌜ (r ≡ table gaugeLimits (now (s .entry)) (now (rows .entry)) .answer)
+        × (now (rows .exit) ≡ table gaugeLimits (now (s .entry)) (now (rows .entry)) .rows) ⌝ }
+{
+    let mut words = [0u32; 15360];
+    let room = rows.len();
+    let shape = plan(s, room, &mut words);
+    let n = row_count(shape);
+    fill_rows(rows, shape, &words, n);
+    answer_for(shape)
+}
