@@ -5,11 +5,14 @@ use std::io;
 use std::path::Path;
 
 use crate::calls::Calls;
+use crate::compare;
 use crate::description::bytes_of;
 use crate::designs;
 use crate::divisor::shorten;
+use crate::examples::examples;
 use crate::random::Random;
 use crate::random_description;
+use crate::table::table_text;
 
 /// A program's standard input and the output that it should print.
 pub struct Case {
@@ -20,11 +23,33 @@ pub struct Case {
 
 /// Every case that this implementation is responsible for.
 pub fn cases() -> Vec<Case> {
-    vec![shorten_case(), refused_case()]
+    vec![
+        shorten_case(),
+        refused_case(),
+        print_table_case(),
+        compare_case(),
+    ]
 }
 
-/// Writes each case below a directory, as crates/NAME/stdin and crates/NAME/stdout.
-pub fn write_cases(directory: &Path) -> io::Result<()> {
+/// Writes the files that other programs are held against below a directory: the cases and the examples.
+pub fn write_files(directory: &Path) -> io::Result<()> {
+    write_cases(directory)?;
+    write_examples(directory)
+}
+
+/// Each example as examples/NAME.bin.
+fn write_examples(directory: &Path) -> io::Result<()> {
+    let folder = directory.join("examples");
+    fs::create_dir_all(&folder)?;
+    for example in examples() {
+        let file = folder.join(example.name).with_extension("bin");
+        fs::write(file, example.description.bytes())?;
+    }
+    Ok(())
+}
+
+/// Each case as crates/NAME/stdin and crates/NAME/stdout.
+fn write_cases(directory: &Path) -> io::Result<()> {
     for case in cases() {
         let folder = directory.join("crates").join(case.name);
         fs::create_dir_all(&folder)?;
@@ -144,6 +169,26 @@ fn refused_case() -> Case {
         name: "refused",
         stdin,
         stdout: stdout.into_bytes(),
+    }
+}
+
+/// Document 01's case of the table program: design two.
+fn print_table_case() -> Case {
+    let stdin = designs::polynomial_two(2).bytes();
+    Case {
+        name: "print_table",
+        stdout: table_text(&stdin).into_bytes(),
+        stdin,
+    }
+}
+
+/// The comparison of Accept, Table and Plain run.
+fn compare_case() -> Case {
+    let descriptions = compare::descriptions();
+    Case {
+        name: "compare",
+        stdin: compare::input(&descriptions),
+        stdout: compare::text(&descriptions).into_bytes(),
     }
 }
 

@@ -2,9 +2,11 @@
 
 pub mod body;
 pub mod calls;
+pub mod compare;
 pub mod description;
 pub mod designs;
 pub mod divisor;
+pub mod examples;
 pub mod expected;
 pub mod geometry;
 pub mod network;

@@ -6,7 +6,7 @@ use std::io::{self, Read, Write};
 use std::path::Path;
 use std::process::ExitCode;
 
-use reference::expected::write_cases;
+use reference::expected::write_files;
 use reference::random_script::scripts;
 use reference::replay::replay;
 use reference::table::table_text;
@@ -39,7 +39,7 @@ fn command(arguments: &[OsString]) -> Result<(), String> {
             number("N", count)?,
             Path::new(directory),
         ),
-        (Some("expected"), [directory]) => write_cases(Path::new(directory))
+        (Some("expected"), [directory]) => write_files(Path::new(directory))
             .map_err(|error| format!("cannot write {directory:?}: {error}")),
         (Some("table" | "replay" | "random" | "expected"), _) => {
             Err(format!("wrong number of arguments for {name:?}"))

@@ -1,4 +1,3 @@
--- Entries by the lanes; sums over entries; sums over streams.
-pub mod Entries
+-- Sums over entries; sums over streams.
 pub mod Sums
 pub mod Shares

@@ -30,10 +30,11 @@ use Rattle.elements.specs.Few.{accepted-few}
 use Rattle.pipes.specs.declared.Flow.{Flow}
 use Rattle.pipes.specs.Flow.{Laid, Seen}
 use Rattle.pipes.specs.Accepted.{streams-used, laid-stream}
+use Rattle.parts.specs.Starts.{entering, filter-fewer}
 use Rattle.accept.specs.declared.Share.{Share}
 use Rattle.accept.specs.declared.Sums.{Sums}
 use Rattle.accept.specs.declared.Totals.{Totals}
-use Rattle.accept.specs.Sums.{stepsOn, sumsOver, Under, under, filter-fewer, entering}
+use Rattle.accept.specs.Sums.{stepsOn, sumsOver, Under, under}
 
 -- ---- one stream
 

@@ -1,12 +1,12 @@
 -- Sums over the entries of a stream, process by process. Assumes nothing.
 use mathlib.Core.Path.{_≡_, refl, sym, _∙_, ap, subst}
-use mathlib.Core.Bool.{Bool, true, false, not, cond, _&&_}
+use mathlib.Core.Bool.{Bool, true, false, not, cond}
 use mathlib.Core.List.{List, [], _∷_, List·Memᴰ as In, List·Memᴰ·head as here, List·Memᴰ·tail as there}
-use Prim.Native.Nat.{ℕ, zero, suc, _+_, _*_, _≤_, _<_}
+use Prim.Native.Nat.{ℕ, suc, _+_, _*_, _≤_, _<_}
 use native.Mathlib.Nat.{mul-le-mul}
 use native.Mathlib.Omega.{arith}
 use lib.Dec.{T}
-use lib.ListN.{length, getD, take}
+use lib.ListN.{length, take}
 use lib.Seq.{take-length, length-take-le}
 use Rattle.integers.specs.Vectors.{zero2}
 use Rattle.integers.specs.declared.V2.{V2}
@@ -15,7 +15,7 @@ use Rattle.meaning.specs.declared.Stream.{Stream}
 use Rattle.meaning.specs.Lists.{filter, total}
 use Rattle.meaning.specs.Space.{space, processes}
 use Rattle.meaning.specs.Streams.{elements}
-use Rattle.meaning.specs.Pipes.{isEntry, isPipe, entries, pipe, pipeElements}
+use Rattle.meaning.specs.Pipes.{entries, pipe, pipeElements}
 use Rattle.geometry.specs.Sorting.{fewer}
 use Rattle.geometry.specs.Places.{rank-yes, rank-no}
 use Rattle.geometry.specs.Boxes.{Inside, inside-points}
@@ -23,47 +23,13 @@ use Rattle.geometry.specs.Pipes.{Accepted, in-pipe}
 use Rattle.geometry.specs.Positions.{pipe-distinct}
 use Rattle.geometry.specs.Elements.{entries-entry, pipes-total}
 use Rattle.layout.specs.Ends.{processOf}
+use Rattle.parts.specs.Starts.{entering, total-next, total-part, filter-fewer}
 use Rattle.accept.specs.declared.Sums.{Sums}
 
 -- ---- lists
 
 module _ {A : Type 0} where
-  -- one more member looked at
-  total-next : (g : A → ℕ) (f : A → Bool) (l : List A) (k : ℕ) (d : A) → k < length l
-      → total g (filter f (take (suc k) l)) ≡ total g (filter f (take k l)) + cond (f (getD l k d)) (g (getD l k d)) 0
-  unfolding filter total
-  total-next g f [] k d h = absurd (omega arith)
-  total-next g f (x ∷ l) zero d h = go (f x) (none l)
-    where
-      none : (l : List A) → total g (filter f (take 0 l)) ≡ 0
-      none [] = refl
-      none (x ∷ l) = refl
-
-      go : (b : Bool) → total g (filter f (take 0 l)) ≡ 0 → total g (cond b (x ∷ filter f (take 0 l)) (filter f (take 0 l))) ≡ 0 + cond b (g x) 0
-      go true e = omega (arith, e)
-      go false e = omega (arith, e)
-  total-next g f (x ∷ l) (suc k) d h = go (f x) (total-next g f l k d (omega arith))
-    where
-      go : (b : Bool) → total g (filter f (take (suc k) l)) ≡ total g (filter f (take k l)) + cond (f (getD l k d)) (g (getD l k d)) 0
-          → total g (cond b (x ∷ filter f (take (suc k) l)) (filter f (take (suc k) l)))
-          ≡ total g (cond b (x ∷ filter f (take k l)) (filter f (take k l))) + cond (f (getD l k d)) (g (getD l k d)) 0
-      go true e = omega (arith, e)
-      go false e = e
-
-  -- a first part is no more than the whole
-  total-part : (g : A → ℕ) (f : A → Bool) (l : List A) (k : ℕ) → total g (filter f (take k l)) ≤ total g (filter f l)
-  unfolding filter total
-  total-part g f [] zero = omega arith
-  total-part g f [] (suc k) = omega arith
-  total-part g f (x ∷ l) zero = omega arith
-  total-part g f (x ∷ l) (suc k) = go (f x) (total-part g f l k)
-    where
-      go : (b : Bool) → total g (filter f (take k l)) ≤ total g (filter f l)
-          → total g (cond b (x ∷ filter f (take k l)) (filter f (take k l))) ≤ total g (cond b (x ∷ filter f l) (filter f l))
-      go true e = omega arith
-      go false e = e
-
-  -- and no more than so many times another
+  -- a sum that is no more than so many times another
   total-times : (g h : A → ℕ) (c : ℕ) (l : List A) → ((x : A) → In x l → g x ≤ c * h x) → total g l ≤ c * total h l
   unfolding total
   total-times g h c [] e = omega arith
@@ -72,26 +38,7 @@ module _ {A : Type 0} where
       go : (a b u v : ℕ) → a ≤ c * b → u ≤ c * v → a + u ≤ c * (b + v)
       go a b u v p q = omega arith
 
-  pub filter-fewer : (f : A → Bool) (l : List A) → length (filter f l) ≤ length l
-  unfolding filter
-  filter-fewer f [] = omega arith
-  filter-fewer f (x ∷ l) = go (f x) (filter-fewer f l)
-    where
-      go : (b : Bool) → length (filter f l) ≤ length l → length (cond b (x ∷ filter f l) (filter f l)) ≤ suc (length l)
-      go true e = omega arith
-      go false e = omega arith
-
--- ---- the entries of a stream
-
-abbrev pub entering : Nest → Stream → V2 → Bool
-entering n s y = isEntry n s y && isPipe n s y
-
-pub entering-entry : (n : Nest) (s : Stream) (y : V2) → entering n s y ≡ true → isEntry n s y ≡ true
-entering-entry n s y e = go (isEntry n s y) e
-  where
-    go : (b : Bool) → b && isPipe n s y ≡ true → b ≡ true
-    go true e = refl
-    go false e = e
+-- ---- the steps of a stream
 
 -- "twice its elements times one more than its processes"
 abbrev pub stepsOn : Nest → Stream → V2 → ℕ

@@ -2,15 +2,14 @@
 //
 // specs/, by file:
 //
-//   Entries   an entry of a pipe by the lanes
 //   Sums      sums over the entries of a stream, process by process, and their bounds
 //   Shares    sums over the streams, stream by stream, and the figures
 ghost use mathlib.Core.Path.{_≡_};
-ghost use mathlib.Core.Bool.{true, _&&_};
+ghost use mathlib.Core.Bool.{true};
 ghost use Prim.Native.Nat.{suc, _≤_};
 ghost use lib.ListN.{length};
 ghost use Rattle.meaning.specs.Limits.{gaugeLimits};
-ghost use Rattle.meaning.specs.Pipes.{isEntry, isPipe, entries};
+ghost use Rattle.meaning.specs.Pipes.{isEntry, entries};
 ghost use Rattle.meaning.specs.Accept.{figures, accept};
 ghost use Rattle.layout.specs.Ends.{processOf, Ends};
 ghost use Rattle.pipes.specs.Elements.{Near};
@@ -46,18 +45,6 @@ struct Totals {
 
 // ---- one stream
 
-// Whether process p is the entry of a pipe.
-fn is_entry(f: Flow, ends: &[u32], lanes: &[u32], p: usize) -> bool
-    requires { ⌜ Near f (now ends) (now lanes) p ⌝ }
-    ensures { λ r. ⌜ r ≡ isEntry (f .nest) (f .stream) (processOf (f .nest) p) && isPipe (f .nest) (f .stream) (processOf (f .nest) p) ⌝ }
-{
-    if pipes::entry_at(f, ends, lanes, p) == p {
-        pipes::held_at(f, ends, lanes, p) != 0
-    } else {
-        false
-    }
-}
-
 // The steps of the pipe that enters at process p: twice its elements times one more than its processes.
 fn pipe_steps(f: Flow, ends: &[u32], lanes: &[u32], p: usize) -> u32
     requires { ⌜ (Near f (now ends) (now lanes) p) × (isEntry (f .nest) (f .stream) (processOf (f .nest) p) ≡ true) ⌝ }
@@ -75,7 +62,7 @@ fn added(f: Flow, ends: &[u32], lanes: &[u32], p: usize, sums: Sums) -> Sums
     requires { ⌜ (Near f (now ends) (now lanes) p) × (sums ≡ sumsAt (f .nest) (f .stream) p) × (Under (f .nest) (f .stream)) ⌝ }
     ensures { λ r. ⌜ r ≡ sumsAt (f .nest) (f .stream) (suc p) ⌝ }
 {
-    if is_entry(f, ends, lanes, p) {
+    if parts::is_entry(f, ends, lanes, p) {
         Sums {
             pipes: sums.pipes + 1,
             steps: sums.steps + pipe_steps(f, ends, lanes, p),

@@ -6,7 +6,8 @@ use std::path::PathBuf;
 use std::process::{Command, Output, Stdio};
 
 use reference::designs::polynomial_two;
-use reference::expected::vectors;
+use reference::examples::examples;
+use reference::expected::{cases, vectors};
 use reference::random_script::scripts;
 use reference::replay::replay;
 use reference::table::table_text;
@@ -105,6 +106,16 @@ fn expected_files() {
         assert!(!(2..1000).any(|d| left(&d)), "{line}");
     }
     assert!(output.contains("2147483648 -1 0 0\n"));
+    for case in cases() {
+        let folder = place.join("crates").join(case.name);
+        let read = |name: &str| fs::read(folder.join(name)).expect("a file of the case");
+        assert_eq!((read("stdin"), read("stdout")), (case.stdin, case.stdout));
+    }
+    for example in examples() {
+        let file = place.join("examples").join(format!("{}.bin", example.name));
+        let bytes = fs::read(file).expect("an example");
+        assert_eq!(bytes, example.description.bytes());
+    }
 }
 
 #[test]

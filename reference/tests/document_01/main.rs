@@ -2,6 +2,7 @@
 
 mod any_input;
 mod command_line;
+mod comparison;
 mod demand_3;
 mod lists;
 mod plain_runs;

@@ -1,8 +1,8 @@
--- `accept::is_entry` meets its contract. Assumes nothing.
+-- `parts::is_entry` meets its contract. Assumes nothing.
 use borrow.Author.Needs.{needs}
-use Rattle.accept.specs.Entries.{entry-test, no-entry, pipe-test}
-use Rattle.accept.proofs.is_entry.Statement.{statement}
-use Rattle.accept.proofs.is_entry.Tie as tie
+use Rattle.parts.specs.Entries.{entry-test, no-entry, pipe-test}
+use Rattle.parts.proofs.is_entry.Statement.{statement}
+use Rattle.parts.proofs.is_entry.Tie as tie
 
 entry-at-requires : tie.Need-entry-at-requires
 entry-at-requires c κs = search needs

@@ -1,0 +1,360 @@
+// What Accept, Table and Plain run answer and leave in the lent lists, for descriptions on standard input, each behind a word with its number
+// of bytes. It reads up to 65,536 descriptions; more than 508 bytes are taken as 508, and bytes that are missing as 0. For each it prints
+// Accept's answer, then `table` with three calls (one row fewer than there are processes, as many, and 1,024), then `plain` with four calls (a
+// value too few, an output too long, both wrong, and both right). A call is printed as the number by which it declines, or 0, and the sum of
+// its list, one row or word more than the call names. An array of at most 12 elements has its rows, values and final values printed as well.
+// A description that is declined counts as one process and one element.
+ghost use Prim.Native.Nat.{_≤_, _<_, _+_};
+ghost use lib.ListN.{length};
+use integers::V2;
+use integers::V3;
+use libc::STDIN_FILENO;
+use libc::STDOUT_FILENO;
+use meaning::Acceptance;
+use meaning::Answer;
+use meaning::Figures;
+use meaning::Row;
+
+// ---- values and sums
+
+fn wide(x: u32) -> u64
+    ensures { λ r. ⌜ r < 4294967296 ⌝ }
+{
+    x as u64
+}
+
+// The one rule behind values and sums. It tells lists apart that differ in one place.
+fn mix(sum: u32, word: u32) -> u32 {
+    ((wide(sum) * 1664525 + wide(word) + 1013904223) % 4294967296) as u32
+}
+
+// A whole number modulo 2^32.
+fn mix_signed(sum: u32, z: i32) -> u32 {
+    let size = integers::magnitude(z);
+    if z < 0 {
+        return mix(sum, std::num::wrapping_sub_u32(0, size));
+    }
+    mix(sum, size)
+}
+
+fn mix_vector(sum: u32, v: V3) -> u32 {
+    mix_signed(mix_signed(mix_signed(sum, v.x), v.y), v.z)
+}
+
+// The sum goes on over the first words.
+fn sum_of(sum: u32, words: &[u32], count: usize) -> u32
+    requires { ⌜ count ≤ length (now words) ⌝ }
+{
+    let mut next = sum;
+    let mut i: usize = 0;
+    while i < count {
+        next = mix(next, words[i]);
+        i += 1;
+    }
+    next
+}
+
+fn mix_streams(sum: u32, words: [u32; 6]) -> u32 {
+    sum_of(sum, &words, 6)
+}
+
+fn mix_row(sum: u32, r: Row) -> u32 {
+    let y = r.point;
+    let point = mix_signed(mix_signed(sum, y.a), y.b);
+    let count = mix(point, r.count);
+    let first = mix_vector(count, r.first);
+    let last = mix_vector(first, r.last);
+    let soak = r.soak;
+    let soaks = mix_streams(last, soak);
+    let drain = r.drain;
+    mix_streams(soaks, drain)
+}
+
+fn sum_of_rows(rows: [Row; 1024], count: usize) -> u32 {
+    let mut sum: u32 = 0;
+    let mut p: usize = 0;
+    while p < 1024 {
+        if count <= p {
+            return sum;
+        }
+        sum = mix_row(sum, rows[p]);
+        p += 1;
+    }
+    sum
+}
+
+// The values for the description of a number.
+fn fill_values(values: &mut [u32], count: usize, number: u32)
+    requires { ⌜ (count ≤ length (now values)) × (count ≤ 24577) ⌝ }
+{
+    let mut value = number;
+    let mut k: usize = 0;
+    while k < count {
+        value = mix(value, k as u32);
+        values[k] = value;
+        k += 1;
+    }
+}
+
+// The words of an output before a call.
+fn mark(output: &mut [u32], count: usize)
+    requires { ⌜ count ≤ length (now output) ⌝ }
+{
+    let mut k: usize = 0;
+    while k < count {
+        output[k] = 7;
+        k += 1;
+    }
+}
+
+// ---- text
+
+fn print(text: &[u8]) {
+    io::write_all(STDOUT_FILENO, text);
+}
+
+fn print_number(x: u32) {
+    print(b" ");
+    io::print_decimal(STDOUT_FILENO, wide(x));
+}
+
+fn print_signed(z: i32) {
+    let size = integers::magnitude(z);
+    if z < 0 {
+        print(b" -");
+        io::print_decimal(STDOUT_FILENO, wide(size));
+    } else {
+        print_number(size);
+    }
+}
+
+fn print_vector(v: V3) {
+    print_signed(v.x);
+    print_signed(v.y);
+    print_signed(v.z);
+}
+
+fn print_words(words: &[u32], count: usize)
+    requires { ⌜ count ≤ length (now words) ⌝ }
+{
+    let mut i: usize = 0;
+    while i < count {
+        print_number(words[i]);
+        i += 1;
+    }
+}
+
+fn print_streams(words: [u32; 6]) {
+    print_words(&words, 6);
+}
+
+fn print_row(r: Row) {
+    print(b"row");
+    let y = r.point;
+    print_signed(y.a);
+    print_signed(y.b);
+    print_number(r.count);
+    print_vector(r.first);
+    print_vector(r.last);
+    let soak = r.soak;
+    print_streams(soak);
+    let drain = r.drain;
+    print_streams(drain);
+    print(b"\n");
+}
+
+fn print_rows(rows: [Row; 1024], count: usize) {
+    let mut p: usize = 0;
+    while p < 1024 {
+        if count <= p {
+            return;
+        }
+        print_row(rows[p]);
+        p += 1;
+    }
+}
+
+fn print_list(name: &[u8], words: &[u32], count: usize)
+    requires { ⌜ count ≤ length (now words) ⌝ }
+{
+    print(name);
+    print_words(words, count);
+    print(b"\n");
+}
+
+fn number_of(answer: Answer) -> u32 {
+    match answer {
+        Answer::Done => 0,
+        Answer::Refused(number) => number,
+    }
+}
+
+fn print_call(answer: Answer, sum: u32) {
+    print_number(number_of(answer));
+    print_number(sum);
+}
+
+fn print_figures(f: Figures) {
+    io::print_decimal(STDOUT_FILENO, wide(f.processes));
+    print_number(f.instances);
+    print_number(f.elements);
+    print_number(f.pipes);
+    print_number(f.words);
+    print_number(f.steps);
+    print(b"\n");
+}
+
+fn print_refusal(number: u32) {
+    print(b"refused");
+    print_number(number);
+    print(b"\n");
+}
+
+// ---- the calls
+
+// What the lengths of the lists are made of: processes, elements, and whether all is printed.
+struct Extents {
+    processes: usize,
+    elements: usize,
+    small: bool,
+}
+
+// x, or the nearest number from 1 to most.
+fn within(x: u32, most: usize) -> usize
+    requires { ⌜ (1 ≤ most) × (most < 4294967296) ⌝ }
+    ensures { λ r. ⌜ (1 ≤ r) × (r ≤ most) ⌝ }
+{
+    if x == 0 {
+        return 1;
+    }
+    if x as usize <= most { x as usize } else { most }
+}
+
+fn accept_line(s: &[u8]) -> Extents
+    ensures { λ r. ⌜ (1 ≤ r .processes) × (r .processes ≤ 1024) × (1 ≤ r .elements) × (r .elements ≤ 24576) ⌝ }
+{
+    let answer = accept::accept(s);
+    match answer {
+        Acceptance::Accepted(f) => {
+            print_figures(f);
+            Extents {
+                processes: within(f.processes, 1024),
+                elements: within(f.elements, 24576),
+                small: f.elements <= 12,
+            }
+        }
+        Acceptance::Refused(number) => {
+            print_refusal(number);
+            Extents {
+                processes: 1,
+                elements: 1,
+                small: false,
+            }
+        }
+    }
+}
+
+fn table_call(s: &[u8], lent: usize, seen: usize)
+    requires { ⌜ lent ≤ 1024 ⌝ }
+{
+    let listed = rows::table(s, lent);
+    let answer = listed.answer;
+    let rows = listed.rows;
+    print_call(answer, sum_of_rows(rows, seen));
+}
+
+fn table_lines(s: &[u8], e: Extents)
+    requires { ⌜ (1 ≤ e .processes) × (e .processes ≤ 1024) ⌝ }
+{
+    let processes = e.processes;
+    print(b"table");
+    table_call(s, processes - 1, processes + 1);
+    table_call(s, processes, processes + 1);
+    table_call(s, 1024, processes + 1);
+    print(b"\n");
+    if e.small {
+        let listed = rows::table(s, processes);
+        let rows = listed.rows;
+        print_rows(rows, processes);
+    }
+}
+
+fn plain_call(s: &[u8], values: &[u32], given: usize, output: &mut [u32], lent: usize, seen: usize)
+    requires { ⌜ (given ≤ length (now values)) × (lent ≤ length (now output)) × (seen ≤ length (now output)) ⌝ }
+{
+    mark(output, seen);
+    let answer = plain::plain_run(s, &values[..given], &mut output[..lent]);
+    print_call(answer, sum_of(0, output, seen));
+}
+
+fn plain_calls(s: &[u8], values: &[u32], output: &mut [u32], elements: usize)
+    requires { ⌜ (1 ≤ elements) × (elements + 1 ≤ length (now values)) × (elements + 1 ≤ length (now output)) ⌝ }
+{
+    let fewer = elements - 1;
+    let more = elements + 1;
+    plain_call(s, values, fewer, output, elements, more);
+    plain_call(s, values, elements, output, more, more);
+    plain_call(s, values, more, output, fewer, more);
+    plain_call(s, values, elements, output, elements, more);
+}
+
+fn plain_lines(s: &[u8], e: Extents, number: u32)
+    requires { ⌜ (1 ≤ e .elements) × (e .elements ≤ 24576) ⌝ }
+{
+    let elements = e.elements;
+    let mut values = [0u32; 24577];
+    let mut output = [0u32; 24577];
+    fill_values(&mut values, elements + 1, number);
+    print(b"plain");
+    plain_calls(s, &values, &mut output, elements);
+    print(b"\n");
+    if e.small {
+        print_list(b"values", &values, elements);
+        print_list(b"final", &output, elements);
+    }
+}
+
+fn compare(s: &[u8], number: u32) {
+    let e = accept_line(s);
+    table_lines(s, e);
+    plain_lines(s, e, number);
+}
+
+// ---- the input
+
+// The number of bytes of the next description.
+fn bytes_in(word: &[u8]) -> isize {
+    let n = integers::bits_at(word, 0);
+    if n < 508 { n as isize } else { 508 }
+}
+
+fn read(bytes: &mut [u8], wanted: isize) {
+    let n = io::count(wanted, bytes);
+    io::read_full(STDIN_FILENO, &mut bytes[..n]);
+}
+
+// Whether there was a description.
+fn compare_next(number: u32) -> bool {
+    let mut word = [0u8; 4];
+    let got = io::read_full(STDIN_FILENO, &mut word);
+    if got < 4 {
+        return false;
+    }
+    let wanted = bytes_in(&word);
+    let mut bytes = [0u8; 508];
+    read(&mut bytes, wanted);
+    let n = io::count(wanted, &bytes);
+    compare(&bytes[..n], number);
+    true
+}
+
+fn main() {
+    let mut number: u32 = 0;
+    while number < 65536 {
+        if compare_next(number) {
+            number += 1;
+        } else {
+            return;
+        }
+    }
+}

@@ -1,0 +1,3 @@
+-- Entries by the lanes; starts of the parts.
+pub mod Entries
+pub mod Starts

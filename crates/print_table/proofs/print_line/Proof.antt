@@ -1,0 +1,31 @@
+-- `print_table::print_line` is safe and ends. Assumes nothing.
+use mathlib.Core.Path.{sym}
+use lib.Seq.{length-take-le}
+use borrow.Author.Needs.{needs}
+use Rattle.print_table.proofs.print_line.Statement.{statement}
+use Rattle.print_table.proofs.print_line.Tie as tie
+
+written-requires : tie.Need-written-requires
+written-requires c κs = search needs
+
+array-share-prefix-line : tie.Need-array-share-prefix-line
+array-share-prefix-line c = search needs
+
+slice-aggregate-write-all : tie.Need-slice-aggregate-write-all
+slice-aggregate-write-all c = sym (length-take-le (c .before .written .result) (c .before .before .args .t1) (search needs))
+
+write-all-requires : tie.Need-write-all-requires
+write-all-requires c κs = search needs
+
+returns : tie.Need-returns
+returns c = search needs
+
+pub print-line-spec : {M : Type 1} → statement M
+print-line-spec =
+    tie.close
+    (tie.spec
+    written-requires
+    array-share-prefix-line
+    slice-aggregate-write-all
+    write-all-requires
+    returns)

@@ -1,0 +1,55 @@
+// The call Table on a local list, handed out by value: whoever calls it here needs no proof by hand.
+ghost use mathlib.Core.Path.{_≡_};
+ghost use mathlib.Core.List.{_++_};
+ghost use Prim.Native.Nat.{_≤_, _-_};
+ghost use lib.ListN.{replicate};
+ghost use Rattle.meaning.specs.Limits.{gaugeLimits};
+ghost use Rattle.meaning.specs.Calls.{table};
+ghost use Rattle.rows.specs.Marked.{marked};
+use integers::V2;
+use integers::V3;
+use meaning::Answer;
+use meaning::Row;
+
+// Table's answer, and the list afterwards.
+pub struct Listed {
+    pub answer: Answer,
+    pub rows: [Row; 1024],
+}
+
+// A row as it is before the call.
+fn mark() -> Row
+    ensures { λ r. ⌜ r ≡ marked ⌝ }
+{
+    let soak = [7; 6];
+    let drain = [7; 6];
+    Row {
+        point: V2 { a: 7, b: 7 },
+        count: 7,
+        first: V3 { x: 7, y: 7, z: 7 },
+        last: V3 { x: 7, y: 7, z: 7 },
+        soak: soak,
+        drain: drain,
+    }
+}
+
+fn both(answer: Answer, rows: [Row; 1024]) -> Listed
+    ensures { λ r. ⌜ (r .answer ≡ answer) × (r .rows ≡ rows) ⌝ }
+{
+    Listed {
+        answer: answer,
+        rows: rows,
+    }
+}
+
+// The call is lent the first n of 1,024 marked rows.
+pub fn table<'s>(s: &'s [u8], n: usize) -> Listed
+    requires { ⌜ n ≤ 1024 ⌝ }
+    ensures { λ r. ⌜ (r .answer ≡ table gaugeLimits (now (s .entry)) (replicate n marked) .answer)
+        × (r .rows ≡ table gaugeLimits (now (s .entry)) (replicate n marked) .rows ++ replicate (1024 - n) marked) ⌝ }
+{
+    let m = mark();
+    let mut rows = [m; 1024];
+    let answer = table::table(s, &mut rows[..n]);
+    both(answer, rows)
+}

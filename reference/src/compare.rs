@@ -1,0 +1,256 @@
+//! The comparison: what Accept, Table and Plain run answer and leave in the lent lists, for a few thousand descriptions.
+
+use std::fmt::Display;
+
+use crate::calls::{Calls, Row};
+use crate::description::{bytes_of, Description};
+use crate::designs;
+use crate::random::Random;
+use crate::random_description;
+use crate::Refusal;
+
+/// The most rows that are lent.
+const ROWS: usize = 1024;
+
+/// Every word of the lists before a call.
+const MARK: u32 = 7;
+
+/// The most elements of an array whose rows and final values are printed whole.
+const SMALL: usize = 12;
+
+/// The descriptions, each behind a word with its number of bytes.
+pub fn input(descriptions: &[Vec<u8>]) -> Vec<u8> {
+    let mut bytes = Vec::new();
+    for description in descriptions {
+        bytes.extend(bytes_of(&[description.len() as i32]));
+        bytes.extend(description);
+    }
+    bytes
+}
+
+/// What is printed for the descriptions.
+pub fn text(descriptions: &[Vec<u8>]) -> String {
+    let numbered = descriptions.iter().enumerate();
+    numbered
+        .map(|(number, description)| description_text(number as u32, description))
+        .collect()
+}
+
+/// Accept's answer, a line for Table and a line for Plain run: for each call its number, 0 if it did not decline, and the sum of its list. The
+/// rows and the final values of a small array stand below. A description that is declined counts as one process and one element.
+fn description_text(number: u32, description: &[u8]) -> String {
+    let calls = Calls::on(description);
+    let accepted = calls.accept();
+    let (processes, elements) = accepted.map_or((1, 1), |found| (found.processes, found.elements));
+    let small = accepted.is_ok() && elements <= SMALL;
+    let first = accepted.map_or_else(
+        |refusal| refusal.to_string(),
+        |found| {
+            let (pipes, words, steps) = (found.pipes, found.words, found.steps);
+            let instances = found.instances;
+            format!("{processes} {instances} {elements} {pipes} {words} {steps}")
+        },
+    );
+    let table = table_text(&calls, processes, small);
+    let plain = plain_text(&calls, number, elements, small);
+    format!("{first}\n{table}{plain}")
+}
+
+/// Table with a row too few, with as many as there are processes, and with 1,024.
+fn table_text(calls: &Calls, processes: usize, small: bool) -> String {
+    let mut text = "table".to_string();
+    let mut rows = Vec::new();
+    for lent in [processes - 1, processes, ROWS] {
+        rows = vec![marked_row(); ROWS];
+        let answer = calls.table(&mut rows[..lent]);
+        let seen = &rows[..(processes + 1).min(ROWS)];
+        let words: Vec<u32> = seen.iter().flat_map(row_words).collect();
+        text.push_str(&call_text(answer, &words));
+    }
+    text.push('\n');
+    if small {
+        for row in &rows[..processes] {
+            text.push_str(&line("row", &row_numbers(row)));
+        }
+    }
+    text
+}
+
+/// Plain run with a value too few, with an output too long, with both lists wrong, and with lists of the right length.
+fn plain_text(calls: &Calls, number: u32, elements: usize, small: bool) -> String {
+    let values = values(number, elements + 1);
+    let mut text = "plain".to_string();
+    let mut output = Vec::new();
+    for (given, lent) in [
+        (elements - 1, elements),
+        (elements, elements + 1),
+        (elements + 1, elements - 1),
+        (elements, elements),
+    ] {
+        output = vec![MARK; elements + 1];
+        let answer = calls.plain_run(&values[..given], &mut output[..lent]);
+        text.push_str(&call_text(answer, &output));
+    }
+    text.push('\n');
+    if small {
+        text.push_str(&line("values", &values[..elements]));
+        text.push_str(&line("final", &output[..elements]));
+    }
+    text
+}
+
+/// A call's number and the sum of its list.
+fn call_text(answer: Result<(), Refusal>, words: &[u32]) -> String {
+    let number = answer.map_or_else(|refusal| refusal.0, |()| 0);
+    format!(" {number} {}", sum(words))
+}
+
+/// A name and numbers.
+fn line<T: Display>(name: &str, numbers: &[T]) -> String {
+    let numbers: String = numbers.iter().map(|number| format!(" {number}")).collect();
+    format!("{name}{numbers}\n")
+}
+
+/// The one rule behind values and sums, modulo 2^32. It tells words apart that differ in one place.
+pub fn mix(sum: u32, word: u32) -> u32 {
+    sum.wrapping_mul(1_664_525)
+        .wrapping_add(word)
+        .wrapping_add(1_013_904_223)
+}
+
+/// The sum of a list's words.
+pub fn sum(words: &[u32]) -> u32 {
+    words.iter().fold(0, |sum, &word| mix(sum, word))
+}
+
+/// The values for the description of a number.
+pub fn values(number: u32, count: usize) -> Vec<u32> {
+    let mut value = number;
+    let mut next = |place| {
+        value = mix(value, place);
+        value
+    };
+    (0..count as u32).map(&mut next).collect()
+}
+
+/// A row before a call.
+fn marked_row() -> Row {
+    let mark = MARK as i32;
+    Row {
+        point: [mark; 2],
+        count: MARK,
+        first: [mark; 3],
+        last: [mark; 3],
+        soak: [MARK; 6],
+        drain: [MARK; 6],
+    }
+}
+
+/// A row's numbers in document 01's order: point, count, first, last, soaks, drains.
+fn row_numbers(row: &Row) -> Vec<i64> {
+    let signed = |words: &[i32]| words.iter().map(|&word| i64::from(word)).collect();
+    let unsigned = |words: &[u32]| words.iter().map(|&word| i64::from(word)).collect();
+    let parts: [Vec<i64>; 6] = [
+        signed(&row.point),
+        unsigned(&[row.count]),
+        signed(&row.first),
+        signed(&row.last),
+        unsigned(&row.soak),
+        unsigned(&row.drain),
+    ];
+    parts.concat()
+}
+
+/// A row's numbers as words.
+fn row_words(row: &Row) -> Vec<u32> {
+    let numbers = row_numbers(row);
+    numbers.into_iter().map(|number| number as u32).collect()
+}
+
+/// About 3,000 descriptions: the report's designs, document 01's cases, arrays at the limits, every refusal, accepted ones, and such with a
+/// word changed.
+pub fn descriptions() -> Vec<Vec<u8>> {
+    let mut designs = report_designs();
+    designs.extend(worked_cases());
+    designs.extend(limit_designs());
+    let mut descriptions: Vec<Vec<u8>> = designs.iter().map(Description::bytes).collect();
+    let mut random = Random::new(3);
+    for number in 1..=17 {
+        // Large arrays take long to make, and most of those that are tried are declined by 6.
+        let count = if number == 10 { 5 } else { 50 };
+        for _ in 0..count {
+            descriptions.push(random_description::refused(&mut random, number));
+        }
+    }
+    for _ in 0..1550 {
+        descriptions.push(random_description::accepted(&mut random).bytes());
+    }
+    for _ in 0..600 {
+        descriptions.push(random_description::changed(&mut random));
+    }
+    descriptions
+}
+
+/// The report's designs for n = 0 to 6, and the array that needs its hops.
+fn report_designs() -> Vec<Description> {
+    let designs = |n| {
+        [
+            designs::polynomial_one(n),
+            designs::polynomial_two(n),
+            designs::matrix_straight(n),
+            designs::matrix_moving(n),
+            designs::matrix_slanted(n),
+        ]
+    };
+    let mut all: Vec<Description> = (0..=6).flat_map(designs).collect();
+    all.push(designs::needs_its_hops());
+    all
+}
+
+/// Document 01's other cases: places, steps and an index map that are refused or just pass, bounds 0 to 0, and grids of 32 by 32 and 33 by 32.
+fn worked_cases() -> Vec<Description> {
+    let two = |place: [i32; 2], step: [i32; 2]| Description {
+        place: vec![place.to_vec()],
+        step: step.to_vec(),
+        ..designs::polynomial_two(2)
+    };
+    let one = |factor: i32| {
+        let mut one = designs::polynomial_one(2);
+        one.maps[2] = vec![vec![1, -1]];
+        one.step = vec![factor, 1];
+        one
+    };
+    vec![
+        two([1, -1], [2, 1]),
+        two([2, 1], [3, 1]),
+        one(7),
+        one(8),
+        designs::polynomial_one(0),
+        grid(32, 32, 1),
+        grid(33, 32, 1),
+    ]
+}
+
+/// The report's designs as large as they may be and one size larger, and 1,024 processes with 4,096 instances.
+fn limit_designs() -> Vec<Description> {
+    let mut wider = designs::polynomial_one(63);
+    wider.right[1] = 64;
+    vec![
+        designs::polynomial_one(63),
+        designs::polynomial_two(63),
+        wider,
+        designs::matrix_straight(15),
+        designs::matrix_straight(16),
+        designs::matrix_moving(15),
+        designs::matrix_slanted(11),
+        grid(32, 32, 4),
+        grid(32, 32, 5),
+    ]
+}
+
+/// The matrix product with place (i, j) on so many processes, each with so many instances.
+fn grid(rows: i32, columns: i32, instances: i32) -> Description {
+    let mut grid = designs::matrix_straight(0);
+    grid.right = vec![rows - 1, columns - 1, instances - 1];
+    grid
+}

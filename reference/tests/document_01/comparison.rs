@@ -1,0 +1,103 @@
+//! The comparison of Accept, Table and Plain run, and the examples.
+
+use std::collections::BTreeSet;
+
+use reference::calls::Calls;
+use reference::compare::{descriptions, input, mix, sum, text, values};
+use reference::designs::polynomial_two;
+use reference::examples::examples;
+use reference::Refusal;
+
+#[test]
+fn every_refusal_shape_and_limit() {
+    let descriptions = descriptions();
+    assert!(descriptions.len() >= 2900);
+    let (mut refusals, mut shapes, mut sizes) = (BTreeSet::new(), BTreeSet::new(), BTreeSet::new());
+    let mut nulls = 0;
+    for bytes in &descriptions {
+        let calls = Calls::on(bytes);
+        let found = match calls.accept() {
+            Ok(found) => found,
+            Err(Refusal(number)) => {
+                refusals.insert(number);
+                continue;
+            }
+        };
+        let array = &calls.network().expect("an accepted description").array;
+        let loops = array.description.loops();
+        for stream in &array.streams {
+            shapes.insert((loops, array.streams.len(), stream.moving));
+        }
+        sizes.insert((found.processes, found.instances));
+        nulls += array.processes.iter().filter(|it| it.null()).count();
+    }
+    assert!(refusals.into_iter().eq(1..=17));
+    assert_eq!(shapes.len(), 2 * 6 * 2);
+    assert!(sizes.contains(&(1024, 4096)));
+    assert!(nulls > 1000);
+    let size = input(&descriptions).len() + text(&descriptions).len();
+    assert!(size < 2_000_000, "{size} bytes");
+}
+
+#[test]
+fn text_of_design_two() {
+    let bytes = polynomial_two(2).bytes();
+    let text = text(&[vec![0; 3], bytes.clone()]);
+    let lines: Vec<&str> = text.lines().collect();
+    assert_eq!(lines[0], "refused 1");
+    assert_eq!(lines[3], "5 9 11 3 95 141");
+    let declined: Vec<&str> = lines[1].split(' ').collect();
+    assert_eq!(
+        declined,
+        [
+            "table",
+            "1",
+            declined[2],
+            "1",
+            declined[2],
+            "1",
+            declined[2]
+        ]
+    );
+    let table: Vec<&str> = lines[4].split(' ').collect();
+    assert_eq!((table[1], table[3], table[5]), ("18", "0", "0"));
+    assert_ne!(table[2], table[4]);
+    assert_eq!(table[4], table[6]);
+    assert_eq!(lines[6], "row 1 0 2 0 1 0 1 0 0 0 1 1 0 0 0 1 0 3 0 0 0");
+    let plain: Vec<&str> = lines[10].split(' ').collect();
+    assert_eq!(
+        (plain[1], plain[3], plain[5], plain[7]),
+        ("20", "28", "20", "0")
+    );
+    let unchanged = sum(&[7; 12]).to_string();
+    assert_eq!([plain[2], plain[4], plain[6]], [&unchanged; 3]);
+    let given = values(1, 11);
+    let mut output = vec![0; 11];
+    assert!(Calls::on(&bytes).plain_run(&given, &mut output).is_ok());
+    let numbers = |list: &[u32]| list.iter().map(|n| format!(" {n}")).collect::<String>();
+    assert_eq!(lines[11], format!("values{}", numbers(&given)));
+    assert_eq!(lines[12], format!("final{}", numbers(&output)));
+    output.push(7);
+    assert_eq!(plain[8], sum(&output).to_string());
+    assert_eq!(lines.len(), 13);
+}
+
+#[test]
+fn the_rule_of_values_and_sums() {
+    assert_eq!(mix(0, 0), 1_013_904_223);
+    assert_eq!(mix(2, u32::MAX), 2 * 1_664_525 + 1_013_904_222);
+    assert_eq!(sum(&[5, 6]), mix(mix(0, 5), 6));
+    assert_ne!(sum(&[5, 6]), sum(&[6, 5]));
+    assert_eq!(values(9, 2), [mix(9, 0), mix(mix(9, 0), 1)]);
+}
+
+#[test]
+fn examples_are_accepted() {
+    let names: BTreeSet<&str> = examples().iter().map(|example| example.name).collect();
+    assert_eq!(names.len(), examples().len());
+    assert!(names.contains("polynomial-two"));
+    for example in examples() {
+        let bytes = example.description.bytes();
+        assert!(Calls::on(&bytes).accept().is_ok(), "{}", example.name);
+    }
+}
