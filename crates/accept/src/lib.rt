@@ -165,7 +165,7 @@ fn figures_of(d: Description) -> Figures
 pub fn accept(s: &[u8]) -> Acceptance
     ensures { λ r. ⌜ r ≡ accept gaugeLimits (now (s .entry)) ⌝ }
 {
-    let refusal = refusals::refusal_of(s);
+    let refusal = verdict::refusal_of(s);
     if refusal == 0 {
         Acceptance::Accepted(figures_of(decode::description(s)))
     } else {

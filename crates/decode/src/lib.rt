@@ -1,19 +1,23 @@
-// Document 01, "The description": bytes to words, words to a Description, and the refusals 1 to 5. Words past the end read as 0, so that every
-// read is defined; what a refusal of 0 says of a description is in specs/Ranged, as one record of ranges.
+// Document 01, "The description": bytes to words and words to a Description. Words past the end read as 0, so that every read is defined.
+//
+// specs/, by file:
+//
+//   Offsets     where the parts begin, of sizes in range
+//   Filled      lists with a part in use and a pad behind it
+//   Scans       searches as loops run them that stop at the first answer
+//   Ranges      the range of each word, part by part
+//   Refusals    the refusals 1 to 5 in stages, which the crate `ranges` tests
+//   Ranged      what a refusal of 0 says of a description, as one record of ranges
 ghost use mathlib.Core.Path.{_≡_};
-ghost use mathlib.Core.Bool.{cond, not, _&&_};
+ghost use mathlib.Core.Bool.{cond};
 ghost use Prim.Native.Nat.{_≤_, _<_};
-ghost use lib.Dec.{eqb, leb};
+ghost use lib.Dec.{eqb};
 ghost use lib.IntN.{pos};
 ghost use lib.ListN.{getD};
-ghost use lib.Signed.{ltZ};
 ghost use Rattle.integers.specs.Bytes.{wordAt};
-ghost use Rattle.meaning.specs.Tests.{refusal};
-ghost use Rattle.meaning.specs.Description.{sizesOf, mapAt, loadingAt, lineAt, inRange, vectorAt, unit3, matrixAt, nestOf, loadingOf, streamOf, bodyLine, noStream, noLine, descriptionOf, written, refused2, refused4, refused5};
+ghost use Rattle.meaning.specs.Description.{sizesOf, mapAt, loadingAt, lineAt, vectorAt, unit3, matrixAt, nestOf, loadingOf, streamOf, bodyLine, noStream, noLine, descriptionOf, written};
 ghost use Rattle.decode.specs.Offsets.{Sized};
 ghost use Rattle.decode.specs.Filled.{filled};
-ghost use Rattle.decode.specs.Ranges.{rangeTest};
-ghost use Rattle.decode.specs.Refusals.{wordTests, lengthTests, firstTests};
 use integers::Matrix;
 use integers::V2;
 use integers::V3;
@@ -26,7 +30,7 @@ use meaning::Stream;
 // ---- the parts
 
 // The three sizes.
-fn sizes(s: &[u8]) -> Sizes
+pub fn sizes(s: &[u8]) -> Sizes
     ensures { λ r. ⌜ r ≡ sizesOf (now (s .entry)) ⌝ }
 {
     Sizes {
@@ -94,7 +98,7 @@ fn loading(s: &[u8], z: Sizes, k: u32) -> V2
 }
 
 // The loops with their layout.
-fn nest(s: &[u8], z: Sizes) -> Nest
+pub fn nest(s: &[u8], z: Sizes) -> Nest
     requires { ⌜ Sized z ⌝ }
     ensures { λ r. ⌜ r ≡ nestOf (now (s .entry)) z ⌝ }
 {
@@ -120,7 +124,7 @@ fn map_at(z: Sizes, i: u32) -> u32
 }
 
 // The word at which loading vector i begins.
-fn loading_at(z: Sizes, i: u32) -> u32
+pub fn loading_at(z: Sizes, i: u32) -> u32
     requires { ⌜ (Sized z) × (i ≤ 6) ⌝ }
     ensures { λ r. ⌜ (r ≡ loadingAt z i) × (r ≤ 69) ⌝ }
 {
@@ -132,7 +136,7 @@ fn loading_at(z: Sizes, i: u32) -> u32
 }
 
 // The word at which line i begins.
-fn line_at(z: Sizes, i: u32) -> u32
+pub fn line_at(z: Sizes, i: u32) -> u32
     requires { ⌜ (Sized z) × (i ≤ 8) ⌝ }
     ensures { λ r. ⌜ (r ≡ lineAt z i) × (r ≤ 101) ⌝ }
 {
@@ -265,152 +269,4 @@ pub fn written(d: Description, i: u32) -> bool
         j += 1;
     }
     false
-}
-
-// ---- the refusals 1 to 5
-
-// Whether n is outside a to b.
-fn outside(a: u32, b: u32, n: u32) -> bool
-    ensures { λ r. ⌜ r ≡ not (leb a n && leb n b) ⌝ }
-{
-    n < a || b < n
-}
-
-// Refusal 2: a size out of range.
-fn size_refused(z: Sizes) -> bool
-    ensures { λ r. ⌜ r ≡ refused2 z ⌝ }
-{
-    if outside(2, 3, z.loops) {
-        true
-    } else {
-        outside(1, 6, z.streams) || outside(1, 8, z.lines)
-    }
-}
-
-// The range of word k, tested on its magnitude n and its bits u.
-fn within(z: Sizes, k: u32, n: u32, u: u32) -> bool
-    requires { ⌜ Sized z ⌝ }
-    ensures { λ r. ⌜ r ≡ rangeTest z k n u ⌝ }
-{
-    let r = z.loops;
-    let direction = 3 + r + r;
-    if k < direction {
-        return n <= 64;
-    }
-    let step = direction + r;
-    if k < step {
-        return n == 1;
-    }
-    if k < step + r {
-        return n <= 8;
-    }
-    if k < loading_at(z, 0) {
-        return n <= 4;
-    }
-    let body = line_at(z, 0);
-    if k < body {
-        return n <= 1;
-    }
-    if (k - body) % 4 == 0 {
-        return u <= 5;
-    }
-    u <= z.streams + 1
-}
-
-// Whether word k is in its range.
-fn in_range(s: &[u8], z: Sizes, k: u32) -> bool
-    requires { ⌜ Sized z ⌝ }
-    ensures { λ r. ⌜ r ≡ inRange z k (wordAt (now (s .entry)) k) ⌝ }
-{
-    let u = integers::bits_at(s, k);
-    within(z, k, integers::magnitude(integers::signed(u)), u)
-}
-
-// Refusal 4: a word out of range.
-fn word_refused(s: &[u8], z: Sizes) -> bool
-    requires { ⌜ Sized z ⌝ }
-    ensures { λ r. ⌜ r ≡ refused4 (now (s .entry)) z ⌝ }
-{
-    let words = line_at(z, z.lines);
-    let mut k: u32 = 3;
-    while k < words {
-        if !in_range(s, z, k) {
-            return true;
-        }
-        k += 1;
-    }
-    false
-}
-
-// Whether a is above b in the first component; then in the second and the third.
-fn above_x(a: V3, b: V3) -> bool
-    ensures { λ r. ⌜ r ≡ ltZ (b .x) (a .x) ⌝ }
-{
-    b.x < a.x
-}
-
-fn above_y(a: V3, b: V3) -> bool
-    ensures { λ r. ⌜ r ≡ ltZ (b .y) (a .y) ⌝ }
-{
-    b.y < a.y
-}
-
-fn above_z(a: V3, b: V3) -> bool
-    ensures { λ r. ⌜ r ≡ ltZ (b .z) (a .z) ⌝ }
-{
-    b.z < a.z
-}
-
-// Refusal 5: a left bound above its right.
-fn bound_refused(n: Nest) -> bool
-    ensures { λ r. ⌜ r ≡ refused5 n ⌝ }
-{
-    let left = n.left;
-    let right = n.right;
-    if above_x(left, right) {
-        true
-    } else {
-        above_y(left, right) || above_z(left, right)
-    }
-}
-
-// The first of the refusals 4 and 5 that applies, 0 if none does.
-fn refusal_of_words(s: &[u8], z: Sizes) -> u32
-    requires { ⌜ Sized z ⌝ }
-    ensures { λ r. ⌜ r ≡ refusal (wordTests (now (s .entry)) z) ⌝ }
-{
-    if word_refused(s, z) {
-        4
-    } else {
-        if bound_refused(nest(s, z)) { 5 } else { 0 }
-    }
-}
-
-// The same of 3 to 5.
-fn refusal_of_length(s: &[u8], z: Sizes) -> u32
-    requires { ⌜ Sized z ⌝ }
-    ensures { λ r. ⌜ r ≡ refusal (lengthTests (now (s .entry)) z) ⌝ }
-{
-    let n = line_at(z, z.lines);
-    if s.len() == 4 * n as usize {
-        refusal_of_words(s, z)
-    } else {
-        3
-    }
-}
-
-// The first of the refusals 1 to 5 that applies, 0 if none does.
-pub fn refusal(s: &[u8]) -> u32
-    ensures { λ r. ⌜ r ≡ refusal (firstTests (now (s .entry))) ⌝ }
-{
-    if s.len() < 12 {
-        1
-    } else {
-        let z = sizes(s);
-        if size_refused(z) {
-            2
-        } else {
-            refusal_of_length(s, z)
-        }
-    }
 }

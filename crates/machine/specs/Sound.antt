@@ -3,9 +3,9 @@ use mathlib.Core.Bool.{Bool, cond, _&&_, _||_}
 use mathlib.Core.List.{List}
 use Prim.Native.Nat.{ℕ, _+_, _-_}
 use lib.Dec.{eqb, leb}
-use Rattle.machine.specs.declared.seats.Seat.{Seat}
-use Rattle.machine.specs.declared.ends.End.{End}
-use Rattle.machine.specs.Links.{word}
+use Rattle.links.specs.declared.Seat.{Seat}
+use Rattle.links.specs.declared.End.{End}
+use Rattle.links.specs.Links.{word}
 
 -- a link of hop places holds what was put in and not got out of it
 unfoldable pub linkHolds : ℕ → ℕ → ℕ → Bool

@@ -15,12 +15,12 @@ use Rattle.meaning.specs.Lists.{every, numbers, numbersFrom}
 use Rattle.meaning.specs.Array.{Array, Pipe, noPipe, stopsOn, stopAt, elementsOn, processCount, streamCount, pipeNumber, pipeThrough, onPipe}
 use Rattle.meaning.specs.State.{Firings, Taken, Given, Sent, Received, read}
 use Rattle.meaning.specs.Rules.{processOn, streamOn, putIn, takenOut, soundCount, soundHand, soundLink, soundStop, soundPipe, soundSeat, soundProcess, sound}
-use Rattle.machine.specs.Seats.{seatOf}
-use Rattle.machine.specs.Ends.{endOf}
-use Rattle.machine.specs.Moves.{both}
+use Rattle.links.specs.Seats.{seatOf}
+use Rattle.links.specs.Ends.{endOf}
+use Rattle.links.specs.Links.{both}
 use Rattle.machine.specs.Sound.{linkHolds, handHolds, seatHolds, seatSound, endHolds, endSound}
-use Rattle.machine.specs.Places.{pipe, place, pipe-on, place-on, stream-is, process-is}
-use Rattle.machine.specs.MovesMeaning.{Bounded}
+use Rattle.links.specs.Places.{pipe, place, pipe-on, place-on, stream-is, process-is}
+use Rattle.links.specs.LinksMeaning.{Bounded}
 
 -- ---- tests
 

@@ -9,16 +9,19 @@ use Rattle.meaning.specs.declared.Line.{Line}
 use Rattle.meaning.specs.Array.{Array, stopsOn, pipeNumber, instanceAt, onPipe}
 use Rattle.meaning.specs.State.{Firings, read}
 use Rattle.meaning.specs.Rules.{sound, Send, Take, Fire, Give, Receive, Memory, ready, apply, withState}
-use Rattle.machine.specs.declared.seats.Seat.{Seat}
-use Rattle.machine.specs.declared.ends.End.{End}
-use Rattle.machine.specs.Seats.{SeatIs}
-use Rattle.machine.specs.Ends.{EndIs}
-use Rattle.machine.specs.Layout.{Regular}
-use Rattle.machine.specs.Places.{pipe, place, pipe-on, place-on}
-use Rattle.machine.specs.Moves.{canTake, taken, canGive, given, canSend, sent, canReceive, received, receivedList}
-use Rattle.machine.specs.Firing.{canFire, fired}
-use Rattle.machine.specs.MovesMeaning.{Bounded, take-ready, take-does, give-ready, give-does, send-ready, send-does, receive-ready, receive-does, receive-lands}
-use Rattle.machine.specs.FiringMeaning.{ProcessIs, fire-ready, fire-does}
+use Rattle.links.specs.declared.Seat.{Seat}
+use Rattle.links.specs.declared.End.{End}
+use Rattle.links.specs.Seats.{SeatIs}
+use Rattle.links.specs.Ends.{EndIs}
+use Rattle.links.specs.Layout.{Regular}
+use Rattle.links.specs.Places.{pipe, place, pipe-on, place-on}
+use Rattle.seats.specs.Moves.{canTake, taken, canGive, given}
+use Rattle.ends.specs.Moves.{canSend, sent, canReceive, received, receivedList}
+use Rattle.firing.specs.Firing.{canFire, fired}
+use Rattle.links.specs.LinksMeaning.{Bounded}
+use Rattle.seats.specs.MovesMeaning.{take-ready, take-does, give-ready, give-does}
+use Rattle.ends.specs.MovesMeaning.{send-ready, send-does, receive-ready, receive-does, receive-lands}
+use Rattle.firing.specs.FiringMeaning.{ProcessIs, fire-ready, fire-does}
 use Rattle.machine.specs.SoundMeaning.{sound-bounded, sound-put}
 
 module _ (A : Array) (M : Memory) (s : sound A (M .state) ≡ true) where

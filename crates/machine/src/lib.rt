@@ -1,23 +1,108 @@
-// The five rules of document 01's network on the lent words of a state. A row, a struct by value, says at which indices the words of a seat (a
-// process and a stream on a pipe) or of a pipe's ends stand. A link's fill is cut off at its places: every index is then in range on any list, and
-// no rule asks that the state be sound. In specs/, first the code as functions of lists:
+// Sound states, row by row: counts up to their totals, links filled up to their places, and in hand and keep what was taken and not given; and the
+// theorem over the five rules, whose code is in `seats`, `ends` and `firing`. In specs/, by file:
 //
-//   Links            a link's fill; the link without its oldest value
-//   Seats, Ends      the rows of an array; rows whose words lie in a state
-//   Moves            take, give, send and receive, and whether an instance can use an element
-//   Firing           the words that a process uses; fire
-//   Sound            a sound state, row by row
-//
-// and then that this is what document 01 says:
-//
-//   Layout           the rows fit a state that is long enough, and the words that a rule writes lie apart
-//   Places           the pipe of a process and a stream, and the process's place on it
-//   MovesMeaning     the tests and the lists of the code are document 01's, where links are filled no further than their places
-//   FiringMeaning    the same of firing
+//   Sound            a sound state, row by row, as the code tests it
 //   SoundMeaning     a state is sound where every row is; the links of a sound state
-//   Steps            `ready` and `apply` of the five steps of a sound state
-pub mod ends;
-pub mod firing;
-pub mod links;
-pub mod seats;
-pub mod sound;
+//   Steps            `ready` and `apply` of the five steps of a sound state are the tests and the lists of the code
+ghost use mathlib.Core.Path.{_≡_};
+ghost use Prim.Native.Nat.{_<_};
+ghost use lib.Dec.{leb};
+ghost use lib.ListN.{length, getD};
+ghost use Rattle.links.specs.Ends.{EndFits};
+ghost use Rattle.links.specs.Seats.{SeatFits};
+ghost use Rattle.machine.specs.Sound.{linkHolds, handHolds, seatHolds, seatSound, endHolds, endSound};
+use links::End;
+use links::Seat;
+use links::word;
+
+// Whether a link of hop places holds what was put in and not taken out.
+fn link_holds(put: usize, got: usize, hop: usize) -> bool
+    ensures { λ r. ⌜ r ≡ linkHolds put got hop ⌝ }
+{
+    if got <= put { put - got <= hop } else { false }
+}
+
+// Whether hand and keep hold what was taken and not given: x and y of n elements.
+fn hand_holds(keeps: bool, n: usize, x: usize, y: usize) -> bool
+    requires { ⌜ y < 4294967296 ⌝ }
+    ensures { λ r. ⌜ r ≡ handHolds keeps n x y ⌝ }
+{
+    if keeps {
+        if x == 0 {
+            return y == 0;
+        }
+        if y == n {
+            return x == n;
+        }
+        if x == y + 1 { true } else { x == y + 2 }
+    } else {
+        if x == y { true } else { x == y + 1 }
+    }
+}
+
+// The same of a seat and of the link into it.
+fn seat_holds(k: Seat, put: usize, x: usize, y: usize) -> bool
+    requires { ⌜ y < 4294967296 ⌝ }
+    ensures { λ r. ⌜ r ≡ seatHolds k put x y ⌝ }
+{
+    if x <= k.total {
+        if y <= k.total {
+            if hand_holds(k.keeps, k.total, x, y) {
+                link_holds(put, x, k.hop)
+            } else {
+                false
+            }
+        } else {
+            false
+        }
+    } else {
+        false
+    }
+}
+
+// Whether the words of a seat are sound.
+pub fn sound_seat(state: &[u32], k: Seat) -> bool
+    requires { ⌜ SeatFits (length (now state)) k ⌝ }
+    ensures { λ r. ⌜ r ≡ seatSound (now (state .entry)) k ⌝ }
+{
+    let at = k.at;
+    let put = word(state, k.before);
+    let x = word(state, at);
+    let y = word(state, at + 1);
+    seat_holds(k, put, x, y)
+}
+
+// Of a pipe's ends and of its last link: x sent, y received.
+fn end_holds(e: End, put: usize, x: usize, y: usize) -> bool
+    ensures { λ r. ⌜ r ≡ endHolds e put x y ⌝ }
+{
+    if x <= e.total {
+        if y <= e.total {
+            link_holds(put, y, e.hop)
+        } else {
+            false
+        }
+    } else {
+        false
+    }
+}
+
+// Whether the words of a pipe's ends are sound.
+pub fn sound_end(state: &[u32], e: End) -> bool
+    requires { ⌜ EndFits (length (now state)) e ⌝ }
+    ensures { λ r. ⌜ r ≡ endSound (now (state .entry)) e ⌝ }
+{
+    let put = word(state, e.before);
+    let x = word(state, e.sent);
+    let y = word(state, e.received);
+    end_holds(e, put, x, y)
+}
+
+// Whether a process has fired no more than its instances.
+pub fn sound_firings(state: &[u32], k: Seat) -> bool
+    requires { ⌜ SeatFits (length (now state)) k ⌝ }
+    ensures { λ r. ⌜ r ≡ leb (getD (now (state .entry)) (k .fired) 0) (k .count) ⌝ }
+{
+    let f = word(state, k.fired);
+    f <= k.count
+}

@@ -62,3 +62,7 @@ agree (c ∷ cs) t = go (eqList (c .got) (c .wanted)) (same-list (c .got) (c .wa
         → c .got ∷ map (λ c. c .got) cs ≡ c .wanted ∷ map (λ c. c .wanted) cs
     go true f t g = ap₂ _∷_ (f tt) (g t)
     go false f t g = absurd t
+
+-- a table behind another: where that one fails, this one is not computed
+pub agree-after : {P : Type 0} → P → (cs : List Case) → T (every (λ c. eqList (c .got) (c .wanted)) cs) → map (λ c. c .got) cs ≡ map (λ c. c .wanted) cs
+agree-after before = agree

@@ -1,9 +1,16 @@
--- Document 01's designs as a user gives them: bytes.
+-- Document 01's designs as a user gives them, bytes, and what the cases lend to a call.
 use mathlib.Core.List.{List, [], _∷_, _++_}
 use Prim.Native.Nat.{ℕ, _/_, _%_}
+use lib.ListN.{getD, replicate}
 use lib.IntN.{ℤ, pos, negsuc}
 use mir.Syntax.{w32}
 use mir.Val.{ofZ}
+use Rattle.meaning.specs.declared.Nest.{Nest}
+use Rattle.meaning.specs.declared.Stream.{Stream}
+use Rattle.meaning.specs.Limits.{gaugeLimits}
+use Rattle.meaning.specs.Description.{noStream, descriptionOf}
+use Rattle.meaning.specs.Rules.{Memory}
+use Rattle.meaning.specs.Calls.{start}
 
 -- signed words, least byte first
 abbrev pub wordBytes : ℕ → List ℕ
@@ -46,3 +53,18 @@ matrixProduct =
     ++ ((pos 1 ∷ pos 0 ∷ negsuc 0 ∷ pos 0 ∷ pos 1 ∷ negsuc 0 ∷ [])
     ++ ((pos 1 ∷ pos 0 ∷ pos 0 ∷ pos 0 ∷ pos 0 ∷ pos 1 ∷ []) ++ ((pos 0 ∷ pos 0 ∷ pos 1 ∷ pos 0 ∷ pos 1 ∷ pos 0 ∷ [])
     ++ ((pos 1 ∷ pos 0 ∷ pos 0 ∷ pos 0 ∷ pos 1 ∷ pos 0 ∷ []) ++ ((pos 0 ∷ pos 0 ∷ pos 0 ∷ pos 0 ∷ pos 0 ∷ pos 0 ∷ []) ++ product))))))
+
+-- of a description its nest and stream i
+abbrev pub nest : List ℕ → Nest
+nest s = descriptionOf s .nest
+
+abbrev pub stream : List ℕ → ℕ → Stream
+stream s i = getD (descriptionOf s .streams) i noStream
+
+-- lists lent as they come: full of junk
+abbrev pub lent : ℕ → Memory
+lent n = record { waiting = replicate 11 7; received = replicate 11 8; state = replicate n 9 }
+
+-- a design started on the values, on a state of n words
+abbrev pub startedOn : List ℕ → ℕ → Memory
+startedOn s n = start gaugeLimits s values (lent n) .memory

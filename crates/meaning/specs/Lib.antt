@@ -17,5 +17,6 @@ pub mod Calls
 pub mod Demands
 pub mod Designs
 pub mod Comparison
+pub mod Singles
 pub mod Cases
 pub mod Runs

@@ -14,7 +14,7 @@
 //   Answers, Calls    the numbers and values of answers; the nine calls: the answer and every lent list afterwards
 //   Demands           lists of calls; demands 2 and 3 as statements
 //   Designs, Cases    document 01's designs as bytes, and its cases marked P, computed as one table (Comparison)
-//   Runs              cases beside them that hold the rules: tables, states stopped in the middle, other orders, declined calls
+//   Singles, Runs     cases beside them that hold the rules: tables, single steps and declined calls; states stopped in the middle, other orders
 //
 // Two loops are three, the third running from 0 to 0: its direction is 1, its step coefficient 0; place and every index map get a second row
 // (0, 0, 1), and a loading vector a second component 0. Then one set of definitions serves both.

@@ -167,7 +167,7 @@ pub fn plain_run(s: &[u8], values: &[u32], output: &mut [u32]) -> Answer
     ensures { λ r. ⌜ (r ≡ plainRun gaugeLimits (now (s .entry)) (now (values .entry)) (now (output .entry)) .answer)
         × (now (output .exit) ≡ plainRun gaugeLimits (now (s .entry)) (now (values .entry)) (now (output .entry)) .output) ⌝ }
 {
-    let r = refusals::refusal_of(s);
+    let r = verdict::refusal_of(s);
     if r == 0 {
         run_accepted(decode::description(s), values, output)
     } else {

@@ -23,7 +23,7 @@ fn line(place: &[u8])
     requires { ⌜ 512 ≤ length (now place) ⌝ }
 {
     let n = bytes_in(place);
-    let refusal = refusals::refusal_of(&place[4..4 + n]);
+    let refusal = verdict::refusal_of(&place[4..4 + n]);
     io::print_decimal(STDOUT_FILENO, wide(refusal));
     io::write_all(STDOUT_FILENO, b"\n");
 }

@@ -183,7 +183,7 @@ fn process_count(n: Nest) -> usize
 fn refusal_for(s: &[u8], room: usize) -> u32
     ensures { λ r. ⌜ r ≡ refusedFor (now (s .entry)) room ⌝ }
 {
-    let r = refusals::refusal_of(s);
+    let r = verdict::refusal_of(s);
     if r == 0 {
         let n = decode::description(s).nest;
         if room < process_count(n) { 18 } else { 0 }

@@ -1,0 +1,36 @@
+-- Rows of seats: the row of a place of a pipe, and rows whose words lie in a state. Assumes nothing.
+use mathlib.Core.Path.{_≡_}
+use Prim.Native.Nat.{ℕ, suc, _+_, _≤_, _<_}
+use Rattle.meaning.specs.Array.{Array, stopAt, pipeAt, countAt, elementsOn}
+use Rattle.meaning.specs.State.{Firings, Taken, index}
+use Rattle.meaning.specs.Rules.{processOn, streamOn, putIn, takenOut, linkPlace}
+use Rattle.links.specs.declared.Seat.{Seat}
+
+-- the row of the process at place k of pipe q
+abbrev pub seatOf : Array → ℕ → ℕ → Seat
+seatOf A q k =
+    record {
+      at = index A (Taken (processOn A q k) (streamOn A q));
+      before = index A (putIn A q k);
+      after = index A (takenOut A q (suc k));
+      room = index A (linkPlace A q (suc k) 0);
+      fired = index A (Firings (processOn A q k));
+      hop = pipeAt A q .hop;
+      soak = stopAt A q k .soak;
+      count = countAt A (processOn A q k);
+      total = elementsOn A q;
+      keeps = stopAt A q k .keeps;
+    }
+
+abbrev pub SeatIs : Array → ℕ → ℕ → Seat → Type 0
+SeatIs A q k r = r ≡ seatOf A q k
+
+-- the row's words lie in a state of n words
+pub record SeatFits (n : ℕ) (k : Seat) : Type 0 where
+  pub block : k .at + 4 + k .hop ≤ n
+  pub before : k .before < n
+  pub after : k .after < n
+  pub room : k .room + k .hop ≤ n
+  pub fired : k .fired < n
+  pub soak : k .soak < 4294967296
+  pub count : k .count < 4294967296

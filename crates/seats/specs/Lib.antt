@@ -1,0 +1,3 @@
+-- Take and give as functions of a state's words, and that they are document 01's.
+pub mod Moves
+pub mod MovesMeaning

@@ -1,0 +1,129 @@
+// Document 01's refusals 11 to 17, of one stream.
+ghost use mathlib.Core.Path.{_≡_};
+ghost use Prim.Native.Nat.{_≤_};
+ghost use lib.ListN.{length};
+ghost use Rattle.meaning.specs.Tests.{refusal};
+ghost use Rattle.meaning.specs.Loops.{instances};
+ghost use Rattle.meaning.specs.Accept.{against, refused13, refused14, refused15, refused16, refused17, streamTests};
+ghost use Rattle.vectors.specs.Within.{Within};
+ghost use Rattle.refusals.specs.InRange.{InRange};
+ghost use Rattle.refusals.specs.Stages.{orderTests, moveTests};
+use integers::V3;
+use meaning::Limits;
+use meaning::Nest;
+use meaning::Stream;
+
+// Refusal 13: a component of place of the line outside −1 to 1.
+fn move_refused(n: Nest, s: Stream) -> bool
+    requires { ⌜ InRange n s ⌝ }
+    ensures { λ r. ⌜ r ≡ refused13 n s ⌝ }
+{
+    !refusals::small2(refusals::place_of_line(n, s))
+}
+
+// Refusal 14: moving with a hop over the limit.
+fn hop_refused(n: Nest, s: Stream, limits: Limits) -> bool
+    requires { ⌜ InRange n s ⌝ }
+    ensures { λ r. ⌜ r ≡ refused14 limits n s ⌝ }
+{
+    refusals::moves(n, s) && limits.hop < refusals::hop_of(n, s)
+}
+
+// Whether the first non-zero component of v has the other sign than the direction of that loop.
+fn against(direction: V3, v: V3) -> bool
+    requires { ⌜ (Within 1 direction) × (Within 200 v) ⌝ }
+    ensures { λ r. ⌜ r ≡ against direction v ⌝ }
+{
+    if v.x == 0 {
+        if v.y == 0 {
+            direction.z * v.z < 0
+        } else {
+            direction.y * v.y < 0
+        }
+    } else {
+        direction.x * v.x < 0
+    }
+}
+
+// Refusal 15: written, with a line against the directions.
+fn order_refused(n: Nest, s: Stream, written: bool) -> bool
+    requires { ⌜ InRange n s ⌝ }
+    ensures { λ r. ⌜ r ≡ refused15 written n s ⌝ }
+{
+    let direction = n.direction;
+    let map = s.map;
+    written && against(direction, vectors::line_of(n, map))
+}
+
+// Refusal 16: moving with a loading vector, or stationary with none.
+fn loading_refused(n: Nest, s: Stream) -> bool
+    requires { ⌜ InRange n s ⌝ }
+    ensures { λ r. ⌜ r ≡ refused16 n s ⌝ }
+{
+    let loading = s.loading;
+    if refusals::moves(n, s) {
+        !refusals::zero2(loading)
+    } else {
+        refusals::zero2(loading)
+    }
+}
+
+// Refusal 17: some element of the box is touched by no instance; the table is lent for the numbers of the elements that are.
+fn elements_refused(n: Nest, s: Stream, table: &mut [u32; 4096]) -> bool
+    requires { ⌜ (InRange n s) × (length (instances n) ≤ 4096) ⌝ }
+    ensures { λ r. ⌜ r ≡ refused17 n s ⌝ }
+{
+    let map = s.map;
+    let e = numbering::extent_of(n, map);
+    numbering::fill_numbers(n, map, e, table);
+    tables::untouched(table, numbering::instance_count(n), numbering::size_of(e))
+}
+
+// The first of the refusals 15 to 17 that applies, 0 if none does.
+fn order_refusal(n: Nest, s: Stream, written: bool, table: &mut [u32; 4096]) -> u32
+    requires { ⌜ (InRange n s) × (length (instances n) ≤ 4096) ⌝ }
+    ensures { λ r. ⌜ r ≡ refusal (orderTests n written s) ⌝ }
+{
+    if order_refused(n, s, written) {
+        15
+    } else if loading_refused(n, s) {
+        16
+    } else {
+        if elements_refused(n, s, table) { 17 } else { 0 }
+    }
+}
+
+// The same of 13 to 17.
+fn move_refusal(n: Nest, s: Stream, written: bool, limits: Limits, table: &mut [u32; 4096]) -> u32
+    requires { ⌜ (InRange n s) × (length (instances n) ≤ 4096) ⌝ }
+    ensures { λ r. ⌜ r ≡ refusal (moveTests limits n written s) ⌝ }
+{
+    if move_refused(n, s) {
+        13
+    } else if hop_refused(n, s, limits) {
+        14
+    } else {
+        order_refusal(n, s, written, table)
+    }
+}
+
+// The same of 11 to 17.
+pub fn stream_refusal(
+    n: Nest,
+    s: Stream,
+    written: bool,
+    limits: Limits,
+    table: &mut [u32; 4096],
+) -> u32
+    requires { ⌜ (InRange n s) × (length (instances n) ≤ 4096) ⌝ }
+    ensures { λ r. ⌜ r ≡ refusal (streamTests limits n written s) ⌝ }
+{
+    let map = s.map;
+    if refusals::low_rank(map) {
+        11
+    } else if refusals::still(n, map) {
+        12
+    } else {
+        move_refusal(n, s, written, limits, table)
+    }
+}
