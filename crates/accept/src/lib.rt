@@ -140,7 +140,7 @@ fn totals_of(d: Description, ends: &[u32]) -> Totals
 }
 
 // The six figures.
-fn figures_of(d: Description) -> Figures
+pub fn figures_of(d: Description) -> Figures
     requires { ⌜ Described d ⌝ }
     ensures { λ r. ⌜ r ≡ figures d ⌝ }
 {

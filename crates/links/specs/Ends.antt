@@ -33,3 +33,19 @@ pub record EndFits (n : ℕ) (e : End) : Type 0 where
   pub received : e .received < n
   pub last : e .last + e .hop ≤ n
   pub total : e .total < 4294967296
+
+-- rows with the same numbers are the same
+pub same-end : {x y : End} → x .sent ≡ y .sent → x .after ≡ y .after → x .room ≡ y .room → x .before ≡ y .before → x .received ≡ y .received
+    → x .last ≡ y .last → x .hop ≡ y .hop → x .total ≡ y .total → x .offset ≡ y .offset → x ≡ y
+same-end a b c d e f g h k =
+    λ i. record {
+      sent = a i;
+      after = b i;
+      room = c i;
+      before = d i;
+      received = e i;
+      last = f i;
+      hop = g i;
+      total = h i;
+      offset = k i;
+    }

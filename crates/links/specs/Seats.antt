@@ -34,3 +34,20 @@ pub record SeatFits (n : ℕ) (k : Seat) : Type 0 where
   pub fired : k .fired < n
   pub soak : k .soak < 4294967296
   pub count : k .count < 4294967296
+
+-- rows with the same numbers are the same
+pub same-seat : {x y : Seat} → x .at ≡ y .at → x .before ≡ y .before → x .after ≡ y .after → x .room ≡ y .room → x .fired ≡ y .fired → x .hop ≡ y .hop
+    → x .soak ≡ y .soak → x .count ≡ y .count → x .total ≡ y .total → x .keeps ≡ y .keeps → x ≡ y
+same-seat a b c d k l m o q s =
+    λ i. record {
+      at = a i;
+      before = b i;
+      after = c i;
+      room = d i;
+      fired = k i;
+      hop = l i;
+      soak = m i;
+      count = o i;
+      total = q i;
+      keeps = s i;
+    }

@@ -16,7 +16,7 @@ use Rattle.meaning.specs.Lists.{filter, any}
 use Rattle.meaning.specs.Loops.{instances}
 use Rattle.meaning.specs.Space.{Box, boxOf, space, processes, count, first, last, computing}
 use Rattle.meaning.specs.Streams.{stationary, pass}
-use Rattle.meaning.specs.Pipes.{reach, pipe, pipeElements, soak, drain}
+use Rattle.meaning.specs.Pipes.{reach, pipe, pipeElements, ahead, soak, drain}
 use Rattle.meaning.specs.Array.{rowSoak}
 use Rattle.geometry.specs.Numbers.{yes-cond, neg-not}
 use Rattle.geometry.specs.Places.{getD-in}
@@ -24,7 +24,7 @@ use Rattle.geometry.specs.Boxes.{Inside, box-has, points-inside}
 use Rattle.geometry.specs.Segments.{last-at}
 use Rattle.geometry.specs.Processes.{RunAt, computing-count, computes as run-first}
 use Rattle.geometry.specs.Pipes.{Accepted, OnePipe, flip-pipe, join-pipe, passes, same-elements, no-pipe, still-length, still-total}
-use Rattle.geometry.specs.Moving.{length-is, soak-is, drain-is}
+use Rattle.geometry.specs.Moving.{index-is, length-is, drain-is}
 use Rattle.geometry.specs.Elements.{entryOf, entry-pipe, entry-is}
 use Rattle.geometry.specs.RowOrder.{row-lt}
 use Rattle.geometry.specs.Arrays.{one-number}
@@ -107,14 +107,17 @@ module _ {f : Flow} {ends : List ℕ} {p : ℕ} (a : At f ends p) where
     within {x} r e = subst (Inside (boxed (f .elements))) (sym e)
         (subst (λ (k : Box). Inside k (image (s .map) x)) (sym (a .flows .elements-is)) (box-has (accepted .layout .dirs) (s .map) (r .within)))
 
-    pub going-against : {e : V2} → e ≡ image (s .map) (first n y) → Going (boxed (f .elements)) (f .against) e
-    going-against e =
+    pub going-back : {x : V3} → RunAt n y x → {e : V2} → e ≡ image (s .map) x → Going (boxed (f .elements)) (f .against) e
+    going-back r e =
         record {
           box = spans;
-          inside = within runs e;
+          inside = within r e;
           by = a .flows .against-small;
           on = subst (λ (d : V2). d ≡ zero2 → ⊥) (sym (a .flows .against-is)) (neg-not (passes accepted on-way));
         }
+
+    pub going-against : {e : V2} → e ≡ image (s .map) (first n y) → Going (boxed (f .elements)) (f .against) e
+    going-against e = going-back runs e
 
     going-on : {x : V3} → RunAt n y x → {e : V2} → e ≡ image (s .map) x → Going (boxed (f .elements)) (f .pass) e
     going-on r e =
@@ -137,8 +140,13 @@ module _ {f : Flow} {ends : List ℕ} {p : ℕ} (a : At f ends p) where
     reach-on : {e : V2} {r : ℕ} (x : V3) → e ≡ image (s .map) x → r ≡ reach (boxed (f .elements)) (f .pass) e → r ≡ reach box (pass n s) (image (s .map) x)
     reach-on {e} x h k = k ∙ ap₂ (λ (b : Box) (d : V2). reach b d e) (a .flows .elements-is) (a .flows .pass-is) ∙ ap (reach box (pass n s)) h
 
+    -- the index of the element that an instance touches; the first one's is the soak
+    pub index-moving : {x : V3} → RunAt n y x → {e : V2} {r : ℕ} → e ≡ image (s .map) x → r ≡ reach (boxed (f .elements)) (f .against) e
+        → r ≡ ahead (image (s .map) x) (pipeElements n s y)
+    index-moving {x} b h k = reach-against x h k ∙ sym (index-is accepted on-way b)
+
     pub soak-moving : {e : V2} {r : ℕ} → e ≡ image (s .map) (first n y) → r ≡ reach (boxed (f .elements)) (f .against) e → r ≡ soak n s y
-    soak-moving h k = reach-against (first n y) h k ∙ sym (soak-is accepted on-way runs)
+    soak-moving h k = index-moving runs h k
 
     pub drain-moving : {e : V2} {r : ℕ} → e ≡ image (s .map) (last n y) → r ≡ reach (boxed (f .elements)) (f .pass) e → r ≡ drain n s y
     drain-moving h k = reach-on (last n y) h k ∙ sym (drain-is accepted on-way runs)

@@ -204,7 +204,7 @@ fn one_at(f: Flow, ends: &[u32], lanes: &[u32], p: usize) -> u32
 }
 
 // Of a stationary stream: its soak, the number of computing processes before it on its pipe.
-fn rank_at(f: Flow, ends: &[u32], lanes: &[u32], p: usize) -> u32
+pub fn rank_at(f: Flow, ends: &[u32], lanes: &[u32], p: usize) -> u32
     requires { ⌜ (Near f (now ends) (now lanes) p) × (T (computes (f .nest) p)) × (f .moving ≡ false) ⌝ }
     ensures { λ r. ⌜ r ≡ soak (f .nest) (f .stream) (processOf (f .nest) p) ⌝ }
 {
@@ -236,7 +236,7 @@ pub fn total_at(f: Flow, ends: &[u32], lanes: &[u32], p: usize) -> u32
 }
 
 // Its soak as the table has it: of a null process the number of its pipe's elements.
-fn soak_of(f: Flow, ends: &[u32], lanes: &[u32], p: usize) -> u32
+pub fn soak_of(f: Flow, ends: &[u32], lanes: &[u32], p: usize) -> u32
     requires { ⌜ Near f (now ends) (now lanes) p ⌝ }
     ensures { λ r. ⌜ r ≡ rowSoak (f .nest) (f .stream) (processOf (f .nest) p) ⌝ }
 {

@@ -84,9 +84,11 @@ fn order_refusal(n: Nest, s: Stream, written: bool, table: &mut [u32; 4096]) -> 
     requires { ⌜ (InRange n s) × (length (instances n) ≤ 4096) ⌝ }
     ensures { λ r. ⌜ r ≡ refusal (orderTests n written s) ⌝ }
 {
-    if order_refused(n, s, written) {
+    let backward = order_refused(n, s, written);
+    let misloaded = loading_refused(n, s);
+    if backward {
         15
-    } else if loading_refused(n, s) {
+    } else if misloaded {
         16
     } else {
         if elements_refused(n, s, table) { 17 } else { 0 }

@@ -15,25 +15,25 @@ elements-refused-requires : tie.Need-elements-refused-requires
 elements-refused-requires c κs = search needs
 
 returns : tie.Need-returns
-returns c = applies 15 _ (c .before .order-refused .ensures) (c .if1 .taken)
+returns c = applies 15 _ (c .before .before .order-refused .ensures) (c .if1 .taken)
 
 returns-2 : tie.Need-returns-2
 returns-2 c =
     let b = c .before .before in
-    skips 15 _ (b .before .order-refused .ensures) (b .if1 .left) (applies 16 _ (c .before .loading-refused .ensures) (c .if2 .taken))
+    skips 15 _ (b .before .order-refused .ensures) (c .before .if1 .left) (applies 16 _ (b .loading-refused .ensures) (c .if2 .taken))
 
 returns-3 : tie.Need-returns-3
 returns-3 c =
-    let b = c .before .before .before in
-    let a = b .before .before in
-    skips 15 _ (a .before .order-refused .ensures) (a .if1 .left) (skips 16 _ (b .before .loading-refused .ensures) (b .if2 .left)
+    let a = c .before .before .before .before in
+    let b = a .before in
+    skips 15 _ (b .before .order-refused .ensures) (a .if1 .left) (skips 16 _ (b .loading-refused .ensures) (c .before .before .before .if2 .left)
     (applies 17 _ (c .before .elements-refused .ensures) (c .if3 .taken)))
 
 returns-4 : tie.Need-returns-4
 returns-4 c =
-    let b = c .before .before .before in
-    let a = b .before .before in
-    skips 15 _ (a .before .order-refused .ensures) (a .if1 .left) (skips 16 _ (b .before .loading-refused .ensures) (b .if2 .left)
+    let a = c .before .before .before .before in
+    let b = a .before in
+    skips 15 _ (b .before .order-refused .ensures) (a .if1 .left) (skips 16 _ (b .loading-refused .ensures) (c .before .before .before .if2 .left)
     (skips 17 _ (c .before .elements-refused .ensures) (c .if3 .left) accepts))
 
 pub order-refusal-spec : {M : Type 1} → statement M

@@ -1,0 +1,112 @@
+//! Whether the library answers what the second implementation answers, and leaves the same in every lent list.
+
+use reference::calls::{Accepted, Calls, Row};
+use reference::compare;
+use reference::random::Random;
+use reference::random_description;
+use reference::Refusal;
+
+use crate::library::{self, FIGURES, ROW_WORDS};
+
+/// Every word of a list before a call.
+const MARK: u32 = 7;
+
+/// The comparison's descriptions, and as many again that come from the seed.
+pub fn descriptions(seed: u64) -> Vec<Vec<u8>> {
+    let mut descriptions = compare::descriptions();
+    let mut random = Random::new(seed);
+    for number in (1..=17).filter(|&number| number != 10) {
+        for _ in 0..20 {
+            descriptions.push(random_description::refused(&mut random, number));
+        }
+    }
+    for _ in 0..1500 {
+        descriptions.push(random_description::accepted(&mut random).bytes());
+        descriptions.push(random_description::changed(&mut random));
+    }
+    for _ in 0..10 {
+        descriptions.push(random_description::large(&mut random).bytes());
+    }
+    descriptions
+}
+
+/// Holds every call on a description against the second implementation.
+pub fn check(number: u32, description: &[u8]) {
+    let calls = Calls::on(description);
+    let accepted = calls.accept();
+    check_accept(description, accepted);
+    // A description that is declined counts as one process and one element.
+    let processes = accepted.map_or(1, |accepted| accepted.processes);
+    let elements = accepted.map_or(1, |accepted| accepted.elements);
+    let words = ROW_WORDS * processes;
+    for length in [0, words - 1, words, words + ROW_WORDS + 1, 1100 * ROW_WORDS] {
+        check_table(description, &calls, length);
+    }
+    for given in [elements - 1, elements, elements + 1] {
+        for lent in [elements - 1, elements, elements + 1] {
+            check_plain_run(description, &calls, &compare::values(number, given), lent);
+        }
+    }
+}
+
+fn check_accept(description: &[u8], expected: Result<Accepted, Refusal>) {
+    let mut figures = [MARK; FIGURES];
+    let number = library::accept(description, &mut figures);
+    let left = expected.map_or([MARK; FIGURES], |accepted| figures_of(&accepted));
+    assert_eq!((number, figures), (number_of(expected), left));
+}
+
+fn check_table(description: &[u8], calls: &Calls, length: usize) {
+    let mut rows = vec![Row::default(); length / ROW_WORDS];
+    let expected = calls.table(&mut rows);
+    let mut left = vec![MARK; length];
+    if let (Ok(()), Ok(accepted)) = (expected, calls.accept()) {
+        for (words, row) in left
+            .chunks_exact_mut(ROW_WORDS)
+            .zip(&rows[..accepted.processes])
+        {
+            words.copy_from_slice(&row_words(row));
+        }
+    }
+    let mut words = vec![MARK; length];
+    let number = library::table(description, &mut words);
+    assert_eq!((number, words), (number_of(expected), left));
+}
+
+fn check_plain_run(description: &[u8], calls: &Calls, values: &[u32], length: usize) {
+    let mut left = vec![MARK; length];
+    let expected = calls.plain_run(values, &mut left);
+    let mut output = vec![MARK; length];
+    let number = library::plain_run(description, values, &mut output);
+    assert_eq!((number, output), (number_of(expected), left));
+}
+
+/// The number by which a call declines, 0 if it does not.
+fn number_of<T>(answer: Result<T, Refusal>) -> u32 {
+    answer.map_or_else(|refusal| refusal.0, |_| 0)
+}
+
+fn figures_of(accepted: &Accepted) -> [u32; FIGURES] {
+    [
+        accepted.processes as u32,
+        accepted.instances as u32,
+        accepted.elements as u32,
+        accepted.pipes as u32,
+        accepted.words as u32,
+        accepted.steps as u32,
+    ]
+}
+
+/// Point, count, first, last, soak and drain; a signed number as its 32 bits.
+fn row_words(row: &Row) -> [u32; ROW_WORDS] {
+    let signed = |words: &[i32]| words.iter().map(|&word| word as u32).collect::<Vec<_>>();
+    let parts = [
+        signed(&row.point),
+        vec![row.count],
+        signed(&row.first),
+        signed(&row.last),
+        row.soak.to_vec(),
+        row.drain.to_vec(),
+    ];
+    parts.concat().try_into().expect("a row has 21 words")
+}

@@ -1,0 +1,51 @@
+-- `start::fill_memory` meets its contract. Assumes nothing.
+use borrow.Author.Needs.{needs}
+use native.Mathlib.Omega.{arith}
+use Rattle.start.specs.Call.{elements-is, words-is, putting, memory-filled}
+use Rattle.start.proofs.fill_memory.Statement.{statement}
+use Rattle.start.proofs.fill_memory.Tie as tie
+
+slice-aggregate-fill-places : tie.Need-slice-aggregate-fill-places
+slice-aggregate-fill-places c = search needs
+
+fill-places-requires : tie.Need-fill-places-requires
+fill-places-requires c κs = search needs
+
+slice-aggregate-put-values : tie.Need-slice-aggregate-put-values
+slice-aggregate-put-values c = search needs
+
+put-values-requires : tie.Need-put-values-requires
+put-values-requires c κs = putting (c .before .before .before .before .before .before .before .before .before .pre) (c .before .before .before .fill-places .ensures) (omega (arith, c .before .before .before .fill-places .kept .1 .0))
+
+clear-requires : tie.Need-clear-requires
+clear-requires c κs = let p = c .before .before .before .before .before .before .before .before .before .before .before .before .before .pre in omega (arith, elements-is p, p .received)
+
+clear-requires-2 : tie.Need-clear-requires-2
+clear-requires-2 c κs = let p = c .before .before .before .before .before .before .before .before .before .before .before .before .before .before .before .before .before .pre in omega (arith, words-is p, p .state)
+
+same-length : tie.Need-same-length
+same-length c = search needs
+
+same-length-2 : tie.Need-same-length-2
+same-length-2 c = search needs
+
+same-length-3 : tie.Need-same-length-3
+same-length-3 c = search needs
+
+returns : tie.Need-returns
+returns c = memory-filled (c .before .before .before .before .before .before .before .before .before .before .before .before .before .before .before .before .before .before .before .before .pre) (c .before .before .before .before .before .before .before .before .before .before .before .before .before .before .fill-places .ensures) (c .before .before .before .before .before .before .before .before .before .before .put-values .ensures) (c .before .before .before .before .before .before .clear .ensures) (c .before .before .clear2 .ensures)
+
+pub fill-memory-spec : {M : Type 1} → statement M
+fill-memory-spec =
+    tie.close
+    (tie.spec
+    slice-aggregate-fill-places
+    fill-places-requires
+    slice-aggregate-put-values
+    put-values-requires
+    clear-requires
+    clear-requires-2
+    same-length
+    same-length-2
+    same-length-3
+    returns)

@@ -1,0 +1,56 @@
+-- `start::start` meets its contract. Assumes nothing.
+use mathlib.Core.Path.{sym, _∙_, subst}
+use denote.Ref.{now}
+use borrow.Author.Needs.{needs}
+use Rattle.meaning.specs.Limits.{gaugeLimits}
+use Rattle.refusals.specs.Accepted.{accepted-within}
+use Rattle.places.specs.Order.{Placeable, placeable}
+use Rattle.start.specs.Call.{memoryOf, accepted-call, refused-call}
+use Rattle.start.proofs.start.Statement.{statement}
+use Rattle.start.proofs.start.Tie as tie
+
+refusal-of-requires : tie.Need-refusal-of-requires
+refusal-of-requires c κs = search needs
+
+description-requires : tie.Need-description-requires
+description-requires c κs = accepted-within gaugeLimits _ (sym (c .before .refusal-of .ensures) ∙ c .if1 .taken) .0 .sized
+
+start-accepted-requires : tie.Need-start-accepted-requires
+start-accepted-requires c κs =
+    let d = c .before .before .before in
+    subst Placeable (sym (d .description .ensures)) (placeable _ (sym (d .before .before .refusal-of .ensures) ∙ d .before .if1 .taken))
+
+same-length : tie.Need-same-length
+same-length c = search needs
+
+same-length-2 : tie.Need-same-length-2
+same-length-2 c = search needs
+
+same-length-3 : tie.Need-same-length-3
+same-length-3 c = search needs
+
+returns : tie.Need-returns
+returns c =
+    let d = c .before .before .before .before .before .before .before .before .before .before in
+    let i = d .before in
+    let a = c .before .before .before .before .before .before .before .before .before .before .before .before .before .before .before .before .before .before .args in
+    accepted-call (now (a .s)) (now (a .values)) (memoryOf (now (a .waiting)) (now (a .received)) (now (a .state)))
+    (sym (i .before .refusal-of .ensures) ∙ i .if1 .taken) (d .description .ensures) (c .before .before .before .before .before .before .start-accepted .ensures)
+
+returns-2 : tie.Need-returns-2
+returns-2 c =
+    let a = c .before .before .before .before .before .before .before .args in
+    refused-call (now (a .s)) (now (a .values)) (memoryOf (now (a .waiting)) (now (a .received)) (now (a .state))) (c .before .refusal-of .ensures) (c .if1 .left)
+
+pub start-spec : {M : Type 1} → statement M
+start-spec =
+    tie.close
+    (tie.spec
+    refusal-of-requires
+    description-requires
+    start-accepted-requires
+    same-length
+    same-length-2
+    same-length-3
+    returns
+    returns-2)

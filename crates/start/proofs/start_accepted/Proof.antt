@@ -1,0 +1,53 @@
+-- `start::start_accepted` meets its contract. Assumes nothing.
+use borrow.Author.Needs.{needs}
+use denote.Ref.{now}
+use Rattle.start.specs.Call.{memoryOf, fitting, call-done, call-refused}
+use Rattle.start.proofs.start_accepted.Statement.{statement}
+use Rattle.start.proofs.start_accepted.Tie as tie
+
+figures-of-requires : tie.Need-figures-of-requires
+figures-of-requires c κs = c .before .before .before .before .pre .described
+
+own-refusal-requires : tie.Need-own-refusal-requires
+own-refusal-requires c κs = search needs
+
+fill-memory-requires : tie.Need-fill-memory-requires
+fill-memory-requires c κs =
+    let s = c .before .before .before .before .before .before .before .before .before .before in
+    let a = s .args in
+    fitting (a .d) (c .before .before .before .before .before .figures-of .ensures) (now (a .values)) (memoryOf (now (a .waiting)) (now (a .received)) (now (a .state))) (c .before .before .before .before .own-refusal .ensures)
+    (s .pre) (c .before .before .before .if1 .taken)
+
+same-length : tie.Need-same-length
+same-length c = search needs
+
+same-length-2 : tie.Need-same-length-2
+same-length-2 c = search needs
+
+same-length-3 : tie.Need-same-length-3
+same-length-3 c = search needs
+
+returns : tie.Need-returns
+returns c =
+    let a = c .before .before .before .before .before .before .before .before .before .before .before .before .before .before .before .before .before .args in
+    call-done (a .d) (c .before .before .before .before .before .before .before .before .before .before .before .before .figures-of .ensures) (now (a .values)) (memoryOf (now (a .waiting)) (now (a .received)) (now (a .state)))
+    (c .before .before .before .before .before .before .before .before .before .before .before .own-refusal .ensures) (c .before .before .before .before .before .before .before .before .before .before .if1 .taken) (c .before .before .before .before .before .before .fill-memory .ensures)
+
+returns-2 : tie.Need-returns-2
+returns-2 c =
+    let a = c .before .before .before .before .before .before .before .args in
+    call-refused (a .d) (c .before .before .figures-of .ensures) (now (a .values)) (memoryOf (now (a .waiting)) (now (a .received)) (now (a .state)))
+    (c .before .own-refusal .ensures) (c .if1 .left)
+
+pub start-accepted-spec : {M : Type 1} → statement M
+start-accepted-spec =
+    tie.close
+    (tie.spec
+    figures-of-requires
+    own-refusal-requires
+    fill-memory-requires
+    same-length
+    same-length-2
+    same-length-3
+    returns
+    returns-2)

@@ -1,0 +1,122 @@
+-- The call's own refusals, and what it answers and leaves. Assumes nothing.
+use mathlib.Core.Path.{_≡_, refl, sym, _∙_, ap, subst}
+use mathlib.Core.Bool.{not, cond, _||_}
+use mathlib.Core.List.{List, [], _∷_, _++_}
+use Prim.Native.Nat.{ℕ, _≤_}
+use native.Mathlib.Omega.{arith}
+use lib.Dec.{eqb, ltb}
+use lib.ListN.{length, drop, replicate}
+use borrow.Author.Tests.{ne-eqb, eqb-true, not-false, ltb-false}
+use Rattle.integers.specs.Fill.{fillBy}
+use Rattle.meaning.specs.declared.Description.{Description}
+use Rattle.meaning.specs.declared.Figures.{Figures}
+use Rattle.meaning.specs.declared.Answer.{Answer}
+use Rattle.meaning.specs.declared.Answer.the-variants.{Done, Refused}
+use Rattle.meaning.specs.Tests.{Test, _if_, refusal}
+use Rattle.meaning.specs.Limits.{gaugeLimits}
+use Rattle.meaning.specs.Description.{descriptionOf}
+use Rattle.meaning.specs.Body.{gather}
+use Rattle.meaning.specs.Array.{arrayOf, pipeOrder}
+use Rattle.meaning.specs.Rules.{Memory}
+use Rattle.meaning.specs.Accept.{refusalOf, figures}
+use Rattle.meaning.specs.Calls.{lengthOf, stateLength, answer, start}
+use Rattle.decode.specs.Refusals.{neither, passed}
+use Rattle.places.specs.Order.{PlacesOf, Placeable, elements-most}
+use Rattle.start.specs.Values.{Puttable, put, puttable, gathered, cleared, cleared-all}
+
+abbrev pub memoryOf : List ℕ → List ℕ → List ℕ → Memory
+memoryOf waiting received state = record { waiting = waiting; received = received; state = state }
+
+-- what the call leaves where nothing is refused
+abbrev pub startedBy : Description → List ℕ → Memory → Memory
+startedBy d values M =
+    record {
+      waiting = gather values (pipeOrder (arrayOf d));
+      received = replicate (lengthOf d) 0;
+      state = replicate (stateLength d) 0 ++ drop (stateLength d) (M .state);
+    }
+
+-- the call's own tests: of so many elements and words of a state, and of the lengths of the four lists
+abbrev pub ownTests : ℕ → ℕ → ℕ → ℕ → ℕ → ℕ → List Test
+ownTests elements words values waiting received state =
+    (20 if (not (eqb values elements) || not (eqb waiting elements))) ∷ (26 if not (eqb received elements)) ∷ (21 if ltb state words) ∷ []
+
+abbrev pub ownRefusal : Description → List ℕ → Memory → ℕ
+ownRefusal d values M = refusal (ownTests (lengthOf d) (stateLength d) (length values) (length (M .waiting)) (length (M .received)) (length (M .state)))
+
+-- what it answers and leaves once its description is accepted
+pub record Called (d : Description) (values : List ℕ) (M : Memory) (r : Answer) (M' : Memory) : Type 0 where
+  pub answers : r ≡ answer (ownRefusal d values M)
+  pub leaves : M' ≡ cond (eqb (ownRefusal d values M) 0) (startedBy d values M) M
+
+-- lists of the lengths that it asks for
+pub record Fitting (d : Description) (f : Figures) (values : List ℕ) (M : Memory) : Type 0 where
+  pub placeable : Placeable d
+  pub figured : f ≡ figures d
+  pub given : length values ≡ lengthOf d
+  pub waiting : length (M .waiting) ≡ lengthOf d
+  pub received : length (M .received) ≡ lengthOf d
+  pub state : stateLength d ≤ length (M .state)
+
+-- the three lists filled
+module _ {d : Description} {f : Figures} {values : List ℕ} {M : Memory} (h : Fitting d f values M) where
+  pub elements-is : f .elements ≡ lengthOf d
+  elements-is = ap (λ (f : Figures). f .elements) (h .figured)
+
+  pub words-is : f .words ≡ stateLength d
+  words-is = ap (λ (f : Figures). f .words) (h .figured)
+
+  pub putting : {places : List ℕ} → PlacesOf d places → 24576 ≤ length places → Puttable values places (M .waiting)
+  putting of l = puttable (h .placeable .laid) of values (M .waiting) (h .given) (h .waiting) l (elements-most (h .placeable .described))
+
+  pub memory-filled : {places waiting received state : List ℕ} → PlacesOf d places → waiting ≡ put values places (length values) (M .waiting)
+      → received ≡ fillBy (λ p. 0) (f .elements) (M .received) → state ≡ fillBy (λ p. 0) (f .words) (M .state)
+      → memoryOf waiting received state ≡ startedBy d values M
+  memory-filled {places} {waiting} {received} {state} of w r s =
+      let a : waiting ≡ gather values (pipeOrder (arrayOf d)) = gathered (h .placeable .laid) of values (M .waiting) (h .given) (h .waiting) w in
+      let b : received ≡ replicate (lengthOf d) 0 =
+      r ∙ ap (λ (k : ℕ). fillBy (λ p. 0) k (M .received)) elements-is ∙ cleared-all (lengthOf d) (M .received) (h .received) in
+      let c : state ≡ replicate (stateLength d) 0 ++ drop (stateLength d) (M .state) =
+      s ∙ ap (λ (k : ℕ). fillBy (λ p. 0) k (M .state)) words-is ∙ cleared (stateLength d) (M .state) (h .state) in
+      λ i. record { waiting = a i; received = b i; state = c i }
+
+module _ (d : Description) {f : Figures} (e : f ≡ figures d) (values : List ℕ) (M : Memory) {n : ℕ}
+    (r : n ≡ refusal (ownTests (f .elements) (f .words) (length values) (length (M .waiting)) (length (M .received)) (length (M .state)))) where
+  own : n ≡ ownRefusal d values M
+  own =
+      r
+      ∙ ap (λ (f : Figures). refusal (ownTests (f .elements) (f .words) (length values) (length (M .waiting)) (length (M .received)) (length (M .state)))) e
+
+  -- none of them applies
+  pub fitting : Placeable d → n ≡ 0 → Fitting d f values M
+  fitting h z =
+      let p20 = passed 20 _ _ (λ g. omega arith) (sym own ∙ z) in
+      let p26 = passed 26 _ _ (λ g. omega arith) (p20 .1) in
+      let p21 = passed 21 _ _ (λ g. omega arith) (p26 .1) in
+      let a = neither (not (eqb (length values) (lengthOf d))) (not (eqb (length (M .waiting)) (lengthOf d))) (p20 .0) in
+      record {
+        placeable = h;
+        figured = e;
+        given = eqb-true (length values) (lengthOf d) (not-false _ (a .0));
+        waiting = eqb-true (length (M .waiting)) (lengthOf d) (not-false _ (a .1));
+        received = eqb-true (length (M .received)) (lengthOf d) (not-false _ (p26 .0));
+        state = ltb-false (length (M .state)) (stateLength d) (p21 .0);
+      }
+
+  pub call-done : n ≡ 0 → {M' : Memory} → M' ≡ startedBy d values M → Called d values M Done M'
+  call-done z g = let q = sym own ∙ z in record { answers = rw q refl; leaves = rw q g }
+
+  pub call-refused : (n ≡ 0 → ⊥) → Called d values M (Refused n) M
+  call-refused g = let q = ne-eqb n 0 g in record { answers = rw (← own, q) refl; leaves = rw (← own, q) refl }
+
+-- the whole call
+module _ (s values : List ℕ) (M : Memory) where
+  pub accepted-call : {d : Description} {r : Answer} {M' : Memory} → refusalOf gaugeLimits s ≡ 0 → d ≡ descriptionOf s → Called d values M r M'
+      → (r ≡ start gaugeLimits s values M .answer) × (M' ≡ start gaugeLimits s values M .memory)
+  unfolding start
+  accepted-call {r} {M'} z e h = let c = subst (λ (d : Description). Called d values M r M') e h in rw z (c .answers, c .leaves)
+
+  pub refused-call : {n : ℕ} → n ≡ refusalOf gaugeLimits s → (n ≡ 0 → ⊥)
+      → (Refused n ≡ start gaugeLimits s values M .answer) × (M ≡ start gaugeLimits s values M .memory)
+  unfolding start
+  refused-call {n} e f = rw (← e, ne-eqb n 0 f, ne-eqb n 0 f) (refl, refl)

@@ -1,0 +1,110 @@
+// The call Start: values, given in element order, put into the waiting list in pipe order; state and received cleared.
+//
+// specs/, by file:
+//
+//   Values    values put at their elements' places are in pipe order: `gathered`; words cleared
+//   Call      the call's own refusals, and what it answers and leaves
+ghost use mathlib.Core.Path.{_≡_};
+ghost use lib.ListN.{length};
+ghost use Rattle.meaning.specs.Tests.{refusal};
+ghost use Rattle.meaning.specs.Limits.{gaugeLimits};
+ghost use Rattle.meaning.specs.Calls.{start};
+ghost use Rattle.places.specs.Order.{Placeable};
+ghost use Rattle.start.specs.Values.{Puttable, put};
+ghost use Rattle.start.specs.Call.{memoryOf, startedBy, ownTests, Called, Fitting};
+use meaning::Answer;
+use meaning::Description;
+use meaning::Figures;
+
+// The values at the places of their elements.
+fn put_values(values: &[u32], places: &[u32], waiting: &mut [u32])
+    requires { ⌜ Puttable (now values) (now places) (now waiting) ⌝ }
+    ensures { λ r. ⌜ now (waiting .exit) ≡ put (now (values .entry)) (now (places .entry)) (length (now (values .entry))) (now (waiting .entry)) ⌝ }
+{
+    let mut e = 0;
+    while e < values.len() {
+        let at = places[e] as usize;
+        waiting[at] = values[e];
+        e += 1;
+    }
+}
+
+// The values in pipe order, and words of zero.
+fn fill_memory(
+    d: Description,
+    f: Figures,
+    values: &[u32],
+    waiting: &mut [u32],
+    received: &mut [u32],
+    state: &mut [u32],
+)
+    requires { ⌜ Fitting d f (now values) (memoryOf (now waiting) (now received) (now state)) ⌝ }
+    ensures { λ r. ⌜ memoryOf (now (waiting .exit)) (now (received .exit)) (now (state .exit))
+        ≡ startedBy d (now (values .entry)) (memoryOf (now (waiting .entry)) (now (received .entry)) (now (state .entry))) ⌝ }
+{
+    let mut places = [0u32; 24576];
+    places::fill_places(d, &mut places);
+    put_values(values, &places, waiting);
+    tables::clear(f.elements, received);
+    tables::clear(f.words, state);
+}
+
+// The first of the refusals 20, 26 and 21 that applies to lists of such lengths, 0 if none does.
+fn own_refusal(f: Figures, values: usize, waiting: usize, received: usize, state: usize) -> u32
+    ensures { λ r. ⌜ r ≡ refusal (ownTests (f .elements) (f .words) values waiting received state) ⌝ }
+{
+    let e = f.elements as usize;
+    let words = f.words as usize;
+    if values != e {
+        return 20;
+    }
+    if waiting != e {
+        return 20;
+    }
+    if received != e {
+        return 26;
+    }
+    if state < words { 21 } else { 0 }
+}
+
+// The call on an accepted description.
+fn start_accepted(
+    d: Description,
+    values: &[u32],
+    waiting: &mut [u32],
+    received: &mut [u32],
+    state: &mut [u32],
+) -> Answer
+    requires { ⌜ Placeable d ⌝ }
+    ensures { λ r. ⌜ Called d (now (values .entry)) (memoryOf (now (waiting .entry)) (now (received .entry)) (now (state .entry))) r
+        (memoryOf (now (waiting .exit)) (now (received .exit)) (now (state .exit))) ⌝ }
+{
+    let f = accept::figures_of(d);
+    let r = own_refusal(f, values.len(), waiting.len(), received.len(), state.len());
+    if r == 0 {
+        fill_memory(d, f, values, waiting, received, state);
+        Answer::Done
+    } else {
+        Answer::Refused(r)
+    }
+}
+
+// START
+pub fn start(
+    s: &[u8],
+    values: &[u32],
+    waiting: &mut [u32],
+    received: &mut [u32],
+    state: &mut [u32],
+) -> Answer
+    ensures { λ r. ⌜ (r ≡ start gaugeLimits (now (s .entry)) (now (values .entry)) (memoryOf (now (waiting .entry)) (now (received .entry)) (now (state .entry))) .answer)
+        × (memoryOf (now (waiting .exit)) (now (received .exit)) (now (state .exit))
+        ≡ start gaugeLimits (now (s .entry)) (now (values .entry)) (memoryOf (now (waiting .entry)) (now (received .entry)) (now (state .entry))) .memory) ⌝ }
+{
+    let r = verdict::refusal_of(s);
+    if r == 0 {
+        start_accepted(decode::description(s), values, waiting, received, state)
+    } else {
+        Answer::Refused(r)
+    }
+}

@@ -1,0 +1,50 @@
+-- `window::piece_of` meets its contract. Assumes nothing.
+use borrow.Author.Needs.{needs}
+use mathlib.Core.Path.{sym, _∙_, subst}
+use denote.Ref.{now}
+use Rattle.meaning.specs.Limits.{gaugeLimits}
+use Rattle.refusals.specs.Accepted.{accepted-within}
+use Rattle.window.specs.Pieces.{Windowed, windowed, accepted-call, refused-call}
+use Rattle.window.proofs.piece_of.Statement.{statement}
+use Rattle.window.proofs.piece_of.Tie as tie
+
+refusal-of-requires : tie.Need-refusal-of-requires
+refusal-of-requires c κs = search needs
+
+description-requires : tie.Need-description-requires
+description-requires c κs =
+    accepted-within gaugeLimits _ (sym (c .before .refusal-of .ensures) ∙ c .if1 .taken) .0 .sized
+
+accepted-piece-requires : tie.Need-accepted-piece-requires
+accepted-piece-requires c κs =
+    subst Windowed (sym (c .description .ensures)) (windowed _ (sym (c .before .before .refusal-of .ensures) ∙ c .before .if1 .taken))
+
+refused-requires : tie.Need-refused-requires
+refused-requires c κs = search needs
+
+returns : tie.Need-returns
+returns c =
+    let i = c .before .before in
+    let a = i .before .before .before .args in
+    let p = c .accepted-piece .ensures in (
+      accepted-call (now (a .s)) (a .pipe) (a .side) (a .waiting) (a .received) (sym (i .before .refusal-of .ensures) ∙ i .if1 .taken)
+          (c .before .description .ensures) (p .0),
+      p .1,
+    )
+
+returns-2 : tie.Need-returns-2
+returns-2 c =
+    let i = c .before in
+    let a = i .before .before .before .args in
+    refused-call (now (a .s)) (a .pipe) (a .side) (a .waiting) (a .received) (i .before .refusal-of .ensures) (i .if1 .left) (c .refused .ensures)
+
+pub piece-of-spec : {M : Type 1} → statement M
+piece-of-spec =
+    tie.close
+    (tie.spec
+    refusal-of-requires
+    description-requires
+    accepted-piece-requires
+    refused-requires
+    returns
+    returns-2)

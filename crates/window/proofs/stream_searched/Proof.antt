@@ -1,0 +1,59 @@
+-- `window::stream_searched` meets its contract. Assumes nothing.
+use borrow.Author.Needs.{needs}
+use mathlib.Core.Path.{refl, sym, _∙_, ap₂, subst}
+use denote.Ref.{now}
+use Rattle.meaning.specs.declared.Nest.{Nest}
+use Rattle.meaning.specs.declared.Stream.{Stream}
+use Rattle.layout.specs.Ends.{Ends}
+use Rattle.pipes.specs.Flow.{spanning, counted-is}
+use Rattle.window.specs.Search.{searched as results, streamLengths}
+use Rattle.window.proofs.stream_searched.Statement.{statement}
+use Rattle.window.proofs.stream_searched.Tie as tie
+
+flow-of-requires : tie.Need-flow-of-requires
+flow-of-requires c κs = search needs
+
+size-of-requires : tie.Need-size-of-requires
+size-of-requires c κs = spanning (c .before .flow-of .ensures .2)
+
+slice-aggregate-fill-lanes : tie.Need-slice-aggregate-fill-lanes
+slice-aggregate-fill-lanes c = search needs
+
+fill-lanes-requires : tie.Need-fill-lanes-requires
+fill-lanes-requires c κs =
+    let s = c .before .before .before .before .before in
+    let f = c .before .before .before .flow-of in
+    record {
+      flows = f .ensures .2;
+      counted = counted-is (f .ensures .2) (c .before .size-of .ensures .0);
+      of-ends = subst (λ (n : Nest). Ends n (now (s .args .ends))) (sym (f .ensures .0)) (s .pre .1);
+      long = s .pre .2;
+      words = refl;
+    }
+
+slice-aggregate-searched : tie.Need-slice-aggregate-searched
+slice-aggregate-searched c = search needs
+
+searched-requires : tie.Need-searched-requires
+searched-requires c κs =
+    let z = c .before .before .before .before in
+    let f = z .before .before .flow-of in
+    (record { seen = c .before .before .fill-lanes .ensures; counted = counted-is (f .ensures .2) (z .size-of .ensures .0) }, z .before .before .before .before .pre .3)
+
+returns : tie.Need-returns
+returns c =
+    let f = c .before .before .before .before .before .before .before in
+    let a = f .before .before .args in
+    (c .searched .ensures .0 ∙ ap₂ (λ (n : Nest) (s : Stream). results (a .w) (streamLengths n s)) (f .flow-of .ensures .0) (f .flow-of .ensures .1), c .searched .ensures .1)
+
+pub stream-searched-spec : {M : Type 1} → statement M
+stream-searched-spec =
+    tie.close
+    (tie.spec
+    flow-of-requires
+    size-of-requires
+    slice-aggregate-fill-lanes
+    fill-lanes-requires
+    slice-aggregate-searched
+    searched-requires
+    returns)

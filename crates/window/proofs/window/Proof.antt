@@ -1,0 +1,23 @@
+-- `window::window` meets its contract. Assumes nothing.
+use borrow.Author.Needs.{needs}
+use denote.Ref.{now}
+use Rattle.window.specs.Pieces.{number-is, part-is}
+use Rattle.window.proofs.window.Statement.{statement}
+use Rattle.window.proofs.window.Tie as tie
+
+piece-of-requires : tie.Need-piece-of-requires
+piece-of-requires c κs = search needs
+
+part-of-requires : tie.Need-part-of-requires
+part-of-requires c κs = search needs
+
+returns : tie.Need-returns
+returns c =
+    let a = c .before .before .before .before .before .args in
+    let e = c .before .piece-of .ensures .0 in (
+      number-is (now (a .s)) (a .pipe) (a .side) (now (a .waiting)) (now (a .received)) e,
+      part-is (now (a .s)) (a .pipe) (a .side) (now (a .waiting)) (now (a .received)) e (c .part-of .ensures),
+    )
+
+pub window-spec : {M : Type 1} → statement M
+window-spec = tie.close (tie.spec piece-of-requires part-of-requires returns)

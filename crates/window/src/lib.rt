@@ -1,0 +1,242 @@
+// The call Window: a pipe's part of the waiting values or of the received ones.
+//
+// specs/, by file:
+//
+//   Search    a pipe looked for by its number, over the pipes' numbers of elements
+//   Pieces    where a pipe's part lies; the call's own refusals, and what it answers
+ghost use mathlib.Core.Path.{_≡_};
+ghost use mathlib.Core.Bool.{cond};
+ghost use Prim.Native.Nat.{_+_, _-_, _≤_};
+ghost use lib.Dec.{eqb, ltb};
+ghost use lib.ListN.{length, take, drop};
+ghost use Rattle.meaning.specs.Limits.{gaugeLimits};
+ghost use Rattle.meaning.specs.Tests.{refusal};
+ghost use Rattle.meaning.specs.Description.{streamsOf, descriptionOf};
+ghost use Rattle.meaning.specs.Array.{arrayOf, pipeNumber};
+ghost use Rattle.meaning.specs.Calls.{refusedBy, window};
+ghost use Rattle.layout.specs.Ends.{processOf, Ends};
+ghost use Rattle.pipes.specs.Elements.{Near};
+ghost use Rattle.parts.specs.Starts.{Counting};
+ghost use Rattle.accept.specs.Shares.{Sharing, Described};
+ghost use Rattle.window.specs.Search.{counted, searched, looking, visited, streamLengths, allLengths};
+ghost use Rattle.window.specs.Pieces.{Windowed, ownTests, pieceOf, nothing, Within};
+use meaning::Description;
+use meaning::Nest;
+use meaning::Stream;
+use pipes::Flow;
+
+// A pipe looked for: how many are still to be passed over, the elements of those that were, and once it is found its own.
+struct Search {
+    left: u32,
+    start: u32,
+    length: u32,
+    found: bool,
+}
+
+// The number by which the call is refused, 0 if it is not, and from where to where the part goes.
+struct Piece {
+    refusal: u32,
+    from: usize,
+    to: usize,
+}
+
+// ---- a pipe by its number
+
+// A further pipe, of so many elements.
+fn counted(w: Search, length: u32) -> Search
+    requires { ⌜ (w .start ≤ 30000000) × (length ≤ 4096) ⌝ }
+    ensures { λ r. ⌜ (r ≡ counted w length) × (r .start ≤ w .start + length) ⌝ }
+{
+    if w.found {
+        return w;
+    }
+    if w.left == 0 {
+        Search {
+            left: w.left,
+            start: w.start,
+            length: length,
+            found: true,
+        }
+    } else {
+        Search {
+            left: w.left - 1,
+            start: w.start + length,
+            length: w.length,
+            found: false,
+        }
+    }
+}
+
+// The pipe that enters at process p, if one does.
+fn visited(f: Flow, ends: &[u32], lanes: &[u32], p: usize, w: Search) -> Search
+    requires { ⌜ (Near f (now ends) (now lanes) p) × (w .start ≤ 30000000) ⌝ }
+    ensures { λ r. ⌜ (r ≡ visited (f .nest) (f .stream) (processOf (f .nest) p) w) × (r .start ≤ w .start + 4096) ⌝ }
+{
+    if parts::is_entry(f, ends, lanes, p) {
+        counted(w, pipes::total_at(f, ends, lanes, p))
+    } else {
+        w
+    }
+}
+
+// The pipes of a stream.
+fn searched(f: Flow, processes: u32, ends: &[u32], lanes: &[u32], first: Search) -> Search
+    requires { ⌜ (Counting f processes (now ends) (now lanes)) × (first .start ≤ 25165824) ⌝ }
+    ensures { λ r. ⌜ (r ≡ searched first (streamLengths (f .nest) (f .stream))) × (r .start ≤ first .start + 4194304) ⌝ }
+{
+    let mut w = first;
+    let mut p: u32 = 0;
+    while p < processes {
+        w = visited(f, ends, lanes, p as usize, w);
+        p += 1;
+    }
+    w
+}
+
+// The same by nest and stream.
+fn stream_searched(n: Nest, s: Stream, ends: &[u32], w: Search) -> Search
+    requires { ⌜ (Sharing n s) × (Ends n (now ends)) × (3072 ≤ length (now ends)) × (w .start ≤ 25165824) ⌝ }
+    ensures { λ r. ⌜ (r ≡ searched w (streamLengths n s)) × (r .start ≤ w .start + 4194304) ⌝ }
+{
+    let f = pipes::flow_of(n, s);
+    let space = f.space;
+    let processes = numbering::size_of(space);
+    let mut lanes = [0u32; 4096];
+    pipes::fill_lanes(f, processes, ends, &mut lanes);
+    searched(f, processes, ends, &lanes, w)
+}
+
+// The pipes of all streams.
+fn all_searched(d: Description, ends: &[u32], pipe: u32) -> Search
+    requires { ⌜ (Described d) × (Ends (d .nest) (now ends)) × (3072 ≤ length (now ends)) ⌝ }
+    ensures { λ r. ⌜ (r ≡ searched (looking pipe 0) (allLengths (d .nest) (streamsOf d))) × (r .start ≤ 25165824) ⌝ }
+{
+    let n = d.nest;
+    let m = d.sizes.streams;
+    let mut w = Search {
+        left: pipe,
+        start: 0,
+        length: 0,
+        found: false,
+    };
+    let mut i: u32 = 0;
+    while i < m {
+        w = stream_searched(n, decode::stream(d, i as usize), ends, w);
+        i += 1;
+    }
+    w
+}
+
+// The pipe with a number.
+fn search_of(d: Description, pipe: u32) -> Search
+    requires { ⌜ Described d ⌝ }
+    ensures { λ r. ⌜ (r ≡ searched (looking pipe 0) (allLengths (d .nest) (streamsOf d))) × (r .start ≤ 25165824) ⌝ }
+{
+    let n = d.nest;
+    let mut ends = [0u32; 3072];
+    layout::fill_processes(n, &mut ends);
+    all_searched(d, &ends, pipe)
+}
+
+// ---- the call
+
+// No part, and why.
+fn refused(number: u32) -> Piece
+    ensures { λ r. ⌜ r ≡ nothing number ⌝ }
+{
+    Piece {
+        refusal: number,
+        from: 0,
+        to: 0,
+    }
+}
+
+// The part of a pipe, if there is such a pipe.
+fn located(d: Description, pipe: u32) -> Piece
+    requires { ⌜ Windowed d ⌝ }
+    ensures { λ r. ⌜ r ≡ pieceOf d pipe (cond (ltb pipe (pipeNumber (arrayOf d))) 0 19) ⌝ }
+{
+    let w = search_of(d, pipe);
+    if w.found {
+        let from = w.start as usize;
+        Piece {
+            refusal: 0,
+            from: from,
+            to: from + w.length as usize,
+        }
+    } else {
+        refused(19)
+    }
+}
+
+// The part once the description is accepted, of lists of so many words.
+fn accepted_piece(d: Description, pipe: u32, side: u32, waiting: usize, received: usize) -> Piece
+    requires { ⌜ Windowed d ⌝ }
+    ensures { λ r. ⌜ (r ≡ pieceOf d pipe (refusal (ownTests d pipe side waiting received))) × (Within r waiting received) ⌝ }
+{
+    let e = elements::element_count(d) as usize;
+    if waiting == e {
+        if received == e {
+            if side < 2 {
+                located(d, pipe)
+            } else {
+                refused(19)
+            }
+        } else {
+            refused(26)
+        }
+    } else {
+        refused(20)
+    }
+}
+
+// The part by the bytes of the description.
+fn piece_of(s: &[u8], pipe: u32, side: u32, waiting: usize, received: usize) -> Piece
+    ensures { λ r. ⌜ (r ≡ pieceOf (descriptionOf (now (s .entry))) pipe
+        (refusedBy gaugeLimits (now (s .entry)) (ownTests (descriptionOf (now (s .entry))) pipe side waiting received)))
+        × (Within r waiting received) ⌝ }
+{
+    let number = verdict::refusal_of(s);
+    if number == 0 {
+        accepted_piece(decode::description(s), pipe, side, waiting, received)
+    } else {
+        refused(number)
+    }
+}
+
+// A part of the one list or of the other.
+fn part_of<'a>(
+    waiting: &'a [u32],
+    received: &'a [u32],
+    side: u32,
+    from: usize,
+    to: usize,
+) -> &'a [u32]
+    requires { ⌜ (from ≤ to) × (to ≤ length (now waiting)) × (to ≤ length (now received)) ⌝ }
+    ensures { λ r. ⌜ now r ≡ take (to - from) (drop from (cond (eqb side 0) (now (waiting .entry)) (now (received .entry)))) ⌝ }
+{
+    if side == 0 {
+        &waiting[from..to]
+    } else {
+        &received[from..to]
+    }
+}
+
+// WINDOW: the part, and in `number` the number of the refusal, 0 for none.
+pub fn window<'a>(
+    s: &[u8],
+    pipe: u32,
+    side: u32,
+    waiting: &'a [u32],
+    received: &'a [u32],
+    number: &mut u32,
+) -> &'a [u32]
+    ensures { λ r. ⌜ (now (number .exit) ≡ window gaugeLimits (now (s .entry)) pipe side (now (waiting .entry)) (now (received .entry)) .refusal)
+        × (now r ≡ window gaugeLimits (now (s .entry)) pipe side (now (waiting .entry)) (now (received .entry)) .part) ⌝ }
+{
+    let piece = piece_of(s, pipe, side, waiting.len(), received.len());
+    *number = piece.refusal;
+    let from = piece.from;
+    let to = piece.to;
+    part_of(waiting, received, side, from, to)
+}
