@@ -4,14 +4,12 @@ use std::fs;
 use std::io;
 use std::path::Path;
 
-use crate::calls::Calls;
 use crate::compare;
 use crate::description::bytes_of;
 use crate::designs;
 use crate::divisor::shorten;
 use crate::examples::examples;
 use crate::random::Random;
-use crate::random_description;
 use crate::table::table_text;
 
 /// A program's standard input and the output that it should print.
@@ -25,7 +23,6 @@ pub struct Case {
 pub fn cases() -> Vec<Case> {
     vec![
         shorten_case(),
-        refused_case(),
         print_table_case(),
         compare_case(),
     ]
@@ -150,28 +147,6 @@ fn planted_vectors() -> Vec<[i32; 3]> {
     vectors
 }
 
-/// How many bytes a description has room in: its length in a word, and the description.
-const PLACE: usize = 512;
-
-/// The descriptions in, a place for each, and a line for each out: the number by which it is refused, or 0.
-fn refused_case() -> Case {
-    let mut stdin = Vec::new();
-    let mut stdout = String::new();
-    for description in descriptions() {
-        stdin.extend(bytes_of(&[description.len() as i32]));
-        stdin.extend(&description);
-        stdin.resize(stdin.len().next_multiple_of(PLACE), 0);
-        let answer = Calls::on(&description).accept();
-        let number = answer.map_or_else(|refusal| refusal.0, |_| 0);
-        stdout.push_str(&format!("{number}\n"));
-    }
-    Case {
-        name: "refused",
-        stdin,
-        stdout: stdout.into_bytes(),
-    }
-}
-
 /// Document 01's case of the table program: design two.
 fn print_table_case() -> Case {
     let stdin = designs::polynomial_two(2).bytes();
@@ -190,38 +165,4 @@ fn compare_case() -> Case {
         stdin: compare::input(&descriptions),
         stdout: compare::text(&descriptions).into_bytes(),
     }
-}
-
-/// 128 descriptions: arrays at the limits and just over, every refusal, accepted ones, and such with a word changed.
-pub fn descriptions() -> Vec<Vec<u8>> {
-    let mut random = Random::new(2);
-    let mut descriptions = limit_descriptions();
-    for number in 1..=17 {
-        for _ in 0..5 {
-            descriptions.push(random_description::refused(&mut random, number));
-        }
-    }
-    for _ in 0..18 {
-        descriptions.push(random_description::accepted(&mut random).bytes());
-        descriptions.push(random_description::changed(&mut random));
-    }
-    descriptions
-}
-
-/// The report's designs as large as they may be, a wide one of 1,024 processes, and two one size larger.
-fn limit_descriptions() -> Vec<Vec<u8>> {
-    let mut wide = designs::matrix_straight(31);
-    wide.right[2] = 3;
-    [
-        designs::polynomial_one(63),
-        designs::polynomial_one(64),
-        designs::polynomial_two(63),
-        designs::matrix_straight(15),
-        designs::matrix_straight(16),
-        designs::matrix_moving(15),
-        wide,
-    ]
-    .iter()
-    .map(|design| design.bytes())
-    .collect()
 }

@@ -17,10 +17,10 @@ use Rattle.meaning.specs.Body.{runLines, touchedFrom, scatter, execute, 
 use Rattle.meaning.specs.Accept.{testsFrom, refusalOf, accept}
 use Rattle.meaning.specs.Array.{Array, insertByStep, byStep, pipesFrom, arrayOf}
 use Rattle.meaning.specs.Rules.{moveDown, sound, writeAll, Memory, Step, ready, inOrder, apply, Found, at, nothing, firstOf as firstReady, runSteps, applyAll}
-use Rattle.meaning.specs.Answers.{acceptValues, answerNumber, ranValues, readyValues}
+use Rattle.meaning.specs.Answers.{answerNumber, ranValues, readyValues}
 use Rattle.meaning.specs.Calls.{start, run, readyCall, window, result}
 use Rattle.meaning.specs.Comparison.{Case, _is_, naturals, number, eqList, agree-after}
-use Rattle.meaning.specs.Designs.{bytes, designOne, designTwo, matrixProduct, startedOn}
+use Rattle.meaning.specs.Designs.{bytes, designOne, designTwo, startedOn}
 use Rattle.meaning.specs.Cases as P
 
 -- ---- runs
@@ -43,10 +43,8 @@ reversed s n = backwards (arrayOf (descriptionOf s)) 1000 (startedOn s n)
 
 abbrev pub more : List Case
 more =
-    -- figures of three loops with null processes
-    (naturals (acceptValues (accept gaugeLimits matrixProduct)) is naturals (9 ∷ 8 ∷ 12 ∷ 9 ∷ 171 ∷ 100 ∷ []))
     -- both designs stopped after 20 and after 60 steps of Run
-    ∷ (naturals (ranFor designOne 61 20 .state) is naturals
+    (naturals (ranFor designOne 61 20 .state) is naturals
     (1 ∷ 3 ∷ 1 ∷ 3 ∷ 1 ∷ 0 ∷ 2 ∷ 1 ∷ 5 ∷ 0 ∷ 6 ∷ 0 ∷ 2 ∷ 1 ∷ 0 ∷ 0 ∷ 0 ∷ 0 ∷ 0 ∷ 0 ∷ 0 ∷ 0 ∷ 2 ∷ 0 ∷ 0 ∷ 0 ∷ 0 ∷ 4 ∷ 0 ∷ 0 ∷ 0 ∷ 0 ∷ 0 ∷ 4 ∷ 0 ∷
     0 ∷ 0 ∷ 0 ∷ 0 ∷ 0 ∷ 0 ∷ 0 ∷ 0 ∷ 0 ∷ 0 ∷ 0 ∷ 0 ∷ 0 ∷ 0 ∷ 0 ∷ 0 ∷ 3 ∷ 0 ∷ 0 ∷ 3 ∷ 0 ∷ 0 ∷ 0 ∷ 3 ∷ 0 ∷ 0 ∷ []))
     ∷ (naturals (ranFor designOne 61 60 .state) is naturals

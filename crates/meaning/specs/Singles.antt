@@ -20,7 +20,7 @@ use Rattle.meaning.specs.Body.{runLines, touchedFrom, scatter, execute, 
 use Rattle.meaning.specs.Accept.{testsFrom, refusalOf, accept}
 use Rattle.meaning.specs.Array.{insertByStep, byStep, pipesFrom, arrayOf}
 use Rattle.meaning.specs.Rules.{moveDown, sound, writeAll, Memory, apply, firstOf as firstReady, runSteps, applyAll}
-use Rattle.meaning.specs.Answers.{answerNumber, ranNumber, readyNumber}
+use Rattle.meaning.specs.Answers.{acceptValues, answerNumber, ranNumber, readyNumber}
 use Rattle.meaning.specs.Calls.{table, start, step, run, readyCall, window, result, plainRun}
 use Rattle.meaning.specs.Comparison.{Case, _is_, naturals, number, planar, eqList, agree}
 use Rattle.meaning.specs.Designs.{bytes, pair, polynomial, designOne, designTwo, values, matrixProduct, nest, lent, startedOn}
@@ -103,7 +103,8 @@ singles =
     ∷ (stepNumber 0 0 0 stepped is number 24)
     -- the keep of a at process 0, which has fired, is not given before the others are taken
     ∷ (stepNumber 3 0 0 stepped is number 24)
-    -- three loops with null processes: the soaks of a null row
+    -- three loops with null processes: the figures, and the soaks of a null row
+    ∷ (naturals (acceptValues (accept gaugeLimits matrixProduct)) is naturals (9 ∷ 8 ∷ 12 ∷ 9 ∷ 171 ∷ 100 ∷ []))
     ∷ (three (getD (table gaugeLimits matrixProduct (replicate 9 blank) .rows) 2 blank .soak) is naturals (1 ∷ 1 ∷ 0 ∷ []))
     -- declined calls: the numbers in order, and nothing changed
     ∷ (number (answerNumber (table gaugeLimits designTwo (replicate 4 blank) .answer)) is number 18)
