@@ -9,7 +9,7 @@ use reference::Refusal;
 use crate::library::{self, FIGURES, ROW_WORDS};
 
 /// Every word of a list before a call.
-const MARK: u32 = 7;
+pub const MARK: u32 = 7;
 
 /// The comparison's descriptions, and as many again that come from the seed.
 pub fn descriptions(seed: u64) -> Vec<Vec<u8>> {
@@ -42,6 +42,19 @@ pub fn check(number: u32, description: &[u8]) {
     for length in [0, words - 1, words, words + ROW_WORDS + 1, 1100 * ROW_WORDS] {
         check_table(description, &calls, length);
     }
+    let state = accepted.map_or(1, |accepted| accepted.words);
+    let right = [elements, elements, elements, state];
+    check_start(description, &calls, right);
+    for wrong in 0..right.len() {
+        for other in wrong..right.len() {
+            for more in [0, 2] {
+                let mut lengths = right;
+                lengths[wrong] = right[wrong] + more - 1;
+                lengths[other] = right[other] + more - 1;
+                check_start(description, &calls, lengths);
+            }
+        }
+    }
     for given in [elements - 1, elements, elements + 1] {
         for lent in [elements - 1, elements, elements + 1] {
             check_plain_run(description, &calls, &compare::values(number, given), lent);
@@ -73,6 +86,21 @@ fn check_table(description: &[u8], calls: &Calls, length: usize) {
     assert_eq!((number, words), (number_of(expected), left));
 }
 
+/// Start on values, waiting, received and state of so many words.
+fn check_start(description: &[u8], calls: &Calls, lengths: [usize; 4]) {
+    let [values, waiting, received, state] = lengths;
+    let values = compare::values(1, values);
+    let marked = [waiting, received, state].map(|length| vec![MARK; length]);
+    let mut left = marked.clone();
+    let [waiting, received, state] = &mut left;
+    let expected = calls.start(&values, waiting, received, state);
+    let mut lists = marked;
+    let [waiting, received, state] = &mut lists;
+    let number = library::start(description, &values, [waiting, received, state]);
+    assert_eq!(number, number_of(expected));
+    assert!(lists == left);
+}
+
 fn check_plain_run(description: &[u8], calls: &Calls, values: &[u32], length: usize) {
     let mut left = vec![MARK; length];
     let expected = calls.plain_run(values, &mut left);
@@ -82,7 +110,7 @@ fn check_plain_run(description: &[u8], calls: &Calls, values: &[u32], length: us
 }
 
 /// The number by which a call declines, 0 if it does not.
-fn number_of<T>(answer: Result<T, Refusal>) -> u32 {
+pub fn number_of<T>(answer: Result<T, Refusal>) -> u32 {
     answer.map_or_else(|refusal| refusal.0, |_| 0)
 }
 

@@ -1,5 +1,7 @@
 //! The proved library as safe functions: the numbers and lists of include/beqlanosh.h.
 
+use reference::calls::Lent;
+
 /// The words of a row of the table.
 pub const ROW_WORDS: usize = 21;
 
@@ -23,6 +25,79 @@ extern "C" {
         output: *mut u32,
         output_length: usize,
     ) -> u32;
+    fn beqlanosh_start(
+        bytes: *const u8,
+        length: usize,
+        values: *const u32,
+        values_length: usize,
+        waiting: *mut u32,
+        waiting_length: usize,
+        received: *mut u32,
+        received_length: usize,
+        state: *mut u32,
+        state_length: usize,
+    ) -> u32;
+    fn beqlanosh_step(
+        bytes: *const u8,
+        length: usize,
+        kind: u32,
+        number: u32,
+        stream: u32,
+        waiting: *const u32,
+        waiting_length: usize,
+        received: *mut u32,
+        received_length: usize,
+        state: *mut u32,
+        state_length: usize,
+    ) -> u32;
+    fn beqlanosh_run(
+        bytes: *const u8,
+        length: usize,
+        steps: u32,
+        waiting: *const u32,
+        waiting_length: usize,
+        received: *mut u32,
+        received_length: usize,
+        state: *mut u32,
+        state_length: usize,
+        answer: *mut u32,
+    ) -> u32;
+    fn beqlanosh_ready(
+        bytes: *const u8,
+        length: usize,
+        words: *mut u64,
+        words_length: usize,
+        waiting: *const u32,
+        waiting_length: usize,
+        received: *const u32,
+        received_length: usize,
+        state: *const u32,
+        state_length: usize,
+        answer: *mut u32,
+    ) -> u32;
+    fn beqlanosh_window(
+        bytes: *const u8,
+        length: usize,
+        pipe: u32,
+        side: u32,
+        waiting: *const u32,
+        waiting_length: usize,
+        received: *const u32,
+        received_length: usize,
+        answer: *mut u32,
+    ) -> u32;
+    fn beqlanosh_result(
+        bytes: *const u8,
+        length: usize,
+        output: *mut u32,
+        output_length: usize,
+        waiting: *const u32,
+        waiting_length: usize,
+        received: *const u32,
+        received_length: usize,
+        state: *const u32,
+        state_length: usize,
+    ) -> u32;
 }
 
 pub fn accept(bytes: &[u8], figures: &mut [u32; FIGURES]) -> u32 {
@@ -45,6 +120,126 @@ pub fn plain_run(bytes: &[u8], values: &[u32], output: &mut [u32]) -> u32 {
             values.len(),
             output.as_mut_ptr(),
             output.len(),
+        )
+    }
+}
+
+pub fn start(bytes: &[u8], values: &[u32], [waiting, received, state]: [&mut [u32]; 3]) -> u32 {
+    // SAFETY: as above.
+    unsafe {
+        beqlanosh_start(
+            bytes.as_ptr(),
+            bytes.len(),
+            values.as_ptr(),
+            values.len(),
+            waiting.as_mut_ptr(),
+            waiting.len(),
+            received.as_mut_ptr(),
+            received.len(),
+            state.as_mut_ptr(),
+            state.len(),
+        )
+    }
+}
+
+pub fn step(bytes: &[u8], [kind, number, stream]: [u32; 3], lent: Lent) -> u32 {
+    // SAFETY: as above.
+    unsafe {
+        beqlanosh_step(
+            bytes.as_ptr(),
+            bytes.len(),
+            kind,
+            number,
+            stream,
+            lent.waiting.as_ptr(),
+            lent.waiting.len(),
+            lent.received.as_mut_ptr(),
+            lent.received.len(),
+            lent.state.as_mut_ptr(),
+            lent.state.len(),
+        )
+    }
+}
+
+pub fn run(bytes: &[u8], steps: u32, lent: Lent, answer: &mut [u32; 2]) -> u32 {
+    // SAFETY: as above.
+    unsafe {
+        beqlanosh_run(
+            bytes.as_ptr(),
+            bytes.len(),
+            steps,
+            lent.waiting.as_ptr(),
+            lent.waiting.len(),
+            lent.received.as_mut_ptr(),
+            lent.received.len(),
+            lent.state.as_mut_ptr(),
+            lent.state.len(),
+            answer.as_mut_ptr(),
+        )
+    }
+}
+
+pub fn ready(
+    bytes: &[u8],
+    words: &mut [u64],
+    [waiting, received, state]: [&[u32]; 3],
+    answer: &mut [u32; 2],
+) -> u32 {
+    // SAFETY: as above.
+    unsafe {
+        beqlanosh_ready(
+            bytes.as_ptr(),
+            bytes.len(),
+            words.as_mut_ptr(),
+            words.len(),
+            waiting.as_ptr(),
+            waiting.len(),
+            received.as_ptr(),
+            received.len(),
+            state.as_ptr(),
+            state.len(),
+            answer.as_mut_ptr(),
+        )
+    }
+}
+
+pub fn window(
+    bytes: &[u8],
+    [pipe, side]: [u32; 2],
+    waiting: &[u32],
+    received: &[u32],
+    answer: &mut [u32; 2],
+) -> u32 {
+    // SAFETY: as above.
+    unsafe {
+        beqlanosh_window(
+            bytes.as_ptr(),
+            bytes.len(),
+            pipe,
+            side,
+            waiting.as_ptr(),
+            waiting.len(),
+            received.as_ptr(),
+            received.len(),
+            answer.as_mut_ptr(),
+        )
+    }
+}
+
+pub fn result(bytes: &[u8], output: &mut [u32], [waiting, received, state]: [&[u32]; 3]) -> u32 {
+    // SAFETY: as above.
+    unsafe {
+        beqlanosh_result(
+            bytes.as_ptr(),
+            bytes.len(),
+            output.as_mut_ptr(),
+            output.len(),
+            waiting.as_ptr(),
+            waiting.len(),
+            received.as_ptr(),
+            received.len(),
+            state.as_ptr(),
+            state.len(),
         )
     }
 }

@@ -1,8 +1,9 @@
 //! Holds the proved library against the second implementation, then prints how long each call takes. The first word of the command line is the
-//! seed of the random descriptions.
+//! seed of the random descriptions and scripts.
 
 mod answers;
 mod library;
+mod scripts;
 mod times;
 
 fn main() {
@@ -14,6 +15,8 @@ fn main() {
         answers::check(number as u32, description);
     }
     println!("{} descriptions: same answers", descriptions.len());
+    let (scripts, calls) = scripts::check(seed);
+    println!("{scripts} scripts, {calls} calls: same answers");
     println!("least times: array, call, library, reference, ratio");
     for (name, design) in times::arrays() {
         times::print(name, &design);

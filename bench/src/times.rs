@@ -3,7 +3,7 @@
 use std::hint::black_box;
 use std::time::{Duration, Instant};
 
-use reference::calls::{Calls, Row};
+use reference::calls::{Calls, Lent, Row, READY_WORDS};
 use reference::compare;
 use reference::description::Description;
 use reference::designs;
@@ -56,6 +56,179 @@ pub fn print(name: &str, design: &Description) {
         || library::plain_run(black_box(&bytes), &values, &mut ours),
         || Calls::on(black_box(&bytes)).plain_run(&values, &mut theirs),
     );
+    print_on_states(name, &bytes, &values);
+}
+
+/// Received values and a state.
+#[derive(Clone, PartialEq)]
+struct Stage {
+    received: Vec<u32>,
+    state: Vec<u32>,
+}
+
+impl Stage {
+    fn lent<'a>(&'a mut self, waiting: &'a [u32]) -> Lent<'a> {
+        Lent {
+            waiting,
+            received: &mut self.received,
+            state: &mut self.state,
+        }
+    }
+
+    fn memory<'a>(&'a self, waiting: &'a [u32]) -> [&'a [u32]; 3] {
+        [waiting, &self.received, &self.state]
+    }
+}
+
+/// The waiting list, and the stages after Start, after half of the steps and after all.
+fn stages(calls: &Calls, values: &[u32]) -> (Vec<u32>, [Stage; 3]) {
+    let accepted = calls.accept().expect("the largest arrays are accepted");
+    let mut waiting = vec![0; accepted.elements];
+    let mut stage = Stage {
+        received: vec![0; accepted.elements],
+        state: vec![0; accepted.words],
+    };
+    calls
+        .start(values, &mut waiting, &mut stage.received, &mut stage.state)
+        .expect("the lists have their lengths");
+    let started = stage.clone();
+    pass_by_pass(calls, &waiting, &mut stage, accepted.steps / 2);
+    let halfway = stage.clone();
+    pass_by_pass(
+        calls,
+        &waiting,
+        &mut stage,
+        accepted.steps - accepted.steps / 2,
+    );
+    (waiting, [started, halfway, stage])
+}
+
+/// Does so many steps, each as often as it is ready, over and over in Run's order.
+fn pass_by_pass(calls: &Calls, waiting: &[u32], stage: &mut Stage, steps: u64) {
+    let network = calls.network().expect("the largest arrays are accepted");
+    let mut left = steps;
+    for &step in network.steps().iter().cycle() {
+        while left > 0 && network.ready(&stage.state, step) {
+            network.apply(waiting, &mut stage.received, &mut stage.state, step);
+            left -= 1;
+        }
+        if left == 0 {
+            return;
+        }
+    }
+}
+
+/// The calls on a state: Start; the first Send, from the start; Ready halfway; the last pipe's part; Result at the end; Run.
+fn print_on_states(name: &str, bytes: &[u8], values: &[u32]) {
+    let calls = Calls::on(bytes);
+    let (waiting, [started, halfway, ended]) = stages(&calls, values);
+    let (mut our_waiting, mut their_waiting) = (waiting.clone(), waiting.clone());
+    let (mut ours, mut theirs) = (started.clone(), started.clone());
+    line(
+        name,
+        "start",
+        || {
+            let lists: [&mut [u32]; 3] = [&mut our_waiting, &mut ours.received, &mut ours.state];
+            library::start(black_box(bytes), values, lists)
+        },
+        || {
+            let (received, state) = (&mut theirs.received, &mut theirs.state);
+            Calls::on(black_box(bytes)).start(values, &mut their_waiting, received, state)
+        },
+    );
+    let mut sent = started.clone();
+    calls
+        .step(sent.lent(&waiting), 0, 0, 0)
+        .expect("the first pipe can send");
+    let changed: Vec<usize> = (0..sent.state.len())
+        .filter(|&word| sent.state[word] != started.state[word])
+        .collect();
+    let again = |stage: &mut Stage| {
+        for &word in &changed {
+            stage.state[word] = started.state[word];
+        }
+    };
+    line(
+        name,
+        "step",
+        || {
+            again(&mut ours);
+            library::step(black_box(bytes), [0, 0, 0], ours.lent(&waiting))
+        },
+        || {
+            again(&mut theirs);
+            Calls::on(black_box(bytes)).step(theirs.lent(&waiting), 0, 0, 0)
+        },
+    );
+    let mut answer = [0; 2];
+    let (mut our_words, mut their_words) = ([0; READY_WORDS], [0; READY_WORDS]);
+    line(
+        name,
+        "ready",
+        || {
+            let memory = halfway.memory(&waiting);
+            library::ready(black_box(bytes), &mut our_words, memory, &mut answer)
+        },
+        || {
+            let [waiting, received, state] = halfway.memory(&waiting);
+            Calls::on(black_box(bytes)).ready(waiting, received, state, &mut their_words)
+        },
+    );
+    let last = calls.accept().map_or(0, |accepted| accepted.pipes - 1) as u32;
+    let received = &ended.received;
+    line(
+        name,
+        "window",
+        || library::window(black_box(bytes), [last, 1], &waiting, received, &mut answer),
+        || {
+            let calls = Calls::on(black_box(bytes));
+            calls.window(&waiting, received, last, 1).map(<[u32]>::len)
+        },
+    );
+    let (mut our_output, mut their_output) = (waiting.clone(), waiting.clone());
+    line(
+        name,
+        "result",
+        || library::result(black_box(bytes), &mut our_output, ended.memory(&waiting)),
+        || {
+            let [waiting, received, state] = ended.memory(&waiting);
+            Calls::on(black_box(bytes)).result(waiting, received, state, &mut their_output)
+        },
+    );
+    line(
+        name,
+        "run 0",
+        || library::run(black_box(bytes), 0, ours.lent(&waiting), &mut answer),
+        || Calls::on(black_box(bytes)).run(theirs.lent(&waiting), 0),
+    );
+    print_run(name, bytes, &waiting, &started, &ended);
+}
+
+/// A run to the end, by the step: with the tables that a call makes, and without them, which is a run to the end less a run of no step. The second
+/// implementation looks for each step from the first, and runs once.
+fn print_run(name: &str, bytes: &[u8], waiting: &[u32], started: &Stage, ended: &Stage) {
+    let steps = Calls::on(bytes)
+        .accept()
+        .map_or(0, |accepted| accepted.steps) as u32;
+    let mut least = Duration::MAX;
+    let mut tables = Duration::MAX;
+    let start = Instant::now();
+    while start.elapsed() < LONG {
+        let mut stage = started.clone();
+        let mut answer = [0; 2];
+        let mut none = || library::run(black_box(bytes), 0, stage.lent(waiting), &mut answer);
+        tables = tables.min(time(&mut none));
+        let mut run = || library::run(black_box(bytes), u32::MAX, stage.lent(waiting), &mut answer);
+        least = least.min(time(&mut run));
+        assert_eq!(answer, [steps, 0]);
+        assert!(stage == *ended);
+    }
+    let mut stage = started.clone();
+    let mut run = || Calls::on(black_box(bytes)).run(stage.lent(waiting), u64::MAX);
+    let other = time(&mut run);
+    assert!(stage == *ended);
+    print_line(name, "run, a step", least / steps, other / steps);
+    print_line(name, "without tables", (least - tables) / steps, other / steps);
 }
 
 /// The two take turns, so that a busy machine slows both.
@@ -71,8 +244,12 @@ fn line<A, B>(
         least = least.min(time(&mut library));
         least_other = least_other.min(time(&mut other));
     }
-    let ratio = least.as_secs_f64() / least_other.as_secs_f64();
-    println!("{name:24} {call:10} {least:>12.1?} {least_other:>12.1?} {ratio:8.2}");
+    print_line(name, call, least, least_other);
+}
+
+fn print_line(name: &str, call: &str, library: Duration, other: Duration) {
+    let ratio = library.as_secs_f64() / other.as_secs_f64();
+    println!("{name:24} {call:12} {library:>12.1?} {other:>12.1?} {ratio:8.3}");
 }
 
 fn time<T>(call: &mut impl FnMut() -> T) -> Duration {

@@ -1,7 +1,8 @@
-//! The files of `examples/`: the report's designs as descriptions.
+//! The files of `examples/`: the report's designs as descriptions, and a replay script.
 
 use crate::description::Description;
 use crate::designs;
+use crate::replay::Script;
 
 /// A description and the name of its file.
 pub struct Example {
@@ -24,4 +25,19 @@ pub fn examples() -> Vec<Example> {
     .into_iter()
     .map(|(name, description)| Example { name, description })
     .collect()
+}
+
+/// Document 01's polynomial product in design two: forty steps, who is ready, all the others, and the result.
+pub fn example_script() -> Vec<u8> {
+    Script {
+        description: designs::polynomial_two(2).bytes(),
+        values: vec![1, 2, 3, 4, 5, 6, 0, 0, 0, 0, 0],
+        calls: vec![
+            [1, 40, 0, 0],
+            [2, 0, 0, 0],
+            [1, u32::MAX, 0, 0],
+            [4, 0, 0, 0],
+        ],
+    }
+    .bytes()
 }

@@ -4,12 +4,15 @@ use std::fs;
 use std::io;
 use std::path::Path;
 
+use crate::calls::Calls;
 use crate::compare;
-use crate::description::bytes_of;
+use crate::description::{bytes_of, Description};
 use crate::designs;
 use crate::divisor::shorten;
-use crate::examples::examples;
+use crate::examples::{example_script, examples};
 use crate::random::Random;
+use crate::random_script::scripts;
+use crate::replay::{bundle, replay, Script};
 use crate::table::table_text;
 
 /// A program's standard input and the output that it should print.
@@ -25,6 +28,7 @@ pub fn cases() -> Vec<Case> {
         shorten_case(),
         print_table_case(),
         compare_case(),
+        replay_case(),
     ]
 }
 
@@ -34,7 +38,7 @@ pub fn write_files(directory: &Path) -> io::Result<()> {
     write_examples(directory)
 }
 
-/// Each example as examples/NAME.bin.
+/// Each example as examples/NAME.bin, and the script.
 fn write_examples(directory: &Path) -> io::Result<()> {
     let folder = directory.join("examples");
     fs::create_dir_all(&folder)?;
@@ -42,7 +46,7 @@ fn write_examples(directory: &Path) -> io::Result<()> {
         let file = folder.join(example.name).with_extension("bin");
         fs::write(file, example.description.bytes())?;
     }
-    Ok(())
+    fs::write(folder.join("polynomial-two.script"), example_script())
 }
 
 /// Each case as crates/NAME/stdin and crates/NAME/stdout.
@@ -165,4 +169,50 @@ fn compare_case() -> Case {
         stdin: compare::input(&descriptions),
         stdout: compare::text(&descriptions).into_bytes(),
     }
+}
+
+/// How many random scripts are replayed.
+const SCRIPTS: usize = 1000;
+
+/// The replay of the report's designs, run to their end, and of random scripts, in one bundle.
+fn replay_case() -> Case {
+    let stdin = bundle(&replay_scripts());
+    Case {
+        name: "replay",
+        stdout: replay(&stdin).into_bytes(),
+        stdin,
+    }
+}
+
+/// The scripts that are replayed.
+pub fn replay_scripts() -> Vec<Vec<u8>> {
+    examples()
+        .iter()
+        .map(|example| run_to_the_end(&example.description))
+        .chain(scripts(1, SCRIPTS))
+        .collect()
+}
+
+/// A script that runs a description to its end and asks for all that came out.
+fn run_to_the_end(description: &Description) -> Vec<u8> {
+    let description = description.bytes();
+    let elements = Calls::on(&description)
+        .accept()
+        .map_or(0, |found| found.elements);
+    let values = Random::new(elements as u64).values(elements);
+    let calls = vec![
+        [1, 100, 0, 0],
+        [2, 0, 0, 0],
+        [1, u32::MAX, 0, 0],
+        [2, 0, 0, 0],
+        [3, 0, 1, 0],
+        [4, 0, 0, 0],
+        [6, 0, 0, 0],
+    ];
+    Script {
+        description,
+        values,
+        calls,
+    }
+    .bytes()
 }

@@ -8,7 +8,7 @@ use std::process::ExitCode;
 
 use reference::expected::write_files;
 use reference::random_script::scripts;
-use reference::replay::replay;
+use reference::replay::{bundle, replay};
 use reference::table::table_text;
 
 const USAGE: &str = "usage: reference table | replay | random SEED N [DIR] | expected DIR";
@@ -32,7 +32,9 @@ fn command(arguments: &[OsString]) -> Result<(), String> {
         (Some("table"), []) => print(table_text(&input()?).as_bytes()),
         (Some("replay"), []) => print(replay(&input()?).as_bytes()),
         (Some("random"), [seed, count]) => {
-            print_scripts(number("SEED", seed)?, number("N", count)?)
+            let scripts: Vec<Vec<u8>> =
+                scripts(number("SEED", seed)?, number("N", count)?).collect();
+            print(&bundle(&scripts))
         }
         (Some("random"), [seed, count, directory]) => write_scripts(
             number("SEED", seed)?,
@@ -70,15 +72,6 @@ fn print(bytes: &[u8]) -> Result<(), String> {
         .write_all(bytes)
         .and_then(|()| output.flush())
         .map_err(|error| format!("cannot write standard output: {error}"))
-}
-
-/// Writes scripts as one bundle: before each its number of bytes in a word.
-fn print_scripts(seed: u64, count: usize) -> Result<(), String> {
-    for script in scripts(seed, count) {
-        print(&(script.len() as u32).to_le_bytes())?;
-        print(&script)?;
-    }
-    Ok(())
 }
 
 /// Writes scripts into a directory, a file for each.

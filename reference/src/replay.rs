@@ -6,6 +6,11 @@
 //! state, 6 show the received list, 7 poke (word of the state, value), 8 lend (list, length).
 //! Any other number ends the script. Words that a call does not use are ignored, and so is a last
 //! call that is cut off. The output has a line for Accept, one for Start and one for each call.
+//!
+//! Several scripts stand in a bundle: the word 2^32 − 1, with which no whole script begins, since no
+//! description is so long; then for each script its number of bytes, a word, and the script. What each
+//! prints stands below a line with `script` and its number, from 0 on. A last script that is cut off
+//! is played as far as it goes.
 
 use crate::calls::{Accepted, Calls, Lent, READY_WORDS};
 use crate::Refusal;
@@ -23,8 +28,38 @@ const OUTPUT: usize = 4;
 /// A call: its number and three words.
 pub type Call = [u32; 4];
 
-/// The output of a script.
-pub fn replay(script: &[u8]) -> String {
+/// The first word of a bundle.
+const BUNDLE: u32 = u32::MAX;
+
+/// The output of a script or of a bundle.
+pub fn replay(input: &[u8]) -> String {
+    let mut rest = input;
+    if next_word(&mut rest) != Some(BUNDLE) {
+        return replay_script(input);
+    }
+    let mut output = String::new();
+    let mut number = 0;
+    while let Some(length) = next_word(&mut rest) {
+        let (script, others) = rest.split_at(rest.len().min(length as usize));
+        output.push_str(&format!("script {number}\n{}", replay_script(script)));
+        rest = others;
+        number += 1;
+    }
+    output
+}
+
+/// Several scripts in one input.
+pub fn bundle(scripts: &[Vec<u8>]) -> Vec<u8> {
+    let mut bytes = BUNDLE.to_le_bytes().to_vec();
+    for script in scripts {
+        bytes.extend((script.len() as u32).to_le_bytes());
+        bytes.extend(script);
+    }
+    bytes
+}
+
+/// The output of one script.
+fn replay_script(script: &[u8]) -> String {
     let Some(script) = Script::read(script) else {
         return "short script\n".to_string();
     };

@@ -1,53 +1,25 @@
 // The library that programs in C or Rust link (include/beqlanosh.h): the calls over numbers and slices alone, each answering the number by which
-// it declines, or 0. It decides nothing of its own but how figures and rows lie in words.
+// it declines, or 0. It decides nothing of its own but how values lie in words.
 //
 // specs/, by file:
 //
-//   Words     values and rows of the table as words
-//   Lent      what Accept and Table leave in lent words
+//   Kept      what Accept, Run, Ready and Window leave in lent words
 ghost use mathlib.Core.Path.{_≡_};
+ghost use mathlib.Core.Bool.{cond};
 ghost use mathlib.Core.List.{[], _∷_};
-ghost use Prim.Native.Nat.{_+_, _*_, _/_, _≤_, min};
 ghost use lib.ListN.{length};
-ghost use lib.Seq.{paste};
-ghost use mir.Syntax.{w32};
-ghost use mir.Val.{ofZ};
 ghost use Rattle.meaning.specs.Limits.{gaugeLimits};
-ghost use Rattle.meaning.specs.Space.{processes};
-ghost use Rattle.meaning.specs.Description.{descriptionOf};
-ghost use Rattle.meaning.specs.Accept.{refusalOf, accept};
-ghost use Rattle.meaning.specs.Answers.{acceptNumber, acceptValues, answerNumber};
-ghost use Rattle.meaning.specs.Calls.{plainRun};
-ghost use Rattle.beqlanosh.specs.Words.{orKept, laid, bits3, rowWords, wordsOf};
-ghost use Rattle.beqlanosh.specs.Lent.{tableNumber, tableWords};
-use integers::V3;
+ghost use Rattle.meaning.specs.Accept.{accept};
+ghost use Rattle.meaning.specs.Rules.{memoryOf};
+ghost use Rattle.meaning.specs.Answers.{acceptNumber, acceptValues, answerNumber, ranNumber, ranValues, readyNumber, readyValues};
+ghost use Rattle.meaning.specs.Calls.{start, step, run, readyCall, window, result, plainRun};
+ghost use Rattle.listing.specs.Words.{laid};
+ghost use Rattle.listing.specs.Lent.{tableNumber, tableWords};
+ghost use Rattle.beqlanosh.specs.Kept.{orKept, windowValues};
 use meaning::Acceptance;
-use meaning::Answer;
 use meaning::Figures;
-use meaning::Row;
-
-// ---- numbers
-
-fn number_of(answer: Answer) -> u32
-    ensures { λ r. ⌜ r ≡ answerNumber answer ⌝ }
-{
-    match answer {
-        Answer::Done => 0,
-        Answer::Refused(number) => number,
-    }
-}
-
-// The 32 bits of a signed number.
-fn bits_of(z: i32) -> u32
-    ensures { λ r. ⌜ r ≡ ofZ w32 z ⌝ }
-{
-    let size = integers::magnitude(z);
-    if z < 0 {
-        0xffff_ffff - (size - 1)
-    } else {
-        size
-    }
-}
+use meaning::Ran;
+use meaning::Readiness;
 
 // ---- accept
 
@@ -82,105 +54,13 @@ pub extern "C" fn beqlanosh_accept(bytes: &[u8], figures: &mut [u32; 6]) -> u32
 
 // ---- table
 
-fn vector_words(v: V3) -> [u32; 3]
-    ensures { λ r. ⌜ r ≡ bits3 v ⌝ }
-{
-    [bits_of(v.x), bits_of(v.y), bits_of(v.z)]
-}
-
-// A row in its 21 words.
-fn row_words(r: Row) -> [u32; 21]
-    ensures { λ r′. ⌜ r′ ≡ rowWords r ⌝ }
-{
-    let point = r.point;
-    let first = vector_words(r.first);
-    let last = vector_words(r.last);
-    let soak = r.soak;
-    let drain = r.drain;
-    [
-        bits_of(point.a),
-        bits_of(point.b),
-        r.count,
-        first[0],
-        first[1],
-        first[2],
-        last[0],
-        last[1],
-        last[2],
-        soak[0],
-        soak[1],
-        soak[2],
-        soak[3],
-        soak[4],
-        soak[5],
-        drain[0],
-        drain[1],
-        drain[2],
-        drain[3],
-        drain[4],
-        drain[5],
-    ]
-}
-
-// The values go into the words from word `at` on.
-fn put(values: &[u32], at: usize, words: &mut [u32])
-    requires { ⌜ at + length (now values) ≤ length (now words) ⌝ }
-    ensures { λ r. ⌜ now (words .exit) ≡ paste (now (words .entry)) at (now (values .entry)) (length (now (values .entry))) ⌝ }
-{
-    let mut i: usize = 0;
-    while i < values.len() {
-        words[at + i] = values[i];
-        i += 1;
-    }
-}
-
-// The first rows go into the words.
-fn put_rows(rows: [Row; 1024], count: usize, words: &mut [u32])
-    requires { ⌜ (count ≤ 1024) × (21 * count ≤ length (now words)) ⌝ }
-    ensures { λ r. ⌜ now (words .exit) ≡ laid (wordsOf rows count) (now (words .entry)) ⌝ }
-{
-    let mut p: usize = 0;
-    while p < count {
-        let row = row_words(rows[p]);
-        put(&row, 21 * p, words);
-        p += 1;
-    }
-}
-
-// How many rows fit into so many words, up to as many as there can be processes.
-fn room_in(words: usize) -> usize
-    ensures { λ r. ⌜ r ≡ min (words / 21) 1024 ⌝ }
-{
-    let room = words / 21;
-    if room < 1024 { room } else { 1024 }
-}
-
-fn process_count(s: &[u8]) -> usize
-    requires { ⌜ refusalOf gaugeLimits (now s) ≡ 0 ⌝ }
-    ensures { λ r. ⌜ r ≡ length (processes (descriptionOf (now (s .entry)) .nest)) ⌝ }
-{
-    let n = decode::description(s).nest;
-    let place = n.place;
-    numbering::size_of(numbering::extent_of(n, place)) as usize
-}
-
 // TABLE: the rows, 21 words each; 18 if fewer fit than there are processes.
 #[no_mangle]
 pub extern "C" fn beqlanosh_table(bytes: &[u8], words: &mut [u32]) -> u32
     ensures { λ r. ⌜ (r ≡ tableNumber (now (bytes .entry)) (length (now (words .entry))))
         × (now (words .exit) ≡ laid (tableWords (now (bytes .entry)) (length (now (words .entry)))) (now (words .entry))) ⌝ }
 {
-    let room = room_in(words.len());
-    let listed = rows::table(bytes, room);
-    let answer = listed.answer;
-    let number = number_of(answer);
-    if number == 0 {
-        let rows = listed.rows;
-        put_rows(rows, process_count(bytes), words);
-        0
-    } else {
-        number
-    }
+    listing::table_words(bytes, words)
 }
 
 // ---- plain run
@@ -192,5 +72,149 @@ pub extern "C" fn beqlanosh_plain_run(bytes: &[u8], values: &[u32], output: &mut
         × (now (output .exit) ≡ plainRun gaugeLimits (now (bytes .entry)) (now (values .entry)) (now (output .entry)) .output) ⌝ }
 {
     let answer = plain::plain_run(bytes, values, output);
-    number_of(answer)
+    listing::number_of(answer)
+}
+
+// ---- the calls on a state
+
+// START: the values, in element order, wait; state and received are cleared.
+#[no_mangle]
+pub extern "C" fn beqlanosh_start(
+    bytes: &[u8],
+    values: &[u32],
+    waiting: &mut [u32],
+    received: &mut [u32],
+    state: &mut [u32],
+) -> u32
+    ensures { λ r. ⌜ (r ≡ answerNumber (start gaugeLimits (now (bytes .entry)) (now (values .entry))
+        (memoryOf (now (waiting .entry)) (now (received .entry)) (now (state .entry))) .answer))
+        × (memoryOf (now (waiting .exit)) (now (received .exit)) (now (state .exit))
+        ≡ start gaugeLimits (now (bytes .entry)) (now (values .entry))
+        (memoryOf (now (waiting .entry)) (now (received .entry)) (now (state .entry))) .memory) ⌝ }
+{
+    let answer = start::start(bytes, values, waiting, received, state);
+    listing::number_of(answer)
+}
+
+// STEP: the step named, if it is ready.
+#[no_mangle]
+pub extern "C" fn beqlanosh_step(
+    bytes: &[u8],
+    kind: u32,
+    number: u32,
+    stream: u32,
+    waiting: &[u32],
+    received: &mut [u32],
+    state: &mut [u32],
+) -> u32
+    ensures { λ r. ⌜ (r ≡ answerNumber (step gaugeLimits (now (bytes .entry)) kind number stream
+        (memoryOf (now (waiting .entry)) (now (received .entry)) (now (state .entry))) .answer))
+        × (memoryOf (now (waiting .entry)) (now (received .exit)) (now (state .exit))
+        ≡ step gaugeLimits (now (bytes .entry)) kind number stream
+        (memoryOf (now (waiting .entry)) (now (received .entry)) (now (state .entry))) .memory) ⌝ }
+{
+    let answer = step::step(bytes, kind, number, stream, waiting, received, state);
+    listing::number_of(answer)
+}
+
+// 1 if so, 0 if not.
+fn digit(b: bool) -> u32
+    ensures { λ r. ⌜ r ≡ cond b 1 0 ⌝ }
+{
+    if b { 1 } else { 0 }
+}
+
+// RUN: so many steps, lowest first; how many were done, and 1 if any is ready, 0 if none.
+#[no_mangle]
+pub extern "C" fn beqlanosh_run(
+    bytes: &[u8],
+    steps: u32,
+    waiting: &[u32],
+    received: &mut [u32],
+    state: &mut [u32],
+    answer: &mut [u32; 2],
+) -> u32
+    ensures { λ r. ⌜ (r ≡ ranNumber (run gaugeLimits (now (bytes .entry)) steps
+        (memoryOf (now (waiting .entry)) (now (received .entry)) (now (state .entry))) .answer))
+        × (memoryOf (now (waiting .entry)) (now (received .exit)) (now (state .exit))
+        ≡ run gaugeLimits (now (bytes .entry)) steps (memoryOf (now (waiting .entry)) (now (received .entry)) (now (state .entry))) .memory)
+        × (now (answer .exit) ≡ orKept (ranValues (run gaugeLimits (now (bytes .entry)) steps
+        (memoryOf (now (waiting .entry)) (now (received .entry)) (now (state .entry))) .answer)) (now (answer .entry))) ⌝ }
+{
+    let ran = run::run(bytes, steps, waiting, received, state);
+    match ran {
+        Ran::Ran { steps: done, ready } => {
+            *answer = [done, digit(ready)];
+            0
+        }
+        Ran::Refused(number) => number,
+    }
+}
+
+// READY: the bits of the processes that can take, fire or give; how many they are, and the lowest.
+#[no_mangle]
+pub extern "C" fn beqlanosh_ready(
+    bytes: &[u8],
+    words: &mut [u64],
+    waiting: &[u32],
+    received: &[u32],
+    state: &[u32],
+    answer: &mut [u32; 2],
+) -> u32
+    ensures { λ r. ⌜ (r ≡ readyNumber (readyCall gaugeLimits (now (bytes .entry)) (now (words .entry))
+        (memoryOf (now (waiting .entry)) (now (received .entry)) (now (state .entry))) .answer))
+        × (now (words .exit) ≡ readyCall gaugeLimits (now (bytes .entry)) (now (words .entry))
+        (memoryOf (now (waiting .entry)) (now (received .entry)) (now (state .entry))) .words)
+        × (now (answer .exit)
+        ≡ orKept (readyValues (readyCall gaugeLimits (now (bytes .entry)) (now (words .entry))
+        (memoryOf (now (waiting .entry)) (now (received .entry)) (now (state .entry))) .answer)) (now (answer .entry))) ⌝ }
+{
+    let found = ready::ready(bytes, words, waiting, received, state);
+    match found {
+        Readiness::Ready { count, lowest } => {
+            *answer = [count, lowest];
+            0
+        }
+        Readiness::Refused(number) => number,
+    }
+}
+
+// WINDOW: where the pipe's part of the waiting values or of the received ones begins, and how long it is.
+#[no_mangle]
+pub extern "C" fn beqlanosh_window(
+    bytes: &[u8],
+    pipe: u32,
+    side: u32,
+    waiting: &[u32],
+    received: &[u32],
+    answer: &mut [u32; 2],
+) -> u32
+    ensures { λ r. ⌜ (r ≡ window gaugeLimits (now (bytes .entry)) pipe side (now (waiting .entry)) (now (received .entry)) .refusal)
+        × (now (answer .exit) ≡ orKept (windowValues (now (bytes .entry)) pipe
+        (window gaugeLimits (now (bytes .entry)) pipe side (now (waiting .entry)) (now (received .entry)) .refusal)) (now (answer .entry))) ⌝ }
+{
+    let piece = window::piece_of(bytes, pipe, side, waiting.len(), received.len());
+    let refusal = piece.refusal;
+    if refusal == 0 {
+        *answer = [piece.from, piece.length];
+    }
+    refusal
+}
+
+// RESULT: once all values are out, those received, in element order.
+#[no_mangle]
+pub extern "C" fn beqlanosh_result(
+    bytes: &[u8],
+    output: &mut [u32],
+    waiting: &[u32],
+    received: &[u32],
+    state: &[u32],
+) -> u32
+    ensures { λ r. ⌜ (r ≡ answerNumber (result gaugeLimits (now (bytes .entry)) (now (output .entry))
+        (memoryOf (now (waiting .entry)) (now (received .entry)) (now (state .entry))) .answer))
+        × (now (output .exit) ≡ result gaugeLimits (now (bytes .entry)) (now (output .entry))
+        (memoryOf (now (waiting .entry)) (now (received .entry)) (now (state .entry))) .output) ⌝ }
+{
+    let answer = result::result(bytes, output, waiting, received, state);
+    listing::number_of(answer)
 }

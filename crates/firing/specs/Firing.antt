@@ -32,11 +32,11 @@ canUse l k = uses k (word l (k .at)) (word l (k .at + 1)) (word l (k .fired))
 abbrev pub noSeat : Seat
 noSeat = record { at = 0; before = 0; after = 0; room = 0; fired = 0; hop = 0; soak = 0; count = 0; total = 0; keeps = false }
 
--- the seats of a process's m streams, in a state of n words
+-- the seats of a process's m streams, in a state of n words; their indices have 32 bits
 pub record ProcessFits (n : ℕ) (ks : List Seat) (m : ℕ) : Type 0 where
   pub some : 0 < m
   pub most : m ≤ 6
-  pub words : n ≤ 4294967296
+  pub small : (s : ℕ) → s < m → getD ks s noSeat .at + 4 ≤ 4294967296
   pub seats : (s : ℕ) → s < m → SeatFits n (getD ks s noSeat)
 
 -- the words that they use have numbers of 32 bits
@@ -45,7 +45,7 @@ pub record UsedFit (ks : List Seat) (m : ℕ) : Type 0 where
   pub small : (s : ℕ) → s < m → getD ks s noSeat .at + 4 ≤ 4294967296
 
 pub used-fit : (n : ℕ) (ks : List Seat) (m : ℕ) → ProcessFits n ks m → UsedFit ks m
-used-fit n ks m f = record { most = f .most; small = λ s h. omega (arith, f .words, f .seats s h .block) }
+used-fit n ks m f = record { most = f .most; small = f .small }
 
 -- the word that an instance uses
 abbrev pub usedAt : Seat → ℕ

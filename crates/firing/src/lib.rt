@@ -1,10 +1,9 @@
-// Document 01's rule of a process: fire, with whether its next instance can use the element of every stream and the run of the body on the words that
+// Document 01's rule of a process: fire, with whether its next instance can use the element of a stream and the run of the body on the words that
 // it uses. In specs/, Firing has the code as functions of lists, and FiringMeaning says that this is what document 01 says.
 ghost use mathlib.Core.Path.{_≡_};
 ghost use mathlib.Core.Bool.{true};
 ghost use Prim.Native.Nat.{_+_, _<_, _≤_};
 ghost use lib.ListN.{length, take, replicate};
-ghost use Rattle.meaning.specs.Lists.{every};
 ghost use Rattle.body.specs.Fit.{Fit};
 ghost use Rattle.integers.specs.Fill.{fillBy};
 ghost use Rattle.links.specs.Seats.{SeatFits};
@@ -60,35 +59,6 @@ fn used_words(seats: [Seat; 6], streams: usize) -> [u32; 6]
         s += 1;
     }
     out
-}
-
-// Whether the next instance can use the element of every stream.
-fn can_use_all(state: &[u32], seats: [Seat; 6], streams: usize) -> bool
-    requires { ⌜ ProcessFits (length (now state)) seats streams ⌝ }
-    ensures { λ r. ⌜ r ≡ every (canUse (now (state .entry))) (take streams seats) ⌝ }
-{
-    let mut s = 0;
-    while s < streams {
-        if can_use(state, seats[s]) {
-            s += 1;
-        } else {
-            return false;
-        }
-    }
-    true
-}
-
-// Whether the process can fire: an instance is left, and it can use the element of every stream.
-pub fn can_fire(state: &[u32], seats: [Seat; 6], streams: usize) -> bool
-    requires { ⌜ ProcessFits (length (now state)) seats streams ⌝ }
-    ensures { λ r. ⌜ r ≡ canFire (now (state .entry)) seats streams ⌝ }
-{
-    let k = seats[0];
-    if word(state, k.fired) < k.count {
-        can_use_all(state, seats, streams)
-    } else {
-        false
-    }
 }
 
 // The next instance, x, runs the first count lines on the words that the process uses.

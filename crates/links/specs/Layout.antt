@@ -36,7 +36,7 @@ rows-apart p r w a b h g e = go (ltb p r) (ltb r p) refl refl
         omega (arith, ap (λ (p : ℕ). p * w) z)
 
 -- the words of member i end before those of the next
-part-ends : {X : Type 0} (f : X → ℕ) (d : X) (l : List X) (i : ℕ) → i < length l → total f (take i l) + f (getD l i d) ≤ total f l
+pub part-ends : {X : Type 0} (f : X → ℕ) (d : X) (l : List X) (i : ℕ) → i < length l → total f (take i l) + f (getD l i d) ≤ total f l
 unfolding total
 part-ends f d [] i h = absurd (omega arith)
 part-ends f d (x ∷ l) zero h = omega arith

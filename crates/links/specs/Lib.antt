@@ -4,4 +4,5 @@ pub mod Seats
 pub mod Ends
 pub mod Layout
 pub mod Places
+pub mod Rows
 pub mod LinksMeaning

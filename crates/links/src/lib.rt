@@ -8,6 +8,7 @@
 //   Seats, Ends      the rows of an array; rows whose words lie in a state
 //   Layout           the rows fit a state that is long enough, and the words that a rule writes lie apart
 //   Places           the pipe of a process and a stream, and the process's place on it
+//   Rows             the row of any process and stream, on a pipe or off every one
 //   LinksMeaning     links that are filled no further than their places: places, fill and moving down are document 01's
 ghost use mathlib.Core.Path.{_≡_};
 ghost use Prim.Native.Nat.{_+_, _<_};

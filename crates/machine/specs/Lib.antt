@@ -2,3 +2,4 @@
 pub mod Sound
 pub mod SoundMeaning
 pub mod Steps
+pub mod Rows

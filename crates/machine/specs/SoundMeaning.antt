@@ -35,7 +35,7 @@ every-from f (suc n) i h j l = go (f i) refl h (every-from f n (suc i)) j l
     go true e h ih (suc j) l = let z : i + suc j ≡ suc i + j = omega arith in rw z (ih h j (omega arith))
     go false e h ih j l = absurd (true≢false (sym h))
 
-every-number : (f : ℕ → Bool) (n : ℕ) → every f (numbers n) ≡ true → (j : ℕ) → j < n → f j ≡ true
+pub every-number : (f : ℕ → Bool) (n : ℕ) → every f (numbers n) ≡ true → (j : ℕ) → j < n → f j ≡ true
 every-number f n h j l = let z : 0 + j ≡ j = omega arith in rw z at (every-from f n 0 h j l)
 
 all-from : (f : ℕ → Bool) (n i : ℕ) → ((j : ℕ) → j < n → f (i + j) ≡ true) → every f (numbersFrom i n) ≡ true
@@ -46,7 +46,7 @@ all-from f (suc n) i h =
     let e : f i ≡ true = rw z at (h 0 (omega arith)) in
     rw e (all-from f n (suc i) (λ j l. let z : i + suc j ≡ suc i + j = omega arith in rw z at (h (suc j) (omega arith))))
 
-all-numbers : (f : ℕ → Bool) (n : ℕ) → ((j : ℕ) → j < n → f j ≡ true) → every f (numbers n) ≡ true
+pub all-numbers : (f : ℕ → Bool) (n : ℕ) → ((j : ℕ) → j < n → f j ≡ true) → every f (numbers n) ≡ true
 all-numbers f n h = all-from f n 0 (λ j l. let z : 0 + j ≡ j = omega arith in rw z (h j l))
 
 -- no more is given than was taken

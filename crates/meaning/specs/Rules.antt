@@ -219,6 +219,10 @@ pub record Memory : Type 0 where
   pub received : List ℕ
   pub state : List ℕ
 
+-- the three lists as they are lent
+abbrev pub memoryOf : List ℕ → List ℕ → List ℕ → Memory
+memoryOf waiting received state = record { waiting = waiting; received = received; state = state }
+
 module _ (A : Array) where
   -- "a step is ready if its rule can be carried out in the state"
   abbrev pub ready : List ℕ → Step → Bool

@@ -17,15 +17,12 @@ use Rattle.meaning.specs.Limits.{gaugeLimits}
 use Rattle.meaning.specs.Description.{descriptionOf}
 use Rattle.meaning.specs.Body.{gather}
 use Rattle.meaning.specs.Array.{arrayOf, pipeOrder}
-use Rattle.meaning.specs.Rules.{Memory}
+use Rattle.meaning.specs.Rules.{Memory, memoryOf}
 use Rattle.meaning.specs.Accept.{refusalOf, figures}
 use Rattle.meaning.specs.Calls.{lengthOf, stateLength, answer, start}
 use Rattle.decode.specs.Refusals.{neither, passed}
 use Rattle.places.specs.Order.{PlacesOf, Placeable, elements-most}
 use Rattle.start.specs.Values.{Puttable, put, puttable, gathered, cleared, cleared-all}
-
-abbrev pub memoryOf : List ℕ → List ℕ → List ℕ → Memory
-memoryOf waiting received state = record { waiting = waiting; received = received; state = state }
 
 -- what the call leaves where nothing is refused
 abbrev pub startedBy : Description → List ℕ → Memory → Memory

@@ -44,14 +44,14 @@ part-below f (x ∷ l) (suc q) z h = omega (arith, length-append (f x) (each f l
 
 -- no part, and the part of a pipe unless the call is refused by n
 abbrev pub nothing : ℕ → Piece
-nothing n = record { refusal = n; from = 0; to = 0 }
+nothing n = record { refusal = n; from = 0; length = 0 }
 
 abbrev pub pieceOf : Description → ℕ → ℕ → Piece
 pieceOf d pipe n =
     record {
       refusal = n;
       from = cond (eqb n 0) (partStart (arrayOf d) pipe) 0;
-      to = cond (eqb n 0) (partStart (arrayOf d) pipe + elementsOn (arrayOf d) pipe) 0;
+      length = cond (eqb n 0) (elementsOn (arrayOf d) pipe) 0;
     }
 
 pub no-piece : (d : Description) (pipe n : ℕ) → (n ≡ 0 → ⊥) → nothing n ≡ pieceOf d pipe n
@@ -59,15 +59,14 @@ no-piece d pipe n f = rw (ne-eqb n 0 f) refl
 
 -- it lies within lists of so many words
 pub record Within (r : Piece) (waiting received : ℕ) : Type 0 where
-  pub ordered : r .from ≤ r .to
-  pub in-waiting : r .to ≤ waiting
-  pub in-received : r .to ≤ received
+  pub in-waiting : r .from + r .length ≤ waiting
+  pub in-received : r .from + r .length ≤ received
 
 pub nothing-within : (n waiting received : ℕ) → Within (nothing n) waiting received
-nothing-within n waiting received = record { ordered = omega arith; in-waiting = omega arith; in-received = omega arith }
+nothing-within n waiting received = record { in-waiting = omega arith; in-received = omega arith }
 
-same-piece : {a b : Piece} → a .refusal ≡ b .refusal → a .from ≡ b .from → a .to ≡ b .to → a ≡ b
-same-piece e f g = λ i. record { refusal = e i; from = f i; to = g i }
+same-piece : {a b : Piece} → a .refusal ≡ b .refusal → a .from ≡ b .from → a .length ≡ b .length → a ≡ b
+same-piece e f g = λ i. record { refusal = e i; from = f i; length = g i }
 
 module _ (d : Description) (pipe : ℕ) {w : Search} (e : w ≡ searched (looking pipe 0) (allLengths (d .nest) (streamsOf d))) where
   abbrev A : Array
@@ -81,7 +80,7 @@ module _ (d : Description) (pipe : ℕ) {w : Search} (e : w ≡ searched (lookin
   by-array = e ∙ ap (searched (looking pipe 0)) (sym (pipe-lengths (d .nest) 0 0 (streamsOf d)))
 
   -- the search that found has the part
-  pub found-piece : w .found ≡ true → {r : Piece} → r .refusal ≡ 0 → r .from ≡ w .start → r .to ≡ w .start + w .length
+  pub found-piece : w .found ≡ true → {r : Piece} → r .refusal ≡ 0 → r .from ≡ w .start → r .length ≡ w .length
       → r ≡ pieceOf d pipe (cond (ltb pipe (pipeNumber A)) 0 19)
   found-piece t {r} u v x = go (decLe (pipeNumber A) pipe)
     where
@@ -92,7 +91,7 @@ module _ (d : Description) (pipe : ℕ) {w : Search} (e : w ≡ searched (lookin
           let f = by-array ∙ finds lengthIn (A .pipes) pipe 0 noPipe m in
           rw (lt-ltb pipe (pipeNumber A) m)
           (same-piece u (v ∙ ap (λ (w : Search). w .start) f ∙ omega arith)
-          (x ∙ ap₂ (λ (a b : ℕ). a + b) (ap (λ (w : Search). w .start) f) (ap (λ (w : Search). w .length) f) ∙ omega arith))
+          (x ∙ ap (λ (w : Search). w .length) f))
 
   pub lost-piece : w .found ≡ false → {r : Piece} → r ≡ nothing 19 → r ≡ pieceOf d pipe (cond (ltb pipe (pipeNumber A)) 0 19)
   lost-piece t {r} u = go (decLe (pipeNumber A) pipe)
@@ -157,7 +156,7 @@ module _ (d : Description) (pipe side waiting received : ℕ) where
               let m : pipe < pipes = omega arith in
               let b = part-below (λ r. r .elements) (arrayOf d .pipes) pipe noPipe m in
               rw (lt-ltb pipe pipes m)
-              (record { ordered = omega arith; in-waiting = omega (arith, b, list-length laid, ew); in-received = omega (arith, b, list-length laid, er) })
+              (record { in-waiting = omega (arith, b, list-length laid, ew); in-received = omega (arith, b, list-length laid, er) })
 
 -- ---- the call
 
@@ -184,18 +183,18 @@ module _ (s : List ℕ) (pipe side : ℕ) (waiting received : List ℕ) {r : Pie
   unfolding window
   number-is = ap (λ (r : Piece). r .refusal) e
 
-  pub part-is : {l : List ℕ} → l ≡ take (r .to - r .from) (drop (r .from) (cond (eqb side 0) waiting received))
+  pub part-is : {l : List ℕ} → l ≡ take (r .from + r .length - r .from) (drop (r .from) (cond (eqb side 0) waiting received))
       → l ≡ window gaugeLimits s pipe side waiting received .part
   unfolding window
   part-is h =
-      h ∙ ap₂ (λ (a b : ℕ). take (b - a) (drop a (cond (eqb side 0) waiting received))) (ap (λ (r : Piece). r .from) e) (ap (λ (r : Piece). r .to) e)
+      h ∙ ap (λ (r : Piece). take (r .from + r .length - r .from) (drop (r .from) (cond (eqb side 0) waiting received))) e
       ∙ go (eqb (refusedBy gaugeLimits s (ownTests (descriptionOf s) pipe side (length waiting) (length received))) 0) (partStart (arrayOf (descriptionOf s)) pipe)
       (elementsOn (arrayOf (descriptionOf s)) pipe) (cond (eqb side 0) waiting received)
     where
-      none : (l : List ℕ) → take (0 - 0) (drop 0 l) ≡ []
+      none : (l : List ℕ) → take (0 + 0 - 0) (drop 0 l) ≡ []
       none [] = refl
       none (x ∷ l) = refl
 
-      go : (b : Bool) (k n : ℕ) (l : List ℕ) → take (cond b (k + n) 0 - cond b k 0) (drop (cond b k 0) l) ≡ cond b (take n (drop k l)) []
+      go : (b : Bool) (k n : ℕ) (l : List ℕ) → take (cond b k 0 + cond b n 0 - cond b k 0) (drop (cond b k 0) l) ≡ cond b (take n (drop k l)) []
       go true k n l = let q : k + n - k ≡ n = omega arith in ap (λ (i : ℕ). take i (drop k l)) q
       go false k n l = none l

@@ -33,11 +33,11 @@ struct Search {
     found: bool,
 }
 
-// The number by which the call is refused, 0 if it is not, and from where to where the part goes.
-struct Piece {
-    refusal: u32,
-    from: usize,
-    to: usize,
+// The number by which the call is refused, 0 if it is not, and where the part begins and how long it is.
+pub struct Piece {
+    pub refusal: u32,
+    pub from: u32,
+    pub length: u32,
 }
 
 // ---- a pipe by its number
@@ -147,7 +147,7 @@ fn refused(number: u32) -> Piece
     Piece {
         refusal: number,
         from: 0,
-        to: 0,
+        length: 0,
     }
 }
 
@@ -158,11 +158,10 @@ fn located(d: Description, pipe: u32) -> Piece
 {
     let w = search_of(d, pipe);
     if w.found {
-        let from = w.start as usize;
         Piece {
             refusal: 0,
-            from: from,
-            to: from + w.length as usize,
+            from: w.start,
+            length: w.length,
         }
     } else {
         refused(19)
@@ -190,8 +189,8 @@ fn accepted_piece(d: Description, pipe: u32, side: u32, waiting: usize, received
     }
 }
 
-// The part by the bytes of the description.
-fn piece_of(s: &[u8], pipe: u32, side: u32, waiting: usize, received: usize) -> Piece
+// Where the part lies, by the bytes of the description, of lists of so many words.
+pub fn piece_of(s: &[u8], pipe: u32, side: u32, waiting: usize, received: usize) -> Piece
     ensures { λ r. ⌜ (r ≡ pieceOf (descriptionOf (now (s .entry))) pipe
         (refusedBy gaugeLimits (now (s .entry)) (ownTests (descriptionOf (now (s .entry))) pipe side waiting received)))
         × (Within r waiting received) ⌝ }
@@ -236,7 +235,7 @@ pub fn window<'a>(
 {
     let piece = piece_of(s, pipe, side, waiting.len(), received.len());
     *number = piece.refusal;
-    let from = piece.from;
-    let to = piece.to;
+    let from = piece.from as usize;
+    let to = from + piece.length as usize;
     part_of(waiting, received, side, from, to)
 }

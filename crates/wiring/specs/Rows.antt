@@ -1,6 +1,6 @@
 -- The rows by numbers are those of the array of a description that is laid out. Assumes nothing.
 use mathlib.Core.Path.{_≡_, refl, sym, _∙_, ap, ap₂}
-use mathlib.Core.Bool.{Bool, true, cond}
+use mathlib.Core.Bool.{Bool, true, false, cond}
 use mathlib.Core.Logic.{_⊎_, inl, inr}
 use Prim.Native.Nat.{ℕ, zero, suc, _+_, _*_, _<_}
 use native.Mathlib.Omega.{arith}
@@ -11,7 +11,7 @@ use Rattle.meaning.specs.declared.Nest.{Nest}
 use Rattle.meaning.specs.declared.Stream.{Stream}
 use Rattle.meaning.specs.declared.Description.{Description}
 use Rattle.meaning.specs.Lists.{total}
-use Rattle.meaning.specs.Space.{rowIndex, space, processes}
+use Rattle.meaning.specs.Space.{rowIndex, space, processes, count}
 use Rattle.meaning.specs.Streams.{hop, move}
 use Rattle.meaning.specs.Pipes.{reach, before, isPipe, entries, pipeElements}
 use Rattle.meaning.specs.Description.{streamsOf}
@@ -21,14 +21,15 @@ use Rattle.meaning.specs.Rules.{putIn, takenOut, linkPlace}
 use Rattle.geometry.specs.Descriptions.{Laid}
 use Rattle.geometry.specs.Arrays.{streamAt}
 use Rattle.stations.specs.Pipes.{base, entryAt, hop-on, elements-on}
-use Rattle.stations.specs.Through.{pointOf, entryNumber, through-is, entry-lt, entry-rank}
+use Rattle.stations.specs.Through.{pointOf, entryNumber, through-is, entry-lt, entry-rank, on-is}
 use Rattle.stations.specs.Seats.{process-on, keeps-is, soak-is, stream-is, hop-is, elements-is, count-at}
 use Rattle.stations.specs.Ends.{backOf, onOf, put-first, put-given, taken-last, taken-next, link-last, link-next, exitOf, number-point, entry-inside, taken-entry, link-entry, put-end, link-end}
 use Rattle.stations.specs.Indices.{seatWords, endsWords, strideOf, endAt, firings-index, taken-index, sent-index}
-use Rattle.links.specs.Seats.{SeatIs, same-seat}
+use Rattle.links.specs.Seats.{seatOf, SeatIs, same-seat}
+use Rattle.links.specs.Rows.{offSeat, rowOf}
 use Rattle.links.specs.Ends.{EndIs, same-end}
 use Rattle.wiring.specs.declared.Strand.{Strand}
-use Rattle.wiring.specs.Strands.{endFrom, seatIndex, endIndex, beforeFrom, afterFrom, roomFrom, pipeOf, seatFrom}
+use Rattle.wiring.specs.Strands.{endFrom, seatIndex, endIndex, beforeFrom, afterFrom, roomFrom, pipeOf, seatFrom, offFrom, rowFrom}
 
 -- the numbers that the rows of stream i share
 pub record StrandOf (d : Description) (i : ℕ) (g : Strand) : Type 0 where
@@ -135,6 +136,24 @@ module _ {d : Description} (laid : Laid d) {i : ℕ} {g : Strand} (h : StrandOf 
       where
         at-sent : (f : ℕ → ℕ) → f (endIndex g (pipeOf n s p)) ≡ f sent
         at-sent f = ap (λ (r : ℕ). f (endIndex g r)) (sym (entry-rank laid p i hp (h .lt) on))
+
+  -- the row of a process, on a pipe or off every one
+  module _ (p : ℕ) (hp : p < length (processes n)) where
+    off-is : offFrom g (count n (pointOf d p)) p ≡ offSeat A p i
+    off-is =
+        let e = seat-index p in
+        same-seat e e (ap (λ (a : ℕ). a + 1) e) (ap (λ (a : ℕ). a + 4) e ∙ omega arith) (ap (λ (a : ℕ). p * a) (h .stride) ∙ sym (firings-index d p)) refl
+        refl (sym (count-at laid p hp)) refl refl
+
+    pub row-is : rowFrom n s g p ≡ rowOf A p i
+    row-is =
+        go (isPipe n s (pointOf d p)) refl
+        ∙ ap (λ (b : Bool). cond b (seatOf A (pipeThrough A p i) (placeOn A p (pipeThrough A p i))) (offSeat A p i)) (sym (on-is laid p i hp (h .lt)))
+      where
+        go : (b : Bool) → isPipe n s (pointOf d p) ≡ b → cond b (seatFrom n s g p) (offFrom g (count n (pointOf d p)) p)
+            ≡ cond b (seatOf A (pipeThrough A p i) (placeOn A p (pipeThrough A p i))) (offSeat A p i)
+        go true e = seat-is p hp e
+        go false e = off-is
 
   -- the row of a pipe's ends
   module _ (j : ℕ) (hj : j < length (entries n s)) where

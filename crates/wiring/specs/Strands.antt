@@ -16,7 +16,7 @@ use Rattle.meaning.specs.declared.Stream.{Stream}
 use Rattle.meaning.specs.Loops.{instances}
 use Rattle.meaning.specs.Space.{eq2, Box, points, rowIndex, space, processes, sentTo, count, computing}
 use Rattle.meaning.specs.Streams.{stationary, move}
-use Rattle.meaning.specs.Pipes.{reach, before, pipeElements}
+use Rattle.meaning.specs.Pipes.{reach, before, isPipe, pipeElements}
 use Rattle.meaning.specs.Array.{rowSoak}
 use Rattle.geometry.specs.Boxes.{Inside}
 use Rattle.geometry.specs.Reach.{reach-in}
@@ -30,6 +30,7 @@ use Rattle.links.specs.declared.Seat.{Seat}
 use Rattle.links.specs.declared.End.{End}
 use Rattle.links.specs.Seats.{same-seat}
 use Rattle.parts.specs.Starts.{filter-fewer, enteredAt, entered-le}
+use Rattle.parts.specs.Entries.{pipe-test}
 use Rattle.pipes.specs.declared.Flow.{Flow}
 use Rattle.pipes.specs.Held.{entryNumber}
 use Rattle.pipes.specs.Flow.{Flows, point-is, inside-space, going-on, reach-on}
@@ -142,6 +143,26 @@ seatFrom n s g p =
       keeps = stationary n s && computing n y;
     }
 
+-- the row of process p off every pipe; it has so many instances
+abbrev pub offFrom : Strand → ℕ → ℕ → Seat
+offFrom g count p =
+    record {
+      at = seatIndex g p;
+      before = seatIndex g p;
+      after = seatIndex g p + 1;
+      room = seatIndex g p + 4;
+      fired = p * g .stride;
+      hop = 0;
+      soak = 0;
+      count = count;
+      total = 0;
+      keeps = false;
+    }
+
+-- and its row in any case
+abbrev pub rowFrom : Nest → Stream → Strand → ℕ → Seat
+rowFrom n s g p = cond (isPipe n s (processOf n p)) (seatFrom n s g p) (offFrom g (count n (processOf n p)) p)
+
 -- by the tests of the code
 pub some-before : {b : ℕ} → eqb b 0 ≡ false → 0 < b
 some-before {b} e = go b e
@@ -207,6 +228,19 @@ pub seat-row : {f : Flow} (g : Strand) {ends lanes : List ℕ} {p : ℕ} {r : Se
 seat-row {f} g {p} h sent e a b c d k l m o q s =
     same-seat a (b ∙ ap (λ (x : ℕ). beforeFrom (f .nest) (f .stream) g x p) e) (c ∙ ap (λ (x : ℕ). afterFrom (f .nest) (f .stream) g x p) e)
     (d ∙ ap (λ (x : ℕ). roomFrom (f .nest) (f .stream) g x p) e) k l m (o ∙ h .seen .of-ends .counts p (h .lt)) q (s ∙ keeps-is h)
+
+-- on a pipe where its line holds elements, off every one where it holds none
+module _ {f : Flow} {ends lanes : List ℕ} {p : ℕ} (h : Near f ends lanes p) {k : ℕ} (e : k ≡ getD lanes (2048 + getD lanes p 0) 0) (g : Strand) where
+  abbrev own : Bool → Seat
+  own b = cond b (seatFrom (f .nest) (f .stream) g p) (offFrom g (count (f .nest) (processOf (f .nest) p)) p)
+
+  pub row-held : (k ≡ 0 → ⊥) → {r : Seat} → r ≡ seatFrom (f .nest) (f .stream) g p → r ≡ rowFrom (f .nest) (f .stream) g p
+  row-held t er = er ∙ ap own (sym (ap not (ne-eqb k 0 t)) ∙ pipe-test h e)
+
+  pub row-bare : k ≡ 0 → {r : Seat} → r ≡ offFrom g (getD ends p 0) p → r ≡ rowFrom (f .nest) (f .stream) g p
+  row-bare z er =
+      er ∙ ap (λ (c : ℕ). offFrom g c p) (h .seen .of-ends .counts p (h .lt))
+      ∙ ap own (sym (ap not (eq-eqb k 0 z)) ∙ pipe-test h e)
 
 -- ---- the row of a pipe's ends
 

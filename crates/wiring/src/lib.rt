@@ -3,7 +3,7 @@
 // specs/, by file:
 //
 //   Strands   what the rows of a stream share; the rows by numbers
-//   Rows      the rows are those of the array: `seat-is`, `end-is`
+//   Rows      the rows are those of the array: `seat-is`, `row-is`, `end-is`
 ghost use mathlib.Core.Path.{_≡_};
 ghost use mathlib.Core.Bool.{not, _&&_};
 ghost use Prim.Native.Nat.{_+_, _*_, _≤_, _<_};
@@ -18,7 +18,7 @@ ghost use Rattle.stations.specs.Ends.{backOf};
 ghost use Rattle.layout.specs.Ends.{processOf};
 ghost use Rattle.pipes.specs.Flow.{Flows};
 ghost use Rattle.pipes.specs.Elements.{Near};
-ghost use Rattle.wiring.specs.Strands.{Narrow, beforeFrom, afterFrom, roomFrom, pipeOf, Seated, seatFrom, endFrom};
+ghost use Rattle.wiring.specs.Strands.{Narrow, beforeFrom, afterFrom, roomFrom, pipeOf, Seated, seatFrom, offFrom, rowFrom, endFrom};
 use links::End;
 use links::Seat;
 use pipes::Flow;
@@ -138,7 +138,7 @@ fn keeps(moving: bool, count: u32) -> bool
 }
 
 // The row of process p, which is on a pipe.
-pub fn seat_of(f: Flow, g: Strand, ends: &[u32], lanes: &[u32], entered: &[u32], p: usize) -> Seat
+fn seat_of(f: Flow, g: Strand, ends: &[u32], lanes: &[u32], entered: &[u32], p: usize) -> Seat
     requires { ⌜ (Seated f (now ends) (now lanes) (now entered) p) × (Narrow g) ⌝ }
     ensures { λ r. ⌜ r ≡ seatFrom (f .nest) (f .stream) g p ⌝ }
 {
@@ -157,6 +157,38 @@ pub fn seat_of(f: Flow, g: Strand, ends: &[u32], lanes: &[u32], entered: &[u32],
         count: count as usize,
         total: pipes::total_at(f, ends, lanes, p) as usize,
         keeps: keeps(moving, count),
+    }
+}
+
+// The row of process p off every pipe: a link without places. The process has so many instances.
+fn off_of(g: Strand, count: u32, p: u32) -> Seat
+    requires { ⌜ (Narrow g) × (p < 1024) ⌝ }
+    ensures { λ r. ⌜ r ≡ offFrom g count p ⌝ }
+{
+    let at = seat_at(g, p) as usize;
+    Seat {
+        at: at,
+        before: at,
+        after: at + 1,
+        room: at + 4,
+        fired: (p * g.stride) as usize,
+        hop: 0,
+        soak: 0,
+        count: count as usize,
+        total: 0,
+        keeps: false,
+    }
+}
+
+// The row of process p.
+pub fn row_of(f: Flow, g: Strand, ends: &[u32], lanes: &[u32], entered: &[u32], p: usize) -> Seat
+    requires { ⌜ (Seated f (now ends) (now lanes) (now entered) p) × (Narrow g) ⌝ }
+    ensures { λ r. ⌜ r ≡ rowFrom (f .nest) (f .stream) g p ⌝ }
+{
+    if pipes::held_at(f, ends, lanes, p) == 0 {
+        off_of(g, ends[p], p as u32)
+    } else {
+        seat_of(f, g, ends, lanes, entered, p)
     }
 }
 

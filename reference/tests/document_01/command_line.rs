@@ -6,7 +6,7 @@ use std::path::PathBuf;
 use std::process::{Command, Output, Stdio};
 
 use reference::designs::polynomial_two;
-use reference::examples::examples;
+use reference::examples::{example_script, examples};
 use reference::expected::{cases, vectors};
 use reference::random_script::scripts;
 use reference::replay::replay;
@@ -65,7 +65,8 @@ fn table_and_replay() {
 #[test]
 fn random_bundle_and_files() {
     let bundle = run(&["random", "9", "55"], &[]).stdout;
-    let mut rest = bundle.as_slice();
+    let (mark, mut rest) = bundle.split_at(4);
+    assert_eq!(mark, u32::MAX.to_le_bytes());
     let place = directory("scripts");
     let text = place.to_str().expect("a path in plain text");
     assert!(run(&["random", "9", "55", text], &[]).status.success());
@@ -116,6 +117,8 @@ fn expected_files() {
         let bytes = fs::read(file).expect("an example");
         assert_eq!(bytes, example.description.bytes());
     }
+    let file = place.join("examples").join("polynomial-two.script");
+    assert_eq!(fs::read(file).expect("a script"), example_script());
 }
 
 #[test]

@@ -1,13 +1,13 @@
-//! What the random scripts cover, counted over a fixed seed.
+//! What the replayed scripts cover: the designs and the random ones of a fixed seed.
 
 use std::collections::{BTreeMap, BTreeSet};
 
 use reference::calls::Calls;
+use reference::examples::examples;
+use reference::expected::replay_scripts;
 use reference::geometry::Array;
 use reference::random_script::scripts;
 use reference::replay::{replay, Script};
-
-const SCRIPTS: usize = 400;
 
 #[derive(Default, Debug)]
 struct Coverage {
@@ -163,13 +163,14 @@ fn null_between(array: &Array, processes: &[usize]) -> bool {
 }
 
 #[test]
-fn random_scripts_cover_document_01() {
+fn replayed_scripts_cover_document_01() {
     let mut coverage = Coverage::default();
-    for script in scripts(1, SCRIPTS) {
-        coverage.add(&script);
+    let scripts = replay_scripts();
+    for script in &scripts {
+        coverage.add(script);
     }
     println!("{coverage:#?}");
-    assert!(coverage.accepted > SCRIPTS / 2 && coverage.short_scripts > 0);
+    assert!(coverage.accepted > scripts.len() / 2 && coverage.short_scripts > 0);
     assert!((1..=17).all(|number| coverage.refused.contains_key(&number)));
     check_arrays(&coverage);
     check_calls(&coverage);
@@ -182,7 +183,22 @@ fn random_scripts_cover_document_01() {
     ] {
         assert!(coverage.runs.contains_key(property), "{property}");
     }
-    assert!(coverage.bytes < 2000 * SCRIPTS && coverage.printed < 8000 * SCRIPTS);
+    assert!(coverage.bytes + coverage.printed < 2_900_000);
+}
+
+#[test]
+fn designs_run_to_their_end() {
+    for (script, example) in replay_scripts().iter().zip(examples()) {
+        let output = replay(script);
+        assert!(output
+            .lines()
+            .any(|line| line.starts_with("run ") && line.ends_with(" 0")));
+        assert!(
+            output.lines().any(|line| line.starts_with("result ")),
+            "{}",
+            example.name
+        );
+    }
 }
 
 fn check_arrays(coverage: &Coverage) {

@@ -1,7 +1,8 @@
 //! Replay: the lines of every call, lends, pokes and scripts that are cut off.
 
 use reference::designs::{polynomial_one, polynomial_two};
-use reference::replay::{replay, Call, Script};
+use reference::examples::example_script;
+use reference::replay::{bundle, replay, Call, Script};
 
 const STEP: u32 = 0;
 const RUN: u32 = 1;
@@ -221,6 +222,53 @@ fn cut_off_scripts() {
         script[place + 3] = 0xFF;
         assert_eq!(replay(&script), "short script\n");
     }
+}
+
+#[test]
+fn the_example() {
+    let expected = "\
+accept 5 9 11 3 95 141
+start
+run 40 1
+ready 3 0 7 0 0 0 0 0 0 0 0 0 0 0 0 0 0 0
+run 101 0
+result 1 2 3 4 5 6 4 13 28 27 18
+";
+    assert_eq!(replay(&example_script()), expected);
+}
+
+#[test]
+fn bundles() {
+    let scripts = [
+        small(&[[RUN, 2, 0, 0]]),
+        Vec::new(),
+        small(&[[RUN, 3, 0, 0], [9, 0, 0, 0], [RUN, 1, 0, 0]]),
+    ];
+    let outputs: Vec<String> = scripts.iter().map(|script| replay(script)).collect();
+    let text = |outputs: &[String]| -> String {
+        let numbered = outputs.iter().enumerate();
+        numbered
+            .map(|(number, output)| format!("script {number}\n{output}"))
+            .collect()
+    };
+    let whole = bundle(&scripts);
+    assert_eq!(replay(&whole), text(&outputs));
+    assert_eq!(replay(&bundle(&[])), "");
+    // A length that is cut off counts for nothing, and a script is played as far as it goes.
+    for more in 1..4 {
+        let longer = [whole.clone(), vec![1; more]].concat();
+        assert_eq!(replay(&longer), text(&outputs));
+    }
+    assert_eq!(replay(&whole[..whole.len() - 17]), text(&outputs));
+    let cut = &whole[..whole.len() - scripts[2].len() + 5];
+    assert_eq!(
+        replay(cut),
+        text(&[
+            outputs[0].clone(),
+            outputs[1].clone(),
+            "short script\n".to_string()
+        ])
+    );
 }
 
 #[test]

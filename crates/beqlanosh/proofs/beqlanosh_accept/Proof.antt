@@ -1,7 +1,7 @@
 -- `beqlanosh::beqlanosh_accept` meets its contract. Assumes nothing.
 use mathlib.Core.Path.{sym, _∙_}
 use denote.Ref.{now}
-use Rattle.beqlanosh.specs.Lent.{accepted-left, refused-left}
+use Rattle.beqlanosh.specs.Kept.{accepted-left, refused-left}
 use borrow.Author.Needs.{needs}
 use Rattle.beqlanosh.proofs.beqlanosh_accept.Statement.{statement}
 use Rattle.beqlanosh.proofs.beqlanosh_accept.Tie as tie

@@ -5,7 +5,8 @@ use borrow.Author.Needs.{needs}
 use Rattle.meaning.specs.Limits.{gaugeLimits}
 use Rattle.refusals.specs.Accepted.{accepted-within}
 use Rattle.places.specs.Order.{Placeable, placeable}
-use Rattle.start.specs.Call.{memoryOf, accepted-call, refused-call}
+use Rattle.meaning.specs.Rules.{memoryOf}
+use Rattle.start.specs.Call.{accepted-call, refused-call}
 use Rattle.start.proofs.start.Statement.{statement}
 use Rattle.start.proofs.start.Tie as tie
 

@@ -1,7 +1,8 @@
 -- `start::start_accepted` meets its contract. Assumes nothing.
 use borrow.Author.Needs.{needs}
 use denote.Ref.{now}
-use Rattle.start.specs.Call.{memoryOf, fitting, call-done, call-refused}
+use Rattle.meaning.specs.Rules.{memoryOf}
+use Rattle.start.specs.Call.{fitting, call-done, call-refused}
 use Rattle.start.proofs.start_accepted.Statement.{statement}
 use Rattle.start.proofs.start_accepted.Tie as tie
 

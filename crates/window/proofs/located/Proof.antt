@@ -8,23 +8,14 @@ use Rattle.window.proofs.located.Tie as tie
 search-of-requires : tie.Need-search-of-requires
 search-of-requires c κs = search needs
 
-cast-from : tie.Need-cast-from
-cast-from c = search needs
-
-cast-t7 : tie.Need-cast-t7
-cast-t7 c = search needs
-
-add-t8 : tie.Need-add-t8
-add-t8 c = search needs
-
 refused-requires : tie.Need-refused-requires
 refused-requires c κs = search needs
 
 returns : tie.Need-returns
 returns c =
-    let s = c .before .before .before in
+    let s = c .before in
     let a = s .before .args in
-    found-piece (a .d) (a .pipe) (s .search-of .ensures .0) (c .before .before .if1 .taken) refl refl refl
+    found-piece (a .d) (a .pipe) (s .search-of .ensures .0) (c .if1 .taken) refl refl refl
 
 returns-2 : tie.Need-returns-2
 returns-2 c =
@@ -35,4 +26,4 @@ returns-2 c =
 pub located-spec : {M : Type 1} → statement M
 located-spec =
     tie.close
-    (tie.spec search-of-requires cast-from cast-t7 add-t8 refused-requires returns returns-2)
+    (tie.spec search-of-requires refused-requires returns returns-2)

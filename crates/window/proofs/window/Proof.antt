@@ -8,16 +8,26 @@ use Rattle.window.proofs.window.Tie as tie
 piece-of-requires : tie.Need-piece-of-requires
 piece-of-requires c κs = search needs
 
+cast-from : tie.Need-cast-from
+cast-from c = search needs
+
+cast-to : tie.Need-cast-to
+cast-to c = search needs
+
+add-to : tie.Need-add-to
+add-to c = search needs
+
 part-of-requires : tie.Need-part-of-requires
 part-of-requires c κs = search needs
 
 returns : tie.Need-returns
 returns c =
-    let a = c .before .before .before .before .before .args in
-    let e = c .before .piece-of .ensures .0 in (
+    let p = c .before .before .before in
+    let a = p .before .before .before .before .args in
+    let e = p .piece-of .ensures .0 in (
       number-is (now (a .s)) (a .pipe) (a .side) (now (a .waiting)) (now (a .received)) e,
       part-is (now (a .s)) (a .pipe) (a .side) (now (a .waiting)) (now (a .received)) e (c .part-of .ensures),
     )
 
 pub window-spec : {M : Type 1} → statement M
-window-spec = tie.close (tie.spec piece-of-requires part-of-requires returns)
+window-spec = tie.close (tie.spec piece-of-requires cast-from cast-to add-to part-of-requires returns)

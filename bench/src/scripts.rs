@@ -1,0 +1,209 @@
+//! Plays random scripts, call by call, on the library and on the second implementation.
+
+use reference::calls::{Calls, Lent, READY_WORDS};
+use reference::random_script;
+use reference::replay::{Call, Script};
+
+use crate::answers::{number_of, MARK};
+use crate::library;
+
+/// How many scripts are played.
+const SCRIPTS: usize = 2500;
+
+/// The words of the longest lists lent: waiting, received, state, ready words, output.
+const LONGEST: [usize; 5] = [32_768, 32_768, 140_000, 32, 32_768];
+
+/// Plays the scripts of a seed; how many there are, and how many calls were held against each other.
+pub fn check(seed: u64) -> (usize, usize) {
+    let scripts = random_script::scripts(seed, SCRIPTS);
+    let played: Vec<usize> = scripts
+        .filter_map(|bytes| Script::read(&bytes))
+        .map(|script| play(&script))
+        .collect();
+    (played.len(), played.iter().sum())
+}
+
+/// The lists of a script, and how many words of each are lent.
+struct Lists<'a> {
+    description: &'a [u8],
+    calls: Calls,
+    waiting: Vec<u32>,
+    received: Vec<u32>,
+    state: Vec<u32>,
+    ready: Vec<u64>,
+    output: Vec<u32>,
+    lengths: [usize; 5],
+}
+
+/// Plays a script; how many calls it has.
+fn play(script: &Script) -> usize {
+    let calls = Calls::on(&script.description);
+    let (elements, words) = calls
+        .accept()
+        .map_or((0, 0), |accepted| (accepted.elements, accepted.words));
+    let [waiting, received, state, ready, output] = LONGEST;
+    let mut lists = Lists {
+        description: &script.description,
+        calls,
+        waiting: vec![MARK; waiting],
+        received: vec![MARK; received],
+        state: vec![MARK; state],
+        ready: vec![u64::from(MARK); ready],
+        output: vec![MARK; output],
+        lengths: [elements, elements, words, READY_WORDS, elements],
+    };
+    lists.start(&script.values);
+    let played = script.calls.iter().map_while(|&call| lists.call(call));
+    1 + played.filter(|&compared| compared).count()
+}
+
+impl Lists<'_> {
+    /// Whether a call is held against the other implementation; none if it ends the script.
+    fn call(&mut self, [number, a, b, c]: Call) -> Option<bool> {
+        match number {
+            0 => self.step([a, b, c]),
+            1 => self.run(a),
+            2 => self.ready(),
+            3 => self.window([a, b]),
+            4 => self.result(),
+            5 | 6 => {}
+            7 => self.poke(a as usize, b),
+            8 => self.lend(a as usize, b as usize),
+            _ => return None,
+        }
+        Some(number < 5)
+    }
+
+    fn start(&mut self, values: &[u32]) {
+        let [w, r, s, ..] = self.lengths;
+        let mut waiting = self.waiting[..w].to_vec();
+        let mut received = self.received[..r].to_vec();
+        let mut state = self.state[..s].to_vec();
+        let expected = self
+            .calls
+            .start(values, &mut waiting, &mut received, &mut state);
+        let number = library::start(
+            self.description,
+            values,
+            [
+                &mut self.waiting[..w],
+                &mut self.received[..r],
+                &mut self.state[..s],
+            ],
+        );
+        assert_eq!(number, number_of(expected));
+        assert!(self.waiting[..w] == waiting);
+        assert!(self.received[..r] == received && self.state[..s] == state);
+    }
+
+    fn step(&mut self, words: [u32; 3]) {
+        let [kind, number, stream] = words;
+        self.moved(
+            |calls, lent| (number_of(calls.step(lent, kind, number, stream)), ()),
+            |description, lent| (library::step(description, words, lent), ()),
+        );
+    }
+
+    fn run(&mut self, steps: u32) {
+        self.moved(
+            |calls, lent| {
+                let ran = calls.run(lent, u64::from(steps));
+                let answer = ran.map_or([MARK; 2], |ran| [ran.done as u32, u32::from(ran.ready)]);
+                (number_of(ran), answer)
+            },
+            |description, lent| {
+                let mut answer = [MARK; 2];
+                (library::run(description, steps, lent, &mut answer), answer)
+            },
+        );
+    }
+
+    /// Holds two calls that may change received and state against each other.
+    fn moved<T: PartialEq + std::fmt::Debug>(
+        &mut self,
+        theirs: impl FnOnce(&Calls, Lent) -> T,
+        ours: impl FnOnce(&[u8], Lent) -> T,
+    ) {
+        let [w, r, s, ..] = self.lengths;
+        let mut received = self.received[..r].to_vec();
+        let mut state = self.state[..s].to_vec();
+        let waiting = &self.waiting[..w];
+        let expected = theirs(
+            &self.calls,
+            Lent {
+                waiting,
+                received: &mut received,
+                state: &mut state,
+            },
+        );
+        let answer = ours(
+            self.description,
+            Lent {
+                waiting,
+                received: &mut self.received[..r],
+                state: &mut self.state[..s],
+            },
+        );
+        assert_eq!(answer, expected);
+        assert!(self.received[..r] == received && self.state[..s] == state);
+    }
+
+    fn ready(&mut self) {
+        let [w, r, s, ready, _] = self.lengths;
+        let memory = [&self.waiting[..w], &self.received[..r], &self.state[..s]];
+        let [waiting, received, state] = memory;
+        let mut words = self.ready[..ready].to_vec();
+        let expected = self.calls.ready(waiting, received, state, &mut words);
+        let left = expected.map_or([MARK; 2], |ready| [ready.count as u32, ready.lowest as u32]);
+        let mut answer = [MARK; 2];
+        let lent = &mut self.ready[..ready];
+        let number = library::ready(self.description, lent, memory, &mut answer);
+        assert_eq!((number, answer), (number_of(expected), left));
+        assert!(self.ready[..ready] == words);
+    }
+
+    fn window(&self, words: [u32; 2]) {
+        let [pipe, side] = words;
+        let [w, r, ..] = self.lengths;
+        let (waiting, received) = (&self.waiting[..w], &self.received[..r]);
+        let expected = self.calls.window(waiting, received, pipe, side);
+        let mut answer = [MARK; 2];
+        let number = library::window(self.description, words, waiting, received, &mut answer);
+        assert_eq!(number, number_of(expected));
+        match expected {
+            // The same words, not only words that are equal.
+            Ok(part) => {
+                let [from, length] = answer.map(|word| word as usize);
+                let list = if side == 0 { waiting } else { received };
+                assert!(std::ptr::eq(part, &list[from..from + length]));
+            }
+            Err(_) => assert_eq!(answer, [MARK; 2]),
+        }
+    }
+
+    fn result(&mut self) {
+        let [w, r, s, _, output] = self.lengths;
+        let memory = [&self.waiting[..w], &self.received[..r], &self.state[..s]];
+        let [waiting, received, state] = memory;
+        let mut left = self.output[..output].to_vec();
+        let expected = self.calls.result(waiting, received, state, &mut left);
+        let number = library::result(self.description, &mut self.output[..output], memory);
+        assert_eq!(number, number_of(expected));
+        assert!(self.output[..output] == left);
+    }
+
+    /// Writes a word of the lent state if there is one.
+    fn poke(&mut self, word: usize, value: u32) {
+        let lent = self.lengths[2];
+        if let Some(word) = self.state[..lent].get_mut(word) {
+            *word = value;
+        }
+    }
+
+    /// From here on lends so many words of a list, or all if it has fewer.
+    fn lend(&mut self, list: usize, length: usize) {
+        if let (Some(lent), Some(&longest)) = (self.lengths.get_mut(list), LONGEST.get(list)) {
+            *lent = length.min(longest);
+        }
+    }
+}

@@ -1,0 +1,22 @@
+-- `beqlanosh::beqlanosh_result` meets its contract. Assumes nothing.
+use mathlib.Core.Path.{_∙_, ap}
+use Rattle.meaning.specs.Answers.{answerNumber}
+use borrow.Author.Needs.{needs}
+use Rattle.beqlanosh.proofs.beqlanosh_result.Statement.{statement}
+use Rattle.beqlanosh.proofs.beqlanosh_result.Tie as tie
+
+result-requires : tie.Need-result-requires
+result-requires c κs = search needs
+
+number-of-requires : tie.Need-number-of-requires
+number-of-requires c κs = search needs
+
+same-length : tie.Need-same-length
+same-length c = search needs
+
+returns : tie.Need-returns
+returns c =
+    let p = c .before .before .before .result .ensures in (c .number-of .ensures ∙ ap answerNumber (p .0), p .1)
+
+pub beqlanosh-result-spec : {M : Type 1} → statement M
+beqlanosh-result-spec = tie.close (tie.spec result-requires number-of-requires same-length returns)

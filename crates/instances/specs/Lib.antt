@@ -1,0 +1,2 @@
+-- What a process's instances are computed from; src/lib.rt has the list.
+pub mod Runs

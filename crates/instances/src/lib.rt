@@ -1,0 +1,40 @@
+// The instance that a process runs as its f-th: its first one, and f times the increment on from there. In specs/, Runs says when the numbers fit.
+ghost use mathlib.Core.Path.{_≡_};
+ghost use Prim.Native.Nat.{_≤_};
+ghost use lib.IntN.{pos};
+ghost use Rattle.integers.specs.Vectors.{shift3};
+ghost use Rattle.meaning.specs.Space.{first};
+ghost use Rattle.geometry.specs.Processes.{runAt};
+ghost use Rattle.vectors.specs.Within.{Within};
+ghost use Rattle.layout.specs.Ends.{processOf};
+ghost use Rattle.instances.specs.Runs.{Computes, Runs};
+use integers::V3;
+use meaning::Nest;
+
+// The point that lies k times d on from x.
+fn later(x: V3, d: V3, k: u32) -> V3
+    requires { ⌜ (Within 64 x) × (Within 200 d) × (k ≤ 4096) ⌝ }
+    ensures { λ r. ⌜ r ≡ shift3 x (pos k) d ⌝ }
+{
+    V3 {
+        x: x.x + k as i32 * d.x,
+        y: x.y + k as i32 * d.y,
+        z: x.z + k as i32 * d.z,
+    }
+}
+
+// The first instance of process p.
+fn first_of(n: Nest, ends: &[u32], p: usize) -> V3
+    requires { ⌜ Computes n (now ends) p ⌝ }
+    ensures { λ r. ⌜ (r ≡ first n (processOf n p)) × (Within 64 r) ⌝ }
+{
+    numbering::instance(n, ends[1024 + p] - 1)
+}
+
+// Its instance f, counted from 0.
+pub fn instance_of(n: Nest, increment: V3, ends: &[u32], p: usize, f: usize) -> V3
+    requires { ⌜ Runs n increment (now ends) p f ⌝ }
+    ensures { λ r. ⌜ r ≡ runAt n (processOf n p) f ⌝ }
+{
+    later(first_of(n, ends, p), increment, f as u32)
+}

@@ -1,0 +1,51 @@
+-- `lines::put_masks` is safe and ends. Assumes nothing.
+use Prim.Native.Nat.{_-_, _≤_}
+use lib.ListN.{length}
+use borrow.Author.Needs.{needs}
+use Rattle.lines.proofs.put_masks.Statement.{statement}
+use Rattle.lines.proofs.put_masks.Tie as tie
+
+abbrev Inv-loop : tie.InvT-loop
+Inv-loop page₀ at words next₀ i₀ page next i = i ≤ length words
+
+abbrev μ-loop : tie.MeasureT-loop
+μ-loop page₀ at words next₀ i₀ page next i = length words - i
+
+loop-holds : tie.Need-loop-holds Inv-loop μ-loop
+loop-holds c = search needs
+
+mul-put-number : tie.Need-mul-put-number Inv-loop μ-loop
+mul-put-number c = search needs
+
+shared-slice-read-put-number : tie.Need-shared-slice-read-put-number Inv-loop μ-loop
+shared-slice-read-put-number c = search needs
+
+put-number-requires : tie.Need-put-number-requires Inv-loop μ-loop
+put-number-requires c κs = search needs
+
+add-i : tie.Need-add-i Inv-loop μ-loop
+add-i c = search needs
+
+loop-less : tie.Need-loop-less Inv-loop μ-loop
+loop-less c = search needs
+
+loop-again : tie.Need-loop-again Inv-loop μ-loop
+loop-again c = search needs
+
+returns : tie.Need-returns Inv-loop μ-loop
+returns c = search needs
+
+pub put-masks-spec : {M : Type 1} → statement M
+put-masks-spec =
+    tie.close
+    (tie.spec
+    Inv-loop
+    μ-loop
+    loop-holds
+    mul-put-number
+    shared-slice-read-put-number
+    put-number-requires
+    add-i
+    loop-less
+    loop-again
+    returns)

@@ -1,0 +1,102 @@
+// Lines of text on standard output: a name and numbers. A line is collected in a page, which is printed when it is full and at the line's end.
+ghost use Prim.Native.Nat.{_≤_};
+use libc::STDOUT_FILENO;
+
+fn wide(x: u32) -> u64 {
+    x as u64
+}
+
+// The byte c at the place `at`; the answer is the next place.
+fn put(page: &mut [u8; 4096], at: usize, c: u8) -> usize {
+    if at < 4096 {
+        page[at] = c;
+        at + 1
+    } else {
+        io::write_all(STDOUT_FILENO, page);
+        page[0] = c;
+        1
+    }
+}
+
+fn put_text(page: &mut [u8; 4096], at: usize, text: &[u8]) -> usize {
+    let mut next = at;
+    let mut i: usize = 0;
+    while i < text.len() {
+        next = put(page, next, text[i]);
+        i += 1;
+    }
+    next
+}
+
+// A blank and a number.
+fn put_number(page: &mut [u8; 4096], at: usize, x: u64) -> usize {
+    let after = put(page, at, b' ');
+    let mut digits = [0u8; 20];
+    let n = io::decimal(x, &mut digits);
+    put_text(page, after, &digits[..n])
+}
+
+fn put_words(page: &mut [u8; 4096], at: usize, words: &[u32]) -> usize {
+    let mut next = at;
+    let mut i: usize = 0;
+    while i < words.len() {
+        next = put_number(page, next, wide(words[i]));
+        i += 1;
+    }
+    next
+}
+
+// The same for words of 64 bits.
+fn put_masks(page: &mut [u8; 4096], at: usize, words: &[u64]) -> usize {
+    let mut next = at;
+    let mut i: usize = 0;
+    while i < words.len() {
+        next = put_number(page, next, words[i]);
+        i += 1;
+    }
+    next
+}
+
+// How much of a page is written.
+fn written(end: usize) -> usize
+    ensures { λ r. ⌜ r ≤ 4096 ⌝ }
+{
+    if end < 4096 { end } else { 4096 }
+}
+
+fn print_page(page: [u8; 4096], at: usize) {
+    let n = written(at);
+    io::write_all(STDOUT_FILENO, &page[..n]);
+}
+
+// A line with a text.
+pub fn print_text(text: &[u8]) {
+    let mut page = [0u8; 4096];
+    let end = put_text(&mut page, 0, text);
+    let all = put(&mut page, end, b'\n');
+    print_page(page, all);
+}
+
+// A line with a name and words.
+pub fn print_words(name: &[u8], words: &[u32]) {
+    let mut page = [0u8; 4096];
+    let after = put_text(&mut page, 0, name);
+    let end = put_words(&mut page, after, words);
+    let all = put(&mut page, end, b'\n');
+    print_page(page, all);
+}
+
+// A line with a name, two words, and words of 64 bits.
+pub fn print_masks(name: &[u8], a: u32, b: u32, words: &[u64]) {
+    let mut page = [0u8; 4096];
+    let after = put_text(&mut page, 0, name);
+    let first = put_number(&mut page, after, wide(a));
+    let second = put_number(&mut page, first, wide(b));
+    let end = put_masks(&mut page, second, words);
+    let all = put(&mut page, end, b'\n');
+    print_page(page, all);
+}
+
+pub fn print_number(name: &[u8], x: u32) {
+    print_words(name, &[x]);
+}

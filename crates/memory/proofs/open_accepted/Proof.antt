@@ -1,0 +1,59 @@
+-- `memory::open_accepted` meets its contract. Assumes nothing.
+use mathlib.Core.Path.{_∙_}
+use denote.Ref.{now}
+use borrow.Author.Needs.{needs}
+use Rattle.meaning.specs.Rules.{memoryOf}
+use Rattle.memory.specs.Opening.{size-is, lengths-hold, lengths-passed, lengths-refused}
+use Rattle.memory.proofs.open_accepted.Statement.{statement}
+use Rattle.memory.proofs.open_accepted.Tie as tie
+
+figures-of-requires : tie.Need-figures-of-requires
+figures-of-requires c κs = search needs
+
+size-of-requires : tie.Need-size-of-requires
+size-of-requires c κs = search needs
+
+length-refusal-requires : tie.Need-length-refusal-requires
+length-refusal-requires c κs = search needs
+
+sound-refusal-requires : tie.Need-sound-refusal-requires
+sound-refusal-requires c κs =
+    let s = c .before .before .before .before .before .before .before .before .before in
+    let a = s .args in
+    let e = c .before .before .before .before .figures-of .ensures in
+    let l = lengths-hold (a .d) e (memoryOf (now (a .waiting)) (now (a .received)) (now (a .state))) (c .before .before .length-refusal .ensures) (c .before .if1 .taken) in
+    record {
+      grounds = s .pre .0;
+      size = c .before .before .before .size-of .ensures ∙ size-is (a .d) e;
+      long = l .2;
+      words = s .pre .1;
+    }
+
+same-length : tie.Need-same-length
+same-length c = search needs
+
+returns : tie.Need-returns
+returns c =
+    let a = c .before .before .before .before .before .before .before .before .before .before .before .before .args in
+    let e = c .before .before .before .before .before .before .before .figures-of .ensures in
+    let r = c .before .before .sound-refusal .ensures in
+    lengths-passed (a .d) e (memoryOf (now (a .waiting)) (now (a .received)) (now (a .state))) (c .before .before .before .before .before .length-refusal .ensures) (c .before .before .before .before .if1 .taken)
+    (c .before .before .before .before .before .before .size-of .ensures ∙ size-is (a .d) e) (r .0) (r .1)
+
+returns-2 : tie.Need-returns-2
+returns-2 c =
+    let a = c .before .before .before .before .before .before .before .before .args in
+    lengths-refused (a .d) (c .before .before .before .figures-of .ensures) (memoryOf (now (a .waiting)) (now (a .received)) (now (a .state)))
+    (c .before .length-refusal .ensures) (c .if1 .left)
+
+pub open-accepted-spec : {M : Type 1} → statement M
+open-accepted-spec =
+    tie.close
+    (tie.spec
+    figures-of-requires
+    size-of-requires
+    length-refusal-requires
+    sound-refusal-requires
+    same-length
+    returns
+    returns-2)

@@ -1,0 +1,42 @@
+-- `ready::ready` meets its contract: the memory's refusal, or the call on an opened memory. Assumes nothing.
+use borrow.Author.Needs.{needs}
+use Rattle.ready.specs.Call.{opened-fits, memory-refused, readies}
+use Rattle.ready.proofs.ready.Statement.{statement}
+use Rattle.ready.proofs.ready.Tie as tie
+
+slice-aggregate-open : tie.Need-slice-aggregate-open
+slice-aggregate-open c = search needs
+
+open-requires : tie.Need-open-requires
+open-requires c κs = search needs
+
+slice-aggregate-ready-opened : tie.Need-slice-aggregate-ready-opened
+slice-aggregate-ready-opened c = search needs
+
+ready-opened-requires : tie.Need-ready-opened-requires
+ready-opened-requires c κs =
+    let o = c .before .before .before .before .before .«open» .ensures in opened-fits _ _ (o .1 (c .before .before .before .if1 .taken))
+
+same-length : tie.Need-same-length
+same-length c = search needs
+
+returns : tie.Need-returns
+returns c =
+    let i = c .before .before .before .before .before .before in
+    let o = i .before .before .«open» .ensures in
+    readies _ _ _ (o .0) (i .if1 .taken) (o .1 (i .if1 .taken)) (c .before .before .ready-opened .ensures)
+
+returns-2 : tie.Need-returns-2
+returns-2 c = memory-refused _ _ _ (c .before .before .«open» .ensures .0) (c .if1 .left)
+
+pub ready-spec : {M : Type 1} → statement M
+ready-spec =
+    tie.close
+    (tie.spec
+    slice-aggregate-open
+    open-requires
+    slice-aggregate-ready-opened
+    ready-opened-requires
+    same-length
+    returns
+    returns-2)

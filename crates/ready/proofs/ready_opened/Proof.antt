@@ -1,0 +1,45 @@
+-- `ready::ready_opened` meets its contract: too few words, or those of the processes that can move. Assumes nothing.
+use mathlib.Core.Path.{_∙_, ap₂}
+use native.Mathlib.Omega.{arith}
+use borrow.Author.Needs.{needs}
+use Rattle.meaning.specs.declared.Readiness.the-variants.{Ready}
+use Rattle.ready.specs.Call.{answer-few, answer-marked}
+use Rattle.ready.proofs.ready_opened.Statement.{statement}
+use Rattle.ready.proofs.ready_opened.Tie as tie
+
+returns : tie.Need-returns
+returns c = answer-few _ _ _ _ (omega (arith, c .if1 .taken))
+
+mark-ready-requires : tie.Need-mark-ready-requires
+mark-ready-requires c κs = search needs
+
+cast-processes : tie.Need-cast-processes
+cast-processes c = search needs
+
+count-requires : tie.Need-count-requires
+count-requires c κs = search needs
+
+lowest-requires : tie.Need-lowest-requires
+lowest-requires c κs = search needs
+
+same-length : tie.Need-same-length
+same-length c = search needs
+
+returns-2 : tie.Need-returns-2
+returns-2 c =
+    let q = c .before .before .before .before .before .before .before in
+    let a = q .before .before .before .before .before .before .args in
+    let m = answer-marked _ _ _ (a .words .now) (omega (arith, q .before .before .if1 .left)) (q .mark-ready .ensures) in
+    (ap₂ Ready (c .before .before .count .ensures) (c .lowest .ensures) ∙ m .0, m .1)
+
+pub ready-opened-spec : {M : Type 1} → statement M
+ready-opened-spec =
+    tie.close
+    (tie.spec
+    returns
+    mark-ready-requires
+    cast-processes
+    count-requires
+    lowest-requires
+    same-length
+    returns-2)

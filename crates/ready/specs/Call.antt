@@ -1,0 +1,114 @@
+-- What the call answers and leaves, by the book of an array, and that this is what document 01 says. Assumes nothing.
+use mathlib.Core.Path.{_≡_, refl, sym, _∙_, ap, ap₂}
+use mathlib.Core.Bool.{Bool, true, false, cond}
+use mathlib.Core.List.{List, [], _∷_, _++_}
+use Prim.Native.Nat.{ℕ, zero, suc, _≤_, _<_}
+use native.Mathlib.Omega.{arith}
+use lib.Dec.{ltb}
+use lib.ListN.{length, take}
+use borrow.Author.Tests.{ne-eqb, lt-ltb, le-ltb}
+use Rattle.meaning.specs.declared.Readiness.{Readiness}
+use Rattle.meaning.specs.declared.Readiness.the-variants.{Ready, Refused}
+use Rattle.meaning.specs.Tests.{_if_, refusal}
+use Rattle.meaning.specs.Limits.{gaugeLimits}
+use Rattle.meaning.specs.Description.{descriptionOf}
+use Rattle.meaning.specs.Array.{arrayOf}
+use Rattle.meaning.specs.Rules.{Memory}
+use Rattle.meaning.specs.Calls.{canMove, memoryTests, refusedBy, Readied, readyCall}
+use Rattle.book.specs.declared.Size.{Size}
+use Rattle.book.specs.Planned.{RowsFit}
+use Rattle.steps.specs.Meaning.{Stands}
+use Rattle.memory.specs.Opening.{Opened, grounds, own-last}
+use Rattle.memory.specs.Opened.{fits, stands}
+use Rattle.bits.specs.Words.{cleared, marked, onesOf, lowestFrom}
+use Rattle.bits.specs.Ready.{markedTo, readied, ready-call}
+use Rattle.ready.specs.Moves.{movesBy}
+use Rattle.ready.specs.Meaning.{moves-is}
+
+-- ---- by a book
+
+-- how many bits are set in the first sixteen words, and the lowest, n if there is none
+abbrev pub answerOf : ℕ → List ℕ → Readiness
+answerOf n words = Ready (onesOf (take 16 words)) (lowestFrom n 0 (take 16 words))
+
+module _ (b st : List ℕ) (z : Size) (words : List ℕ) where
+  -- the words of the processes that can move
+  abbrev pub markedBy : List ℕ
+  markedBy = markedTo (movesBy b st (z .streams)) (z .processes) (cleared words)
+
+  -- 27, or what they say; and what the words are then
+  unfoldable pub answerBy : Readiness
+  answerBy = cond (ltb (length words) 16) (Refused 27) (answerOf (z .processes) markedBy)
+
+  unfoldable pub leftBy : List ℕ
+  leftBy = cond (ltb (length words) 16) words markedBy
+
+  pub answer-few : length words < 16 → (Refused 27 ≡ answerBy) × (words ≡ leftBy)
+  unfolding answerBy leftBy
+  answer-few h = let t = lt-ltb (length words) 16 h in (rw t refl, rw t refl)
+
+  pub answer-marked : {left : List ℕ} → 16 ≤ length words → left ≡ markedBy → (answerOf (z .processes) left ≡ answerBy) × (left ≡ leftBy)
+  unfolding answerBy leftBy
+  answer-marked h e = let t = le-ltb (length words) 16 h in (rw (t, e) refl, rw t e)
+
+-- ---- by the book of an array
+
+-- tests that agree on the first n processes
+marked-same : (f g : ℕ → Bool) (n : ℕ) (words : List ℕ) → ((p : ℕ) → p < n → f p ≡ g p) → markedTo f n words ≡ markedTo g n words
+unfolding markedTo
+marked-same f g zero words h = refl
+marked-same f g (suc n) words h =
+    ap₂ (λ (b : Bool) (w : List ℕ). cond b (marked w n) w) (h n (omega arith)) (marked-same f g n words λ p l. h p (omega arith))
+
+-- r and w are what the call answers and leaves
+abbrev pub Readies : List ℕ → List ℕ → Memory → Readiness → List ℕ → Type 0
+Readies s words M r w = (r ≡ readyCall gaugeLimits s words M .answer) × (w ≡ readyCall gaugeLimits s words M .words)
+
+-- the rows of the book fit the state
+pub opened-fits : (s : List ℕ) (M : Memory) {b : List ℕ} {z : Size} → Opened s M b z → RowsFit (length (M .state)) b z
+opened-fits s M o = fits (grounds s (o .accepted)) (o .stood)
+
+module _ (s words : List ℕ) (M : Memory) where
+  -- the refusal of the description, of the memory or of the words
+  abbrev number : ℕ
+  number = refusedBy gaugeLimits s (memoryTests (descriptionOf s) M ++ ((27 if ltb (length words) 16) ∷ []))
+
+  declined : (n : ℕ) → n ≡ number → (n ≡ 0 → ⊥) → Readies s words M (Refused n) words
+  unfolding readyCall
+  declined n e g = let q = ne-eqb n 0 g in (rw (← e, q) refl, rw (← e, q) refl)
+
+  module _ {n : ℕ} (e : n ≡ refusedBy gaugeLimits s (memoryTests (descriptionOf s) M)) where
+    -- the memory's refusal is the call's
+    pub memory-refused : (n ≡ 0 → ⊥) → Readies s words M (Refused n) words
+    memory-refused g =
+        declined n (sym (own-last s M ((27 if ltb (length words) 16) ∷ []) ∙ rw (← e, ne-eqb n 0 g) refl)) g
+
+    module _ (none : n ≡ 0) {b : List ℕ} {z : Size} (o : Opened s M b z) where
+      t : Stands (arrayOf (descriptionOf s)) b z
+      t = stands (grounds s (o .accepted)) (o .stood)
+
+      own : number ≡ refusal ((27 if ltb (length words) 16) ∷ [])
+      own = own-last s M ((27 if ltb (length words) 16) ∷ []) ∙ rw (← e, none) refl
+
+      marked-is : markedBy b (M .state) z words ≡ readied gaugeLimits s (M .state) words
+      marked-is =
+          marked-same (movesBy b (M .state) (z .streams)) (canMove gaugeLimits s (M .state)) (z .processes) (cleared words) (moves-is t M (o .stood .sound))
+          ∙ ap (λ (n : ℕ). markedTo (canMove gaugeLimits s (M .state)) n (cleared words)) (t .size .processes)
+
+      -- nothing of the memory is refused
+      pub readies : {r : Readiness} {w : List ℕ} → (r ≡ answerBy b (M .state) z words) × (w ≡ leftBy b (M .state) z words) → Readies s words M r w
+      unfolding answerBy leftBy refusal
+      readies {r} {w} k = go (ltb (length words) 16) refl
+        where
+          go : (f : Bool) → ltb (length words) 16 ≡ f → Readies s words M r w
+          go true q =
+              let d = declined 27 (sym (own ∙ rw q refl)) (λ e. omega arith) in
+              let a : answerBy b (M .state) z words ≡ Refused 27 = rw q refl in
+              let l : leftBy b (M .state) z words ≡ words = rw q refl in (k .0 ∙ a ∙ d .0, k .1 ∙ l ∙ d .1)
+          go false q =
+              let c = ready-call gaugeLimits s words M (omega (arith, t .size .processes, opened-fits s M o .processes)) (own ∙ rw q refl) in
+              let a : answerBy b (M .state) z words ≡ answerOf (z .processes) (markedBy b (M .state) z words) = rw q refl in
+              let l : leftBy b (M .state) z words ≡ markedBy b (M .state) z words = rw q refl in (
+                k .0 ∙ a ∙ ap₂ answerOf (t .size .processes) marked-is ∙ sym (ap (λ (x : Readied gaugeLimits s). x .answer) c),
+                k .1 ∙ l ∙ marked-is ∙ sym (ap (λ (x : Readied gaugeLimits s). x .words) c),
+              )

@@ -1,0 +1,5 @@
+-- Processes that can move, by a book of rows, and the call Ready; src/lib.rt has the list.
+pub mod Any
+pub mod Moves
+pub mod Meaning
+pub mod Call

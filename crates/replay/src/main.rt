@@ -1,0 +1,354 @@
+// Plays a replay script from standard input and prints a line for Accept, one for Start and one for each call. Calls: 0 step (kind, number,
+// stream), 1 run (steps), 2 ready, 3 window (pipe, side), 4 result, 5 show the state, 6 show the received list, 7 poke (word of the state,
+// value), 8 lend (list, length); any other number ends the script. Several scripts stand behind the word 2^32 - 1, each behind a word with its
+// number of bytes, and what each prints stands below a line with `script` and its number.
+use meaning::Acceptance;
+use meaning::Answer;
+use meaning::Figures;
+use meaning::Ran;
+use meaning::Readiness;
+use script::Call;
+use script::Lent;
+use script::Rest;
+
+// ---- answers
+
+fn print_refusal(number: u32) {
+    lines::print_number(b"refused", number);
+}
+
+fn print_answer(name: &[u8], answer: Answer) {
+    match answer {
+        Answer::Done => lines::print_text(name),
+        Answer::Refused(number) => print_refusal(number),
+    }
+}
+
+// As many words as there are, at most so many.
+fn print_part(name: &[u8], list: &[u32], words: u32) {
+    let n = script::part_of(list, words);
+    lines::print_words(name, &list[..n]);
+}
+
+fn print_list(name: &[u8], answer: Answer, list: &[u32], words: u32) {
+    match answer {
+        Answer::Done => print_part(name, list, words),
+        Answer::Refused(number) => print_refusal(number),
+    }
+}
+
+fn print_figures(f: Figures) {
+    let words = [
+        f.processes,
+        f.instances,
+        f.elements,
+        f.pipes,
+        f.words,
+        f.steps,
+    ];
+    lines::print_words(b"accept", &words);
+}
+
+fn flag(b: bool) -> u32 {
+    if b { 1 } else { 0 }
+}
+
+fn print_ran(answer: Ran) {
+    match answer {
+        Ran::Ran { steps, ready } => {
+            let words = [steps, flag(ready)];
+            lines::print_words(b"run", &words);
+        }
+        Ran::Refused(number) => print_refusal(number),
+    }
+}
+
+// The first 16 of the lent words are those of the call.
+fn print_readiness(answer: Readiness, words: &[u64]) {
+    match answer {
+        Readiness::Ready { count, lowest } => {
+            let n = script::part_of_masks(words, 16);
+            lines::print_masks(b"ready", count, lowest, &words[..n]);
+        }
+        Readiness::Refused(number) => print_refusal(number),
+    }
+}
+
+// ---- the calls, each on as much of the lists as is lent
+
+fn accept_line(s: &[u8]) -> Lent {
+    let answer = accept::accept(s);
+    match answer {
+        Acceptance::Accepted(f) => {
+            print_figures(f);
+            script::lent_by(f.elements, f.words)
+        }
+        Acceptance::Refused(number) => {
+            print_refusal(number);
+            script::lent_by(0, 0)
+        }
+    }
+}
+
+fn start_line(
+    s: &[u8],
+    values: &[u32],
+    l: Lent,
+    waiting: &mut [u32],
+    received: &mut [u32],
+    state: &mut [u32],
+) {
+    let w = script::part_of(waiting, l.waiting);
+    let r = script::part_of(received, l.received);
+    let n = script::part_of(state, l.state);
+    let answer = start::start(
+        s,
+        values,
+        &mut waiting[..w],
+        &mut received[..r],
+        &mut state[..n],
+    );
+    print_answer(b"start", answer);
+}
+
+fn step_line(s: &[u8], c: Call, l: Lent, waiting: &[u32], received: &mut [u32], state: &mut [u32]) {
+    let w = script::part_of(waiting, l.waiting);
+    let r = script::part_of(received, l.received);
+    let n = script::part_of(state, l.state);
+    let answer = step::step(
+        s,
+        c.a,
+        c.b,
+        c.c,
+        &waiting[..w],
+        &mut received[..r],
+        &mut state[..n],
+    );
+    print_answer(b"step", answer);
+}
+
+fn run_line(
+    s: &[u8],
+    steps: u32,
+    l: Lent,
+    waiting: &[u32],
+    received: &mut [u32],
+    state: &mut [u32],
+) {
+    let w = script::part_of(waiting, l.waiting);
+    let r = script::part_of(received, l.received);
+    let n = script::part_of(state, l.state);
+    let answer = run::run(s, steps, &waiting[..w], &mut received[..r], &mut state[..n]);
+    print_ran(answer);
+}
+
+fn ready_call(
+    s: &[u8],
+    l: Lent,
+    words: &mut [u64],
+    waiting: &[u32],
+    received: &[u32],
+    state: &[u32],
+) -> Readiness {
+    let w = script::part_of(waiting, l.waiting);
+    let r = script::part_of(received, l.received);
+    let n = script::part_of(state, l.state);
+    let k = script::part_of_masks(words, l.ready);
+    ready::ready(
+        s,
+        &mut words[..k],
+        &waiting[..w],
+        &received[..r],
+        &state[..n],
+    )
+}
+
+fn ready_line(s: &[u8], l: Lent, waiting: &[u32], received: &[u32], state: &[u32]) {
+    let mut words = [7u64; 32];
+    let answer = ready_call(s, l, &mut words, waiting, received, state);
+    print_readiness(answer, &words);
+}
+
+fn window_line<'a>(
+    s: &[u8],
+    pipe: u32,
+    side: u32,
+    l: Lent,
+    waiting: &'a [u32],
+    received: &'a [u32],
+) {
+    let w = script::part_of(waiting, l.waiting);
+    let r = script::part_of(received, l.received);
+    let mut number: u32 = 0;
+    let part = window::window(s, pipe, side, &waiting[..w], &received[..r], &mut number);
+    if number == 0 {
+        lines::print_words(b"window", part);
+    } else {
+        print_refusal(number);
+    }
+}
+
+fn result_call(
+    s: &[u8],
+    l: Lent,
+    output: &mut [u32],
+    waiting: &[u32],
+    received: &[u32],
+    state: &[u32],
+) -> Answer {
+    let w = script::part_of(waiting, l.waiting);
+    let r = script::part_of(received, l.received);
+    let n = script::part_of(state, l.state);
+    let k = script::part_of(output, l.output);
+    result::result(
+        s,
+        &mut output[..k],
+        &waiting[..w],
+        &received[..r],
+        &state[..n],
+    )
+}
+
+fn result_line(s: &[u8], l: Lent, waiting: &[u32], received: &[u32], state: &[u32]) {
+    let mut output = [7u32; 32768];
+    let answer = result_call(s, l, &mut output, waiting, received, state);
+    print_list(b"result", answer, &output, l.output);
+}
+
+// A word of the lent state is written, if there is one.
+fn poke(l: Lent, word: u32, value: u32, state: &mut [u32]) {
+    let n = script::part_of(state, l.state);
+    let k = word as usize;
+    if k < n {
+        state[k] = value;
+    }
+}
+
+// ---- a script
+
+// The calls that write no list of the network.
+fn ask<'a>(s: &[u8], c: Call, l: Lent, waiting: &'a [u32], received: &'a [u32], state: &[u32]) {
+    let number = c.number;
+    match number {
+        2 => ready_line(s, l, waiting, received, state),
+        3 => window_line(s, c.a, c.b, l, waiting, received),
+        4 => result_line(s, l, waiting, received, state),
+        5 => print_part(b"state", state, l.state),
+        6 => print_part(b"received", received, l.received),
+        8 => lines::print_text(b"lend"),
+        _ => {}
+    }
+}
+
+fn play_call(s: &[u8], c: Call, l: Lent, waiting: &[u32], received: &mut [u32], state: &mut [u32]) {
+    let number = c.number;
+    if number == 0 {
+        step_line(s, c, l, waiting, received, state);
+        return;
+    }
+    if number == 1 {
+        run_line(s, c.a, l, waiting, received, state);
+        return;
+    }
+    if number == 7 {
+        poke(l, c.a, c.b, state);
+        lines::print_text(b"poke");
+        return;
+    }
+    ask(s, c, l, waiting, received, state);
+}
+
+// The lengths after a call.
+fn lent_after(c: Call, l: Lent) -> Lent {
+    if c.number == 8 {
+        return script::lend(l, c.a, c.b);
+    }
+    l
+}
+
+fn ends(c: Call) -> bool {
+    if c.found { 8 < c.number } else { true }
+}
+
+// Plays the calls in so many bytes; the answer is how many bytes are left.
+fn play_calls(
+    s: &[u8],
+    first: Lent,
+    bytes: u64,
+    waiting: &[u32],
+    received: &mut [u32],
+    state: &mut [u32],
+) -> u64 {
+    let mut l = first;
+    let mut left = bytes;
+    while 16 <= left {
+        let c = script::read_call();
+        left -= 16;
+        if ends(c) {
+            return left;
+        }
+        play_call(s, c, l, waiting, received, state);
+        l = lent_after(c, l);
+    }
+    left
+}
+
+fn play_whole(s: &[u8], values: &[u32], bytes: u64) -> u64 {
+    let l = accept_line(s);
+    let mut waiting = [0u32; 32768];
+    let mut received = [0u32; 32768];
+    let mut state = [0u32; 140000];
+    start_line(s, values, l, &mut waiting, &mut received, &mut state);
+    play_calls(s, l, bytes, &waiting, &mut received, &mut state)
+}
+
+// Plays a script with a description of so many bytes.
+fn play_script(length: u32, r: Rest) -> u64 {
+    let mut bytes = [0u8; 512];
+    let mut values = [0u32; 32768];
+    let described = script::read_description(r, length, &mut bytes);
+    let count = script::read_word(described);
+    let calls = script::read_values(count.rest, count.value, &mut values);
+    if calls.whole {
+        let n = io::count(length as isize, &bytes);
+        let m = script::part_of(&values, count.value);
+        return play_whole(&bytes[..n], &values[..m], calls.left);
+    }
+    lines::print_text(b"short script");
+    calls.left
+}
+
+// ---- the input
+
+// Whether there may be another script.
+fn next_script(number: u32) -> bool {
+    let head = script::read_word(script::endless());
+    let r = head.rest;
+    if r.whole {
+        lines::print_number(b"script", number);
+        let first = script::read_word(script::script_of(head.value));
+        let left = play_script(first.value, first.rest);
+        return script::skipped(left);
+    }
+    false
+}
+
+fn play_bundle() {
+    let mut number: u32 = 0;
+    while number < 4294967295 {
+        if next_script(number) {
+            number += 1;
+        } else {
+            return;
+        }
+    }
+}
+
+fn main() {
+    let head = script::read_word(script::endless());
+    if head.value == 4294967295 {
+        play_bundle();
+    } else {
+        play_script(head.value, head.rest);
+    }
+}

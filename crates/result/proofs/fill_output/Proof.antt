@@ -1,0 +1,42 @@
+-- `result::fill_output` meets its contract. Assumes nothing.
+use borrow.Author.Needs.{needs}
+use native.Mathlib.Omega.{arith}
+use Rattle.result.specs.Order.{readable, ordered}
+use Rattle.result.proofs.fill_output.Statement.{statement}
+use Rattle.result.proofs.fill_output.Tie as tie
+
+slice-aggregate-fill-places : tie.Need-slice-aggregate-fill-places
+slice-aggregate-fill-places c = search needs
+
+fill-places-requires : tie.Need-fill-places-requires
+fill-places-requires c κs = search needs
+
+slice-aggregate-put-in-order : tie.Need-slice-aggregate-put-in-order
+slice-aggregate-put-in-order c = search needs
+
+put-in-order-requires : tie.Need-put-in-order-requires
+put-in-order-requires c κs =
+    let f = c .before .before .before in
+    let p = f .before .before .before .before .pre in
+    readable (p .0) (f .fill-places .ensures) _ _ (p .1) (p .2) (omega (arith, f .fill-places .kept .1 .0))
+
+same-length : tie.Need-same-length
+same-length c = search needs
+
+returns : tie.Need-returns
+returns c =
+    let f = c .before .before .before .before .before .before in
+    let s = f .before .before .before .before in
+    ordered (s .pre .0) (f .fill-places .ensures) (s .args .received .now) (s .args .output .now) (s .pre .1) (s .pre .2)
+    (c .before .before .put-in-order .ensures)
+
+pub fill-output-spec : {M : Type 1} → statement M
+fill-output-spec =
+    tie.close
+    (tie.spec
+    slice-aggregate-fill-places
+    fill-places-requires
+    slice-aggregate-put-in-order
+    put-in-order-requires
+    same-length
+    returns)

@@ -1,0 +1,50 @@
+-- All values are out: of every pipe as many values are received as it has elements. Assumes nothing.
+use mathlib.Core.Path.{_≡_, refl, sym, _∙_, ap, ap₂}
+use mathlib.Core.Bool.{Bool, false, cond}
+use mathlib.Core.List.{List}
+use Prim.Native.Nat.{ℕ, zero, suc, _+_, _≤_, _<_}
+use native.Mathlib.Omega.{arith}
+use lib.Dec.{eqb}
+use lib.ListN.{length}
+use Rattle.meaning.specs.declared.Limits.{Limits}
+use Rattle.meaning.specs.Lists.{every, numbers, numbersFrom}
+use Rattle.meaning.specs.Array.{pipeNumber}
+use Rattle.meaning.specs.Calls.{A, isOut, allOut}
+use Rattle.links.specs.declared.End.{End}
+use Rattle.links.specs.Links.{word}
+use Rattle.book.specs.declared.Size.{Size}
+use Rattle.book.specs.Planned.{endAt, SizeOf, Planned, RowsFit}
+
+-- of pipe q, by the rows of a book
+abbrev outOf : List ℕ → End → Bool
+outOf st e = eqb (word st (e .received)) (e .total)
+
+abbrev pub outBy : List ℕ → List ℕ → ℕ → Bool
+outBy b st q = outOf st (endAt b q)
+
+-- a book whose rows of so many pipes say where their counts are in a state of n words
+pub record Asked (b : List ℕ) (n pipes : ℕ) : Type 0 where
+  pub words : length b ≡ 116736
+  pub most : pipes ≤ 6144
+  pub received : (q : ℕ) → q < pipes → endAt b q .received < n
+
+pub asked : {n : ℕ} {b : List ℕ} {z : Size} → RowsFit n b z → Asked b n (z .pipes)
+asked f = record { words = f .words; most = f .pipes; received = λ q h. f .ends q h .received }
+
+-- a row and its count as they are read
+pub out-read : (b st : List ℕ) (q : ℕ) {e : End} {w : ℕ} → e ≡ endAt b q → w ≡ word st (e .received) → outBy b st q ≡ eqb w (e .total)
+out-read b st q {e} h g = ap (outOf st) (sym h) ∙ ap (λ (w : ℕ). eqb w (e .total)) (sym g)
+
+-- tests that agree on some numbers
+every-same : (f g : ℕ → Bool) (i n : ℕ) → ((q : ℕ) → q < i + n → f q ≡ g q) → every f (numbersFrom i n) ≡ every g (numbersFrom i n)
+unfolding every numbersFrom
+every-same f g i zero h = refl
+every-same f g i (suc n) h =
+    ap₂ (λ (a b : Bool). cond a b false) (h i (omega arith)) (every-same f g (suc i) n (λ q l. h q (omega arith)))
+
+-- by the book of an array they are those of document 01
+pub all-out : (l : Limits) (s : List ℕ) {b : List ℕ} {z : Size} → Planned (A l s) b → SizeOf (A l s) z → (st : List ℕ)
+    → every (outBy b st) (numbers (z .pipes)) ≡ allOut l s st
+all-out l s {b} planned size st =
+    ap (λ (n : ℕ). every (outBy b st) (numbers n)) (size .pipes)
+    ∙ every-same (outBy b st) (isOut l s st) 0 (pipeNumber (A l s)) (λ q h. ap (outOf st) (planned .ends q (omega arith)))

@@ -1,0 +1,113 @@
+// The call Result: once every pipe is wholly received, the received values in element order.
+//
+// specs/, by file:
+//
+//   Out       all values are out: by the book of an array, as document 01 says it
+//   Order     values read at their elements' places are in element order: `ordered`
+//   Call      the call's own refusals, and what it answers and leaves
+ghost use mathlib.Core.Path.{_≡_};
+ghost use lib.ListN.{length};
+ghost use Rattle.integers.specs.Fill.{fillBy};
+ghost use Rattle.meaning.specs.Lists.{every, numbers};
+ghost use Rattle.meaning.specs.Tests.{refusal};
+ghost use Rattle.meaning.specs.Limits.{gaugeLimits};
+ghost use Rattle.meaning.specs.Rules.{memoryOf};
+ghost use Rattle.meaning.specs.Calls.{lengthOf, result};
+ghost use Rattle.places.specs.Order.{Placeable};
+ghost use Rattle.result.specs.Out.{outBy, Asked};
+ghost use Rattle.result.specs.Order.{placed, Readable, elementOrder};
+ghost use Rattle.result.specs.Call.{ownTests, Called, Drawable};
+use book::Size;
+use meaning::Answer;
+use meaning::Description;
+
+// Whether every pipe is wholly received.
+fn all_out(book: &[u32], state: &[u32], pipes: usize) -> bool
+    requires { ⌜ Asked (now book) (length (now state)) pipes ⌝ }
+    ensures { λ r. ⌜ r ≡ every (outBy (now (book .entry)) (now (state .entry))) (numbers pipes) ⌝ }
+{
+    let mut q = 0;
+    while q < pipes {
+        let e = book::end(book, q);
+        if links::word(state, e.received) != e.total {
+            return false;
+        }
+        q += 1;
+    }
+    true
+}
+
+// The values at the places of their elements, element by element.
+fn put_in_order(received: &[u32], places: &[u32], elements: usize, output: &mut [u32])
+    requires { ⌜ Readable (now received) (now places) elements (now output) ⌝ }
+    ensures { λ r. ⌜ now (output .exit) ≡ fillBy (placed (now (received .entry)) (now (places .entry))) elements (now (output .entry)) ⌝ }
+{
+    let mut e = 0;
+    while e < elements {
+        let at = places[e] as usize;
+        output[e] = received[at];
+        e += 1;
+    }
+}
+
+fn fill_output(d: Description, received: &[u32], output: &mut [u32])
+    requires { ⌜ (Placeable d) × (length (now received) ≡ lengthOf d) × (length (now output) ≡ lengthOf d) ⌝ }
+    ensures { λ r. ⌜ now (output .exit) ≡ elementOrder d (now (received .entry)) ⌝ }
+{
+    let mut places = [0u32; 24576];
+    places::fill_places(d, &mut places);
+    put_in_order(received, &places, received.len(), output);
+}
+
+// The first of the refusals 25 and 28 that applies, 0 if none does.
+fn own_refusal(out: bool, fits: bool) -> u32
+    ensures { λ r. ⌜ r ≡ refusal (ownTests out fits) ⌝ }
+{
+    if out { if fits { 0 } else { 28 } } else { 25 }
+}
+
+// The call once the memory is opened.
+fn result_opened(
+    s: &[u8],
+    book: &[u32],
+    z: Size,
+    received: &[u32],
+    state: &[u32],
+    output: &mut [u32],
+) -> Answer
+    requires { ⌜ Drawable (now s) (now book) z (now received) (now state) ⌝ }
+    ensures { λ r. ⌜ Called (now (s .entry)) (now (received .entry)) (now (state .entry)) (now (output .entry)) r (now (output .exit)) ⌝ }
+{
+    let out = all_out(book, state, z.pipes);
+    let r = own_refusal(out, output.len() == received.len());
+    if r == 0 {
+        fill_output(decode::description(s), received, output);
+        Answer::Done
+    } else {
+        Answer::Refused(r)
+    }
+}
+
+// RESULT
+pub fn result(
+    s: &[u8],
+    output: &mut [u32],
+    waiting: &[u32],
+    received: &[u32],
+    state: &[u32],
+) -> Answer
+    ensures { λ r. ⌜ (r
+        ≡ result gaugeLimits (now (s .entry)) (now (output .entry)) (memoryOf (now (waiting .entry)) (now (received .entry)) (now (state .entry))) .answer)
+        × (now (output .exit)
+        ≡ result gaugeLimits (now (s .entry)) (now (output .entry)) (memoryOf (now (waiting .entry)) (now (received .entry)) (now (state .entry))) .output) ⌝ }
+{
+    let mut book = [0u32; 116736];
+    let o = memory::open(s, waiting, received, state, &mut book);
+    let r = o.refusal;
+    if r == 0 {
+        let z = o.size;
+        result_opened(s, &book, z, received, state, output)
+    } else {
+        Answer::Refused(r)
+    }
+}

@@ -1,0 +1,92 @@
+-- `run::run_opened` meets its contract. Assumes nothing.
+use Prim.Native.Nat.{ℕ}
+use native.Mathlib.Omega.{arith}
+use lib.ListN.{length-replicate}
+use borrow.Author.Needs.{needs}
+use Rattle.meaning.specs.Limits.{gaugeLimits}
+use Rattle.refusals.specs.Accepted.{accepted-within}
+use Rattle.memory.specs.Opening.{grounds}
+use Rattle.run.specs.Turn.{table-asks, flags-ask, starts}
+use Rattle.run.specs.Call.{ran-by}
+use Rattle.run.proofs.run_opened.Statement.{statement}
+use Rattle.run.proofs.run_opened.Tie as tie
+
+description-requires : tie.Need-description-requires
+description-requires c κs = accepted-within gaugeLimits _ (c .before .before .before .before .before .pre .accepted) .0 .sized
+
+slice-aggregate-fill-processes : tie.Need-slice-aggregate-fill-processes
+slice-aggregate-fill-processes c = search needs
+
+fill-processes-requires : tie.Need-fill-processes-requires
+fill-processes-requires c κs =
+    let g = grounds _ (c .before .before .before .before .before .before .before .before .pre .accepted) .described in
+    rw (c .before .before .description .ensures) (g .nest, g .instances, g .processes, length-replicate {A = ℕ} 3072 0)
+
+program-of-requires : tie.Need-program-of-requires
+program-of-requires c κs =
+    let g = grounds _ (c .before .before .before .before .before .before .before .before .before .before .pre .accepted) .described in rw (c .before .before .before .before .description .ensures) (g .nest .step, g .nest .place)
+
+slice-aggregate-fill-watch : tie.Need-slice-aggregate-fill-watch
+slice-aggregate-fill-watch c = search needs
+
+fill-watch-requires : tie.Need-fill-watch-requires
+fill-watch-requires c κs = table-asks (c .before .before .before .before .before .before .before .before .before .before .before .before .pre)
+
+slice-aggregate-fill-flags : tie.Need-slice-aggregate-fill-flags
+slice-aggregate-fill-flags c = search needs
+
+fill-flags-requires : tie.Need-fill-flags-requires
+fill-flags-requires c κs = flags-ask (c .before .before .before .before .before .before .before .before .before .before .before .before .before .before .before .before .pre)
+
+slice-aggregate-run-steps : tie.Need-slice-aggregate-run-steps
+slice-aggregate-run-steps c = search needs
+
+slice-aggregate-run-steps-2 : tie.Need-slice-aggregate-run-steps-2
+slice-aggregate-run-steps-2 c = search needs
+
+slice-aggregate-run-steps-3 : tie.Need-slice-aggregate-run-steps-3
+slice-aggregate-run-steps-3 c = search needs
+
+run-steps-requires : tie.Need-run-steps-requires
+run-steps-requires c κs =
+    let p = c .before .before .before .before .before .before .before .before .before .before .before .before .program-of .ensures in
+    starts (c .before .before .before .before .before .before .before .before .before .before .before .before .before .before .before .before .before .before .before .before .before .before .before .pre) (c .before .before .before .before .before .before .before .before .before .before .before .before .before .before .before .before .before .description .ensures) (p .0) (p .1) (c .before .before .before .before .before .before .before .before .before .before .before .before .before .before .fill-processes .ensures)
+    (omega (arith, length-replicate {A = ℕ} 3072 0, c .before .before .before .before .before .before .before .before .before .before .before .before .before .ends2 .given)) (c .before .before .before .before .before .before .before .before .before .before .fill-watch .ensures) (c .before .before .before .before .before .before .fill-flags .ensures)
+
+slice-aggregate-lowest : tie.Need-slice-aggregate-lowest
+slice-aggregate-lowest c = search needs
+
+lowest-requires : tie.Need-lowest-requires
+lowest-requires c κs = c .before .before .before .before .before .before .run-steps .ensures .ready .kept .words
+
+same-length : tie.Need-same-length
+same-length c = search needs
+
+same-length-2 : tie.Need-same-length-2
+same-length-2 c = search needs
+
+returns : tie.Need-returns
+returns c =
+    let e = c .before .before .before .before .before .before .before .run-steps .ensures in ran-by e (c .lowest .ensures _ (e .ready .kept))
+
+pub run-opened-spec : {M : Type 1} → statement M
+run-opened-spec =
+    tie.close
+    (tie.spec
+    description-requires
+    slice-aggregate-fill-processes
+    fill-processes-requires
+    program-of-requires
+    slice-aggregate-fill-watch
+    fill-watch-requires
+    slice-aggregate-fill-flags
+    fill-flags-requires
+    slice-aggregate-run-steps
+    slice-aggregate-run-steps-2
+    slice-aggregate-run-steps-3
+    run-steps-requires
+    slice-aggregate-lowest
+    lowest-requires
+    same-length
+    same-length-2
+    returns)

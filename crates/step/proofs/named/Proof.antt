@@ -1,0 +1,46 @@
+-- `step::named` meets its contract. Assumes nothing.
+use mathlib.Core.Path.{refl}
+use native.Mathlib.Omega.{arith}
+use borrow.Author.Needs.{needs}
+use borrow.Author.Tests.{ne-eqb}
+use Rattle.step.proofs.named.Statement.{statement}
+use Rattle.step.proofs.named.Tie as tie
+
+seated-requires : tie.Need-seated-requires
+seated-requires c κs = search needs
+
+seated-requires-2 : tie.Need-seated-requires-2
+seated-requires-2 c κs = search needs
+
+returns : tie.Need-returns
+returns c = rw (c .before .match .keys1) refl
+
+returns-2 : tie.Need-returns-2
+returns-2 c = rw (c .before .match .keys2) (c .seated .ensures)
+
+returns-3 : tie.Need-returns-3
+returns-3 c = rw (c .before .match .keys3) refl
+
+returns-4 : tie.Need-returns-4
+returns-4 c = rw (c .before .match .keys4) (c .seated2 .ensures)
+
+returns-5 : tie.Need-returns-5
+returns-5 c = rw (c .before .match .keys5) refl
+
+returns-6 : tie.Need-returns-6
+returns-6 c =
+    let k = c .before .before .args .kind in
+    rw (ne-eqb k 0 (omega arith), ne-eqb k 1 (omega arith), ne-eqb k 2 (omega arith), ne-eqb k 3 (omega arith), ne-eqb k 4 (omega arith)) refl
+
+pub named-spec : {M : Type 1} → statement M
+named-spec =
+    tie.close
+    (tie.spec
+    seated-requires
+    seated-requires-2
+    returns
+    returns-2
+    returns-3
+    returns-4
+    returns-5
+    returns-6)

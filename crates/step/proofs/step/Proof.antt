@@ -1,0 +1,58 @@
+-- `step::step` meets its contract. Assumes nothing.
+use denote.Ref.{now}
+use borrow.Author.Needs.{needs}
+use Rattle.meaning.specs.Rules.{memoryOf}
+use Rattle.step.specs.Call.{opened-call, refused-call}
+use Rattle.step.proofs.step.Statement.{statement}
+use Rattle.step.proofs.step.Tie as tie
+
+slice-aggregate-open : tie.Need-slice-aggregate-open
+slice-aggregate-open c = search needs
+
+open-requires : tie.Need-open-requires
+open-requires c κs = search needs
+
+slice-aggregate-step-opened : tie.Need-slice-aggregate-step-opened
+slice-aggregate-step-opened c = search needs
+
+step-opened-requires : tie.Need-step-opened-requires
+step-opened-requires c κs = c .before .before .before .before .before .before .«open» .ensures .1 (c .before .before .before .before .if1 .taken)
+
+same-length : tie.Need-same-length
+same-length c = search needs
+
+same-length-2 : tie.Need-same-length-2
+same-length-2 c = search needs
+
+returns : tie.Need-returns
+returns c =
+    let a = c .before .before .before .before .before .before .before .before .before .before .before .before .before .before .before .before .before .before .before .args in
+    opened-call (now (a .s)) (a .kind) (a .number) (a .stream) (memoryOf (now (a .waiting)) (now (a .received)) (now (a .state))) (c .before .before .before .before .before .before .before .before .before .before .before .«open» .ensures .0)
+    (c .before .before .before .before .before .before .before .before .before .if1 .taken) (c .before .before .before .before .step-opened .ensures)
+
+same-length-3 : tie.Need-same-length-3
+same-length-3 c = search needs
+
+same-length-4 : tie.Need-same-length-4
+same-length-4 c = search needs
+
+returns-2 : tie.Need-returns-2
+returns-2 c =
+    let a = c .before .before .before .before .before .before .before .before .before .before .args in
+    refused-call (now (a .s)) (a .kind) (a .number) (a .stream) (memoryOf (now (a .waiting)) (now (a .received)) (now (a .state))) (c .before .before .«open» .ensures .0)
+    (c .if1 .left)
+
+pub step-spec : {M : Type 1} → statement M
+step-spec =
+    tie.close
+    (tie.spec
+    slice-aggregate-open
+    open-requires
+    slice-aggregate-step-opened
+    step-opened-requires
+    same-length
+    same-length-2
+    returns
+    same-length-3
+    same-length-4
+    returns-2)

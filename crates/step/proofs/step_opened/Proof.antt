@@ -1,0 +1,76 @@
+-- `step::step_opened` meets its contract. Assumes nothing.
+use mathlib.Core.Path.{sym, _∙_}
+use borrow.Author.Needs.{needs}
+use Rattle.meaning.specs.Limits.{gaugeLimits}
+use Rattle.refusals.specs.Accepted.{accepted-within}
+use Rattle.memory.specs.Opening.{grounds}
+use Rattle.memory.specs.Opened.{fits}
+use Rattle.step.specs.Named.{rows-of, named-inside}
+use Rattle.step.specs.Call.{steppable, unnamed, unready, done}
+use Rattle.step.proofs.step_opened.Statement.{statement}
+use Rattle.step.proofs.step_opened.Tie as tie
+
+named-requires : tie.Need-named-requires
+named-requires c κs = let o = c .before .before .before .before .before .pre in rows-of (fits (grounds _ (o .accepted)) (o .stood))
+
+can-requires : tie.Need-can-requires
+can-requires c κs =
+    let s = c .before .before .before .before .before .before .before .before in
+    let a = s .args in (
+      fits (grounds _ (s .pre .accepted)) (s .pre .stood),
+      named-inside (a .book .now) _ (a .kind) (a .number) (a .stream) (sym (c .before .before .named .ensures) ∙ c .before .if1 .taken),
+    )
+
+description-requires : tie.Need-description-requires
+description-requires c κs = accepted-within gaugeLimits _ (c .before .before .before .before .before .before .before .before .before .before .pre .accepted) .0 .sized
+
+perform-requires : tie.Need-perform-requires
+perform-requires c κs =
+    let s = c .before .before .before .before .before .before .before .before .before .before .before .before .before in
+    let a = s .args in
+    rw (c .before .before .description .ensures)
+    (steppable (s .pre) (a .kind) (a .number) (a .stream) (sym (c .before .before .before .before .before .before .before .named .ensures) ∙ c .before .before .before .before .before .before .if1 .taken)
+    (sym (c .before .before .before .before .can .ensures) ∙ c .before .before .before .if2 .taken))
+
+same-length : tie.Need-same-length
+same-length c = search needs
+
+same-length-2 : tie.Need-same-length-2
+same-length-2 c = search needs
+
+returns : tie.Need-returns
+returns c =
+    let s = c .before .before .before .before .before .before .before .before .before .before .before .before .before .before .before .before .before .before in
+    let a = s .args in
+    done (s .pre) (a .kind) (a .number) (a .stream) (sym (c .before .before .before .before .before .before .before .before .before .before .before .before .named .ensures) ∙ c .before .before .before .before .before .before .before .before .before .before .before .if1 .taken)
+    (sym (c .before .before .before .before .before .before .before .before .before .can .ensures) ∙ c .before .before .before .before .before .before .before .before .if2 .taken) (c .before .before .before .before .perform .ensures ∙ rw (c .before .before .before .before .before .before .before .description .ensures))
+
+same-length-3 : tie.Need-same-length-3
+same-length-3 c = search needs
+
+returns-2 : tie.Need-returns-2
+returns-2 c =
+    let s = c .before .before .before .before .before .before .before .before .before .before in
+    let a = s .args in
+    unready (s .pre) (a .kind) (a .number) (a .stream) (sym (c .before .before .before .before .named .ensures) ∙ c .before .before .before .if1 .taken) (sym (c .before .can .ensures) ∙ c .if2 .left)
+
+returns-3 : tie.Need-returns-3
+returns-3 c =
+    let s = c .before .before .before .before .before .before .before in
+    let a = s .args in
+    unnamed (s .pre) (a .kind) (a .number) (a .stream) (sym (c .before .named .ensures) ∙ c .if1 .left)
+
+pub step-opened-spec : {M : Type 1} → statement M
+step-opened-spec =
+    tie.close
+    (tie.spec
+    named-requires
+    can-requires
+    description-requires
+    perform-requires
+    same-length
+    same-length-2
+    returns
+    same-length-3
+    returns-2
+    returns-3)

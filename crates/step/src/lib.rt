@@ -1,0 +1,148 @@
+// The call Step: one step, by its kind, a process or pipe number, and a stream.
+//
+// specs/, by file:
+//
+//   Named     which names are those of a step
+//   Call      what the call answers and leaves
+ghost use mathlib.Core.Path.{_≡_};
+ghost use Rattle.meaning.specs.Limits.{gaugeLimits};
+ghost use Rattle.meaning.specs.Array.{arrayOf};
+ghost use Rattle.meaning.specs.Rules.{memoryOf, apply};
+ghost use Rattle.meaning.specs.Calls.{step};
+ghost use Rattle.steps.specs.Meaning.{stepNamed};
+ghost use Rattle.memory.specs.Opening.{Opened};
+ghost use Rattle.step.specs.Named.{seatedBy, namedBy, Rows};
+ghost use Rattle.step.specs.Call.{Stepped, Steppable};
+use book::Size;
+use meaning::Answer;
+use meaning::Description;
+
+// Whether process p is on a pipe of stream i.
+fn seated(book: &[u32], z: Size, p: usize, i: usize) -> bool
+    requires { ⌜ Rows (now book) z ⌝ }
+    ensures { λ r. ⌜ r ≡ seatedBy (now (book .entry)) z p i ⌝ }
+{
+    if p < z.processes {
+        if i < z.streams {
+            let k = book::seat(book, p, i);
+            0 < k.total
+        } else {
+            false
+        }
+    } else {
+        false
+    }
+}
+
+// Whether a step has that name.
+fn named(book: &[u32], z: Size, kind: u32, number: usize, stream: usize) -> bool
+    requires { ⌜ Rows (now book) z ⌝ }
+    ensures { λ r. ⌜ r ≡ namedBy (now (book .entry)) z kind number stream ⌝ }
+{
+    match kind {
+        0 => number < z.pipes,
+        1 => seated(book, z, number, stream),
+        2 => number < z.processes,
+        3 => seated(book, z, number, stream),
+        4 => number < z.pipes,
+        _ => false,
+    }
+}
+
+// The step of that name is done.
+fn perform(
+    d: Description,
+    book: &[u32],
+    z: Size,
+    kind: u32,
+    number: usize,
+    stream: usize,
+    waiting: &[u32],
+    received: &mut [u32],
+    state: &mut [u32],
+)
+    requires { ⌜ Steppable d (now book) z kind number stream (memoryOf (now waiting) (now received) (now state)) ⌝ }
+    ensures { λ r. ⌜ memoryOf (now (waiting .entry)) (now (received .exit)) (now (state .exit))
+        ≡ apply (arrayOf d) (memoryOf (now (waiting .entry)) (now (received .entry)) (now (state .entry))) (stepNamed kind number stream) ⌝ }
+{
+    let n = d.nest;
+    let mut ends = [0u32; 3072];
+    layout::fill_processes(n, &mut ends);
+    let g = steps::program_of(d);
+    steps::act(
+        g,
+        book,
+        &ends,
+        z,
+        kind,
+        number,
+        stream,
+        waiting,
+        received,
+        state,
+    );
+}
+
+// The call once the memory is opened.
+fn step_opened(
+    s: &[u8],
+    book: &[u32],
+    z: Size,
+    kind: u32,
+    number: usize,
+    stream: usize,
+    waiting: &[u32],
+    received: &mut [u32],
+    state: &mut [u32],
+) -> Answer
+    requires { ⌜ Opened (now s) (memoryOf (now waiting) (now received) (now state)) (now book) z ⌝ }
+    ensures { λ r. ⌜ Stepped (now (s .entry)) kind number stream (memoryOf (now (waiting .entry)) (now (received .entry)) (now (state .entry))) r
+        (memoryOf (now (waiting .entry)) (now (received .exit)) (now (state .exit))) ⌝ }
+{
+    if named(book, z, kind, number, stream) {
+        if steps::can(book, state, z, kind, number, stream) {
+            let d = decode::description(s);
+            perform(d, book, z, kind, number, stream, waiting, received, state);
+            Answer::Done
+        } else {
+            Answer::Refused(24)
+        }
+    } else {
+        Answer::Refused(23)
+    }
+}
+
+// STEP
+pub fn step(
+    s: &[u8],
+    kind: u32,
+    number: u32,
+    stream: u32,
+    waiting: &[u32],
+    received: &mut [u32],
+    state: &mut [u32],
+) -> Answer
+    ensures { λ r. ⌜ (r ≡ step gaugeLimits (now (s .entry)) kind number stream (memoryOf (now (waiting .entry)) (now (received .entry)) (now (state .entry))) .answer)
+        × (memoryOf (now (waiting .entry)) (now (received .exit)) (now (state .exit))
+        ≡ step gaugeLimits (now (s .entry)) kind number stream (memoryOf (now (waiting .entry)) (now (received .entry)) (now (state .entry))) .memory) ⌝ }
+{
+    let mut book = [0u32; 116736];
+    let o = memory::open(s, waiting, received, state, &mut book);
+    let r = o.refusal;
+    if r == 0 {
+        let z = o.size;
+        step_opened(
+            s,
+            &book,
+            z,
+            kind,
+            number as usize,
+            stream as usize,
+            waiting,
+            received,
+            state,
+        )
+    } else {
+        Answer::Refused(r)
+    }
+}

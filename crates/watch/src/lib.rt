@@ -1,0 +1,190 @@
+// After a step only steps near it can have become ready, or be so no longer: its own process's or pipe's, and the one step of a neighbour whose readiness
+// looks at the word that the step has counted up. A table says which step looks at a word, and the flags of the ready steps are renewed by it.
+//
+// specs/, by file:
+//
+//   Watch       the word that a step counts up, and the neighbour's word that it looks at, by the rows of a book; the table
+//   Filled      the table as it is filled
+//   Renewed     flags tested anew
+//   Owned       the ranks of a step's own steps
+//   Refreshed   the flags after a step
+//   Meaning     by the book of an array no two steps look at the same word: `apart`; and readiness changes nowhere else: `local`
+ghost use mathlib.Core.Path.{_≡_};
+ghost use mathlib.Core.Bool.{false};
+ghost use mathlib.Core.List.{List};
+ghost use Prim.Native.Nat.{ℕ, _≤_, _<_};
+ghost use lib.ListN.{length, replicate};
+ghost use Rattle.book.specs.Planned.{RowsFit};
+ghost use Rattle.flags.specs.Flags.{Kept};
+ghost use Rattle.steps.specs.Fits.{Inside};
+ghost use Rattle.ranks.specs.Ranks.{Sized, rankCount};
+ghost use Rattle.watch.specs.Watch.{foreignNamed, foreignBy, counterNamed, counterBy, flagAt, Apart, Watched, Local};
+ghost use Rattle.watch.specs.Renewed.{Renewed, OneRank, GiveRank, SeatRank, OwnRank};
+use book::Size;
+
+// ---- the table
+
+// The index of the neighbour's word that a step looks at, 136,192 where there is none: by its name, and by its rank.
+fn foreign_named(book: &[u32], z: Size, kind: u32, number: usize, stream: usize) -> usize
+    requires { ⌜ (RowsFit 136192 (now book) z) × (Inside z kind number stream) ⌝ }
+    ensures { λ i. ⌜ (i ≡ foreignNamed (now (book .entry)) kind number stream) × (i ≤ 136192) ⌝ }
+{
+    match kind {
+        0 => {
+            let e = book::end(book, number);
+            e.after
+        }
+        1 => {
+            let k = book::seat(book, number, stream);
+            if 0 < k.hop { k.before } else { 136192 }
+        }
+        2 => 136192,
+        3 => {
+            let k = book::seat(book, number, stream);
+            if 0 < k.hop { k.after } else { 136192 }
+        }
+        _ => {
+            let e = book::end(book, number);
+            e.before
+        }
+    }
+}
+
+fn foreign_of(book: &[u32], z: Size, r: usize) -> usize
+    requires { ⌜ (RowsFit 136192 (now book) z) × (Sized z) × (r < rankCount z) ⌝ }
+    ensures { λ i. ⌜ (i ≡ foreignBy (now (book .entry)) z r) × (i ≤ 136192) ⌝ }
+{
+    let n = ranks::name_of(z, r);
+    foreign_named(book, z, n.kind, n.number, n.stream)
+}
+
+// Of each word, one more than the rank of the step that looks at it.
+pub fn fill_watch(book: &[u32], z: Size, watch: &mut [u32])
+    requires { ⌜ (RowsFit 136192 (now book) z) × (Sized z) × (Apart (now book) z) × (now watch ≡ replicate 136193 0) ⌝ }
+    ensures { λ _. ⌜ Watched (now (book .entry)) z (now (watch .exit)) ⌝ }
+{
+    let n = ranks::count(z);
+    let mut r = 0;
+    while r < n {
+        let at = foreign_of(book, z, r);
+        watch[at] = (r + 1) as u32;
+        r += 1;
+    }
+}
+
+// The index of the word that a step counts up: by its name, and by its rank.
+fn counter_named(book: &[u32], z: Size, kind: u32, number: usize, stream: usize) -> usize
+    requires { ⌜ (RowsFit 136192 (now book) z) × (Inside z kind number stream) ⌝ }
+    ensures { λ i. ⌜ (i ≡ counterNamed (now (book .entry)) kind number stream) × (i < 136192) ⌝ }
+{
+    match kind {
+        0 => {
+            let e = book::end(book, number);
+            e.sent
+        }
+        1 => {
+            let k = book::seat(book, number, stream);
+            k.at
+        }
+        2 => {
+            let k = book::seat(book, number, 0);
+            k.fired
+        }
+        3 => {
+            let k = book::seat(book, number, stream);
+            k.at + 1
+        }
+        _ => {
+            let e = book::end(book, number);
+            e.received
+        }
+    }
+}
+
+fn counter_of(book: &[u32], z: Size, r: usize) -> usize
+    requires { ⌜ (RowsFit 136192 (now book) z) × (Sized z) × (r < rankCount z) ⌝ }
+    ensures { λ i. ⌜ (i ≡ counterBy (now (book .entry)) z r) × (i < 136192) ⌝ }
+{
+    let n = ranks::name_of(z, r);
+    counter_named(book, z, n.kind, n.number, n.stream)
+}
+
+// ---- the flags
+
+// The flag of the step of rank r is tested anew.
+fn retest(book: &[u32], state: &[u32], z: Size, r: usize, flags: &mut [u32])
+    requires { ⌜ (RowsFit (length (now state)) (now book) z) × (Sized z) × (r < rankCount z) × (length (now flags) ≡ 33824) ⌝ }
+    ensures { λ _. ⌜ Renewed (flagAt (now (book .entry)) (now (state .entry)) z) (OneRank r) (now (flags .entry)) (now (flags .exit)) ⌝ }
+{
+    let n = ranks::name_of(z, r);
+    let b = steps::can(book, state, z, n.kind, n.number, n.stream);
+    flags::put(flags, r, b);
+}
+
+// Those of all steps.
+pub fn fill_flags(book: &[u32], state: &[u32], z: Size, flags: &mut [u32])
+    requires { ⌜ (RowsFit (length (now state)) (now book) z) × (Sized z) × (Kept (λ r. false) (now flags)) ⌝ }
+    ensures { λ _. ⌜ Kept (flagAt (now (book .entry)) (now (state .entry)) z) (now (flags .exit)) ⌝ }
+{
+    let n = ranks::count(z);
+    let mut r = 0;
+    while r < n {
+        retest(book, state, z, r, flags);
+        r += 1;
+    }
+}
+
+// Those of the gives of process p.
+fn retest_gives(book: &[u32], state: &[u32], z: Size, p: usize, flags: &mut [u32])
+    requires { ⌜ (RowsFit (length (now state)) (now book) z) × (Sized z) × (p < z .processes) × (length (now flags) ≡ 33824) ⌝ }
+    ensures { λ _. ⌜ Renewed (flagAt (now (book .entry)) (now (state .entry)) z) (GiveRank z p (z .streams)) (now (flags .entry)) (now (flags .exit)) ⌝ }
+{
+    let m = z.streams;
+    let mut i = 0;
+    while i < m {
+        retest(book, state, z, ranks::give_rank(z, p, i), flags);
+        i += 1;
+    }
+}
+
+// Those of the steps at a seat, and of the fire of its process.
+fn retest_seat(book: &[u32], state: &[u32], z: Size, p: usize, i: usize, flags: &mut [u32])
+    requires { ⌜ (RowsFit (length (now state)) (now book) z) × (Sized z) × (p < z .processes) × (i < z .streams) × (length (now flags) ≡ 33824) ⌝ }
+    ensures { λ _. ⌜ Renewed (flagAt (now (book .entry)) (now (state .entry)) z) (SeatRank z p i) (now (flags .entry)) (now (flags .exit)) ⌝ }
+{
+    retest(book, state, z, ranks::take_rank(z, p, i), flags);
+    retest(book, state, z, ranks::fire_rank(z, p), flags);
+    retest(book, state, z, ranks::give_rank(z, p, i), flags);
+}
+
+// Those of the steps of the process or pipe of rank r.
+fn retest_own(book: &[u32], state: &[u32], z: Size, r: usize, flags: &mut [u32])
+    requires { ⌜ (RowsFit (length (now state)) (now book) z) × (Sized z) × (r < rankCount z) × (length (now flags) ≡ 33824) ⌝ }
+    ensures { λ _. ⌜ Renewed (flagAt (now (book .entry)) (now (state .entry)) z) (OwnRank z r) (now (flags .entry)) (now (flags .exit)) ⌝ }
+{
+    let n = ranks::name_of(z, r);
+    let kind = n.kind;
+    match kind {
+        0 | 4 => retest(book, state, z, r, flags),
+        2 => {
+            retest(book, state, z, r, flags);
+            retest_gives(book, state, z, n.number, flags);
+        }
+        _ => retest_seat(book, state, z, n.number, n.stream, flags),
+    }
+}
+
+// The flags after the step of rank r was done.
+pub fn refresh(book: &[u32], watch: &[u32], state: &[u32], z: Size, r: usize, flags: &mut [u32])
+    requires { ⌜ (RowsFit (length (now state)) (now book) z) × (RowsFit 136192 (now book) z) × (Sized z) × (Watched (now book) z (now watch))
+        × (r < rankCount z) × (length (now flags) ≡ 33824) ⌝ }
+    ensures { λ _. ⌜ (length (now (flags .exit)) ≡ 33824) × ((old : List ℕ) → Local (now (book .entry)) z (now (watch .entry)) old (now (state .entry)) r
+        → Kept (flagAt (now (book .entry)) old z) (now (flags .entry)) → Kept (flagAt (now (book .entry)) (now (state .entry)) z) (now (flags .exit))) ⌝ }
+{
+    retest_own(book, state, z, r, flags);
+    let at = counter_of(book, z, r);
+    let w = watch[at] as usize;
+    if w != 0 {
+        retest(book, state, z, w - 1, flags);
+    }
+}
