@@ -2,6 +2,7 @@
 //! seed of the random descriptions and scripts.
 
 mod answers;
+mod design;
 mod library;
 mod scripts;
 mod times;

@@ -8,6 +8,7 @@ use reference::compare;
 use reference::description::Description;
 use reference::designs;
 
+use crate::design::Design;
 use crate::library::{self, FIGURES, ROW_WORDS};
 
 /// How long a call of each implementation is repeated.
@@ -204,16 +205,35 @@ fn print_on_states(name: &str, bytes: &[u8], values: &[u32]) {
     print_run(name, bytes, &waiting, &started, &ended);
 }
 
-/// A run to the end, by the step: with the tables that a call makes, and without them, which is a run to the end less a run of no step. The second
-/// implementation looks for each step from the first, and runs once.
+/// A run to the end, by the step: with the tables that a call makes, and without them, which is a run to the end less a run of no step, beside the second
+/// implementation, which looks for each step from the first and runs once, and beside the loop of a plain Rust program of the same design.
 fn print_run(name: &str, bytes: &[u8], waiting: &[u32], started: &Stage, ended: &Stage) {
     let steps = Calls::on(bytes)
         .accept()
         .map_or(0, |accepted| accepted.steps) as u32;
-    let mut least = Duration::MAX;
-    let mut tables = Duration::MAX;
+    let [least, tables, design] = run_times(bytes, steps, waiting, started, ended);
+    let mut stage = started.clone();
+    let mut run = || Calls::on(black_box(bytes)).run(stage.lent(waiting), u64::MAX);
+    let other = time(&mut run);
+    assert!(stage == *ended);
+    let without = (least - tables) / steps;
+    print_line(name, "run, a step", least / steps, other / steps);
+    print_line(name, "without tables", without, other / steps);
+    print_line(name, "same design", without, design / steps);
+}
+
+/// The least times of the library's run to the end, of its run of no step, and of the plain Rust program's loop, which take turns.
+fn run_times(
+    bytes: &[u8],
+    steps: u32,
+    waiting: &[u32],
+    started: &Stage,
+    ended: &Stage,
+) -> [Duration; 3] {
+    let design = Design::of(bytes);
+    let (mut least, mut tables, mut other) = (Duration::MAX, Duration::MAX, Duration::MAX);
     let start = Instant::now();
-    while start.elapsed() < LONG {
+    while start.elapsed() < 2 * LONG {
         let mut stage = started.clone();
         let mut answer = [0; 2];
         let mut none = || library::run(black_box(bytes), 0, stage.lent(waiting), &mut answer);
@@ -222,13 +242,15 @@ fn print_run(name: &str, bytes: &[u8], waiting: &[u32], started: &Stage, ended: 
         least = least.min(time(&mut run));
         assert_eq!(answer, [steps, 0]);
         assert!(stage == *ended);
+        stage = started.clone();
+        let mut flags = design.flags(&stage.state);
+        let mut done = 0;
+        let mut run = || done = black_box(&design).run(&mut flags, stage.lent(waiting));
+        other = other.min(time(&mut run));
+        assert_eq!(done, steps);
+        assert!(stage == *ended);
     }
-    let mut stage = started.clone();
-    let mut run = || Calls::on(black_box(bytes)).run(stage.lent(waiting), u64::MAX);
-    let other = time(&mut run);
-    assert!(stage == *ended);
-    print_line(name, "run, a step", least / steps, other / steps);
-    print_line(name, "without tables", (least - tables) / steps, other / steps);
+    [least, tables, other]
 }
 
 /// The two take turns, so that a busy machine slows both.

@@ -17,7 +17,7 @@ ghost use lib.ListN.{length, replicate};
 ghost use Rattle.book.specs.Planned.{RowsFit};
 ghost use Rattle.flags.specs.Flags.{Kept};
 ghost use Rattle.steps.specs.Fits.{Inside};
-ghost use Rattle.ranks.specs.Ranks.{Sized, rankCount};
+ghost use Rattle.ranks.specs.Ranks.{Sized, rankCount, named, nameAt};
 ghost use Rattle.watch.specs.Watch.{foreignNamed, foreignBy, counterNamed, counterBy, flagAt, Apart, Watched, Local};
 ghost use Rattle.watch.specs.Renewed.{Renewed, OneRank, GiveRank, SeatRank, OwnRank};
 use book::Size;
@@ -111,14 +111,31 @@ fn counter_of(book: &[u32], z: Size, r: usize) -> usize
 
 // ---- the flags
 
-// The flag of the step of rank r is tested anew.
+// The flag of the step of rank r, which has that name, is tested anew.
+fn retest_named(
+    book: &[u32],
+    state: &[u32],
+    z: Size,
+    r: usize,
+    kind: u32,
+    number: usize,
+    stream: usize,
+    flags: &mut [u32],
+)
+    requires { ⌜ (RowsFit (length (now state)) (now book) z) × (Sized z) × (r < rankCount z) × (nameAt z r ≡ named kind number stream) × (length (now flags) ≡ 33824) ⌝ }
+    ensures { λ _. ⌜ Renewed (flagAt (now (book .entry)) (now (state .entry)) z) (OneRank r) (now (flags .entry)) (now (flags .exit)) ⌝ }
+{
+    let b = steps::can(book, state, z, kind, number, stream);
+    flags::put(flags, r, b);
+}
+
+// That of rank r.
 fn retest(book: &[u32], state: &[u32], z: Size, r: usize, flags: &mut [u32])
     requires { ⌜ (RowsFit (length (now state)) (now book) z) × (Sized z) × (r < rankCount z) × (length (now flags) ≡ 33824) ⌝ }
     ensures { λ _. ⌜ Renewed (flagAt (now (book .entry)) (now (state .entry)) z) (OneRank r) (now (flags .entry)) (now (flags .exit)) ⌝ }
 {
     let n = ranks::name_of(z, r);
-    let b = steps::can(book, state, z, n.kind, n.number, n.stream);
-    flags::put(flags, r, b);
+    retest_named(book, state, z, r, n.kind, n.number, n.stream, flags);
 }
 
 // Those of all steps.
@@ -152,9 +169,9 @@ fn retest_seat(book: &[u32], state: &[u32], z: Size, p: usize, i: usize, flags: 
     requires { ⌜ (RowsFit (length (now state)) (now book) z) × (Sized z) × (p < z .processes) × (i < z .streams) × (length (now flags) ≡ 33824) ⌝ }
     ensures { λ _. ⌜ Renewed (flagAt (now (book .entry)) (now (state .entry)) z) (SeatRank z p i) (now (flags .entry)) (now (flags .exit)) ⌝ }
 {
-    retest(book, state, z, ranks::take_rank(z, p, i), flags);
-    retest(book, state, z, ranks::fire_rank(z, p), flags);
-    retest(book, state, z, ranks::give_rank(z, p, i), flags);
+    retest_named(book, state, z, ranks::take_rank(z, p, i), 1, p, i, flags);
+    retest_named(book, state, z, ranks::fire_rank(z, p), 2, p, 0, flags);
+    retest_named(book, state, z, ranks::give_rank(z, p, i), 3, p, i, flags);
 }
 
 // Those of the steps of the process or pipe of rank r.

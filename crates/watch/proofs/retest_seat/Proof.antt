@@ -1,5 +1,6 @@
 -- `watch::retest_seat` meets its contract: three flags one after the other. Assumes nothing.
 use borrow.Author.Needs.{needs}
+use Rattle.ranks.specs.Names.{take-name, fire-name, give-name}
 use Rattle.watch.specs.Renewed.{seat-renewed}
 use Rattle.watch.proofs.retest_seat.Statement.{statement}
 use Rattle.watch.proofs.retest_seat.Tie as tie
@@ -7,20 +8,32 @@ use Rattle.watch.proofs.retest_seat.Tie as tie
 take-rank-requires : tie.Need-take-rank-requires
 take-rank-requires c κs = search needs
 
-retest-requires : tie.Need-retest-requires
-retest-requires c κs = search needs
+retest-named-requires : tie.Need-retest-named-requires
+retest-named-requires c κs =
+    let s = c .before .before .before .before .before in
+    let p = s .pre in
+    let r = c .before .take-rank .ensures in
+    (p .0, p .1, r .1, rw (r .0) (take-name (s .args .z) (s .args .p) (s .args .i) (p .2) (p .3)), p .4)
 
 fire-rank-requires : tie.Need-fire-rank-requires
 fire-rank-requires c κs = search needs
 
-retest-requires-2 : tie.Need-retest-requires-2
-retest-requires-2 c κs = search needs
+retest-named-requires-2 : tie.Need-retest-named-requires-2
+retest-named-requires-2 c κs =
+    let s = c .before .before .before .before .before .before .before .before .before .before in
+    let p = s .pre in
+    let r = c .before .fire-rank .ensures in
+    (p .0, p .1, r .1, rw (r .0) (fire-name (s .args .z) (s .args .p) (p .2)), c .before .before .before .before .retest-named .ensures .words)
 
 give-rank-requires : tie.Need-give-rank-requires
 give-rank-requires c κs = search needs
 
-retest-requires-3 : tie.Need-retest-requires-3
-retest-requires-3 c κs = search needs
+retest-named-requires-3 : tie.Need-retest-named-requires-3
+retest-named-requires-3 c κs =
+    let s = c .before .before .before .before .before .before .before .before .before .before .before .before .before .before .before in
+    let p = s .pre in
+    let r = c .before .give-rank .ensures in
+    (p .0, p .1, r .1, rw (r .0) (give-name (s .args .z) (s .args .p) (s .args .i) (p .2) (p .3)), c .before .before .before .before .retest-named2 .ensures .words)
 
 same-length : tie.Need-same-length
 same-length c = search needs
@@ -33,17 +46,17 @@ returns c =
     let a = t .before .before .before .before .before .before .args in
     seat-renewed (a .z) (a .p) (a .i) (t .before .before .take-rank .result) (f .before .before .fire-rank .result)
     (g .before .before .give-rank .result) (t .before .before .take-rank .ensures .0) (f .before .before .fire-rank .ensures .0)
-    (g .before .before .give-rank .ensures .0) (t .retest .ensures) (f .retest2 .ensures) (g .retest3 .ensures)
+    (g .before .before .give-rank .ensures .0) (t .retest-named .ensures) (f .retest-named2 .ensures) (g .retest-named3 .ensures)
 
 pub retest-seat-spec : {M : Type 1} → statement M
 retest-seat-spec =
     tie.close
     (tie.spec
     take-rank-requires
-    retest-requires
+    retest-named-requires
     fire-rank-requires
-    retest-requires-2
+    retest-named-requires-2
     give-rank-requires
-    retest-requires-3
+    retest-named-requires-3
     same-length
     returns)
