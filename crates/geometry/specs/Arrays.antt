@@ -21,11 +21,13 @@ use Rattle.meaning.specs.Pipes.{pipe, before, isPipe, isEntry, entries}
 use Rattle.meaning.specs.Description.{noStream, streamsOf}
 use Rattle.meaning.specs.Array.{Stop, Pipe, stopOf, pipeOf, pipesFrom, arrayOf, pipeNumber, noPipe, noStop, pipeAt, isStop, pipeThrough, placeOn}
 use Rattle.meaning.specs.Body.{streamStart}
+use Rattle.meaning.specs.Points.{Inside}
+use Rattle.meaning.specs.Sorted.{Sorted, Sorted.none}
 use Rattle.geometry.specs.Members.{any-yes, yes-any, map-in, map-at}
-use Rattle.geometry.specs.Sorting.{Sorted, Sorted.none, sorted-filter, sorted-append, sorted-by-map}
+use Rattle.geometry.specs.Sorting.{sorted-filter, sorted-append, sorted-by-map}
 use Rattle.geometry.specs.Numbers.{and-left, and-right, both}
 use Rattle.geometry.specs.Places.{getD-in, found, sorted-at, position-is}
-use Rattle.geometry.specs.Boxes.{Inside, row-distinct, points-sorted}
+use Rattle.geometry.specs.Boxes.{row-distinct, points-sorted}
 use Rattle.geometry.specs.RowOrder.{row-at}
 use Rattle.geometry.specs.Pipes.{Accepted, in-pipe}
 use Rattle.geometry.specs.Positions.{at-inside, before-at}

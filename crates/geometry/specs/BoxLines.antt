@@ -17,10 +17,12 @@ use Rattle.integers.specs.Vectors.{zero2, neg2, shift2, same2}
 use Rattle.integers.specs.declared.V2.{V2}
 use Rattle.meaning.specs.Lists.{position}
 use Rattle.meaning.specs.Space.{eq2, Box}
-use Rattle.meaning.specs.Pipes.{reach, march, lineIn, backward, ahead}
-use Rattle.geometry.specs.Sorting.{Sorted, Sorted.none, Sorted.more, Distinct}
+use Rattle.meaning.specs.Pipes.{reach, march, lineIn, backward}
+use Rattle.meaning.specs.Points.{Inside, RowOrder as Row, RowOrder.by-a, RowOrder.by-b}
+use Rattle.meaning.specs.Sorted.{Sorted, Sorted.none, Sorted.more, Distinct}
 use Rattle.geometry.specs.Numbers.{eqZ-eq, eq-eqZ, eq2-eq, eq-eq2, not-zero, beyond, below, stay, zero-shift, shift-shift, shift-next, shift-neg, shift-undo, shift-turn, shift-one, neg-not, back-and-on, back-and-past, back-to-start}
-use Rattle.geometry.specs.Boxes.{Inside, Row, Row.by-a, Row.by-b, row-distinct, row-distinct'}
+use Rattle.geometry.specs.Places.{ahead}
+use Rattle.geometry.specs.Boxes.{row-distinct, row-distinct'}
 use Rattle.geometry.specs.Reach.{reach-in, reach-le, reach-shift}
 
 -- ---- marching
@@ -97,6 +99,13 @@ march-back d r p zero = none
 march-back d r p (suc n) =
     more (λ y k. let s = march-in (shift2 p (pos 1) d) d n k in subst (λ w. Row w p) (sym (s .eq ∙ shift-next p d (s .at))) (row-back p d (s .at) r))
     (march-back d r (shift2 p (pos 1) d) n)
+
+-- each point of it is so many steps before all behind it
+pub march-sorted : (p d : V2) (n : ℕ) → Sorted (λ q q'. (k : ℕ) × (q' ≡ shift2 q (pos (suc k)) d)) (march p d n)
+unfolding march
+march-sorted p d zero = none
+march-sorted p d (suc n) =
+    more (λ y i. let s = march-in (shift2 p (pos 1) d) d n i in (s .at, s .eq ∙ shift-next p d (s .at))) (march-sorted (shift2 p (pos 1) d) d n)
 
 pub line-distinct : (k : Box) (d : V2) → (d ≡ zero2 → ⊥) → (p : V2) → Distinct (lineIn k d p)
 unfolding lineIn

@@ -17,19 +17,16 @@ use Rattle.integers.specs.declared.Matrix.{Matrix}
 use Rattle.meaning.specs.declared.Nest.{Nest}
 use Rattle.meaning.specs.Loops.{loop, instances}
 use Rattle.meaning.specs.Space.{Box, inside, points, minZ, maxZ, widen, widenAll, around, boxOf}
+use Rattle.meaning.specs.Points.{Direction.onward, Between, Precedes, Directed, Within, Inside, RowOrder as Row, RowOrder.by-a, RowOrder.by-b}
+use Rattle.meaning.specs.Sorted.{Sorted, Distinct}
 use Rattle.geometry.specs.Members.{Mapped, map-in, in-each, each-in}
-use Rattle.geometry.specs.Sorting.{Sorted, Distinct, sorted-map, sorted-by-map, sorted-each}
+use Rattle.geometry.specs.Sorting.{sorted-map, sorted-by-map, sorted-each}
 use Rattle.geometry.specs.Numbers.{and-left, and-right, both, lt-le}
-use Rattle.geometry.specs.Instances.{Direction.onward, Between, loop-in, in-loop, Precedes, walk-sorted, Directed, Within, within-in, in-within}
+use Rattle.geometry.specs.Instances.{loop-in, in-loop, walk-sorted, within-in, in-within}
 
 -- ---- boxes
 
--- p is in the box
-pub record Inside (k : Box) (p : V2) : Type 0 where
-  pub ina : Between (k .lo .a) (k .hi .a) (p .a)
-  pub inb : Between (k .lo .b) (k .hi .b) (p .b)
-
--- exactly if the test says so
+-- a point is in the box exactly if the test says so
 pub inside-yes : (k : Box) (p : V2) → T (inside k p) → Inside k p
 inside-yes k p t =
     let a = leZ (k .lo .a) (p .a) in
@@ -73,11 +70,6 @@ convex2 k p d i t h u w =
     }
 
 -- ---- row order
-
--- p is before q, last coordinate fastest
-pub data Row (p q : V2) : Type 0 where
-  by-a : p .a <ℤ q .a → Row p q
-  by-b : p .a ≡ q .a → p .b <ℤ q .b → Row p q
 
 pub row-irr : (p : V2) → Row p p → ⊥
 row-irr p (by-a h) = omega (arith, lt-out h)
@@ -155,7 +147,7 @@ max-le u w = go (ltZ u w) (λ t. record { lt = t }) (λ t. ltZ-no t)
     go true f g = (lt-le (f tt), ≤ℤ-refl w)
     go false f g = (≤ℤ-refl u, g tt)
 
-le-trans : {u v w : ℤ} → u ≤ℤ v → v ≤ℤ w → u ≤ℤ w
+pub le-trans : {u v w : ℤ} → u ≤ℤ v → v ≤ℤ w → u ≤ℤ w
 le-trans h k = omega (arith, zrules)
 
 widen-old : (k : Box) (q p : V2) → Inside k p → Inside (widen k q) p

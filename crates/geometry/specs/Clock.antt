@@ -18,14 +18,15 @@ use Rattle.meaning.specs.Loops.{stepOf, increment}
 use Rattle.meaning.specs.Space.{boxOf, space, first, computing}
 use Rattle.meaning.specs.Streams.{line, stationary, hop}
 use Rattle.meaning.specs.Pipes.{before, soak}
+use Rattle.meaning.specs.Points.{Inside}
 use Rattle.geometry.specs.Numbers.{no-cond}
 use Rattle.geometry.specs.Lines.{coordinates, image-other}
-use Rattle.geometry.specs.Boxes.{Inside, box-has}
+use Rattle.geometry.specs.Boxes.{box-has}
 use Rattle.geometry.specs.Segments.{first-at}
 use Rattle.geometry.specs.Processes.{RunAt, runAt, computes}
 use Rattle.geometry.specs.Reach.{back-shift}
 use Rattle.geometry.specs.Pipes.{Accepted, OnePipe, flip-pipe, join-pipe, moving-move, passes, in-space}
-use Rattle.geometry.specs.Moving.{soak-is}
+use Rattle.geometry.specs.Soaks.{soak-is}
 
 -- θ of the pipe through y
 pub record Clock (n : Nest) (s : Stream) (y : V2) : Type 0 where

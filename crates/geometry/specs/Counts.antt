@@ -9,11 +9,13 @@ use Rattle.meaning.specs.declared.Nest.{Nest}
 use Rattle.meaning.specs.Lists.{total, each}
 use Rattle.meaning.specs.Loops.{instances, placeOf}
 use Rattle.meaning.specs.Space.{space, processes, instancesAt, count}
+use Rattle.meaning.specs.Points.{Directed, At}
+use Rattle.meaning.specs.Sorted.{Distinct}
 use Rattle.geometry.specs.Members.{in-each, each-in, each-length}
-use Rattle.geometry.specs.Sorting.{Distinct, sorted-each, fewer}
-use Rattle.geometry.specs.Instances.{Directed, within-in, in-within, distinct}
+use Rattle.geometry.specs.Sorting.{sorted-each, fewer}
+use Rattle.geometry.specs.Instances.{within-in, in-within, distinct}
 use Rattle.geometry.specs.Boxes.{row-distinct, inside-points, points-sorted}
-use Rattle.geometry.specs.Segments.{At, sent-distinct, at-in, in-at, at-box}
+use Rattle.geometry.specs.Segments.{sent-distinct, at-in, in-at, at-box}
 
 module _ {n : Nest} (dirs : Directed n) where
   -- the instances, process by process

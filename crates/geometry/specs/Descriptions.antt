@@ -23,9 +23,9 @@ use Rattle.meaning.specs.Streams.{line}
 use Rattle.meaning.specs.Description.{sizesOf, directionAt, stepAt, wordsOf, inRange, nestOf, noStream, descriptionOf, streamsOf, written, refused2, refused4, refused5}
 use Rattle.meaning.specs.Accept.{against, streamTests, testsFrom, nestTests, byteTests, refusalOf}
 use Rattle.meaning.specs.Tests.{Test, refusal}
+use Rattle.meaning.specs.Points.{Direction, Direction.onward, Direction.back, Directed, Within, Earlier}
 use Rattle.geometry.specs.Members.{in-numbers}
 use Rattle.geometry.specs.Numbers.{eqZ-eq, and-left, and-right}
-use Rattle.geometry.specs.Instances.{Direction, Direction.onward, Direction.back, Directed, Within, Earlier}
 use Rattle.geometry.specs.Processes.{Layout}
 use Rattle.geometry.specs.Pipes.{Accepted}
 use Rattle.geometry.specs.Accept.{line-of, layout-of, accepted, line-leads}

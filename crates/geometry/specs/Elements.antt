@@ -1,13 +1,13 @@
 -- The pipes' elements are the stream's elements, each once: every element of the box is on one pipe at one index, and pipe order is a rearrangement
 -- of element order. Assumes an accepted stream.
 use mathlib.Core.Path.{_≡_, refl, sym, _∙_, ap, subst}
-use mathlib.Core.Bool.{Bool, true, false, cond, _&&_}
+use mathlib.Core.Bool.{Bool, true, false, not, cond, _&&_}
 use mathlib.Core.List.{List, reverse, List·Memᴰ as In}
-use Prim.Native.Nat.{ℕ, _+_, _≤_, _<_}
+use Prim.Native.Nat.{ℕ, zero, suc, _+_, _≤_, _<_}
 use native.Mathlib.Omega.{arith}
-use lib.Dec.{T, eqb, eqb→eq}
+use lib.Dec.{T, eqb, eqb·suc-zero, eqb→eq}
 use lib.ListN.{length, getD, take}
-use lib.IntN.{ℤ, pos, negℤ, _+ℤ_}
+use lib.IntN.{ℤ, pos, negsuc, negℤ, _+ℤ_}
 use Rattle.integers.specs.Differences.{gaps, eq-out, Is-eq, Is-add, Is-neg, Is-pos}
 use Rattle.integers.specs.Variables.{linear}
 use Rattle.integers.specs.Vectors.{zero2, shift2, image}
@@ -17,18 +17,20 @@ use Rattle.meaning.specs.declared.Nest.{Nest}
 use Rattle.meaning.specs.declared.Stream.{Stream}
 use Rattle.meaning.specs.Lists.{any, total, each}
 use Rattle.meaning.specs.Loops.{placeOf}
-use Rattle.meaning.specs.Space.{rowIndex, boxOf, firstOf, space, processes, first, computing}
+use Rattle.meaning.specs.Space.{inside, rowIndex, boxOf, firstOf, space, processes, first, computing}
 use Rattle.meaning.specs.Streams.{stationary, move, elements, pass}
-use Rattle.meaning.specs.Pipes.{pipe, before, isPipe, isEntry, entries, uses, usedOn, backward, pipeElements, ahead}
+use Rattle.meaning.specs.Pipes.{pipe, before, isPipe, isEntry, entries, uses, usedOn, backward, pipeElements}
+use Rattle.meaning.specs.Points.{Inside, RowOrder as Row}
+use Rattle.meaning.specs.Sorted.{Sorted, Distinct}
 use Rattle.geometry.specs.Members.{in-filter, filter-in, yes-any, in-each, each-in, each-length, each-part}
-use Rattle.geometry.specs.Sorting.{Sorted, Distinct, sorted-with, sorted-filter, sorted-each, distinct-map, sorted-reverse, fewer}
-use Rattle.geometry.specs.Numbers.{and-left, both, zero-shift}
-use Rattle.geometry.specs.Places.{getD-in, getD-ahead, ahead-lt, ahead-getD}
-use Rattle.geometry.specs.Boxes.{Inside, Row, row-distinct, row-distinct', inside-points, points-inside, points-sorted}
+use Rattle.geometry.specs.Sorting.{sorted-with, sorted-filter, sorted-each, distinct-map, sorted-reverse, fewer}
+use Rattle.geometry.specs.Numbers.{and-left, both, zero-shift, shift-neg, neg-not}
+use Rattle.geometry.specs.Places.{ahead, getD-in, getD-ahead, ahead-lt, ahead-getD}
+use Rattle.geometry.specs.Boxes.{row-distinct, row-distinct', inside-yes, inside-in, inside-points, points-inside, points-sorted}
 use Rattle.geometry.specs.RowOrder.{row-at, row-lt, row-number}
 use Rattle.geometry.specs.Segments.{at-box, first-at}
 use Rattle.geometry.specs.Processes.{RunAt, is-computing}
-use Rattle.geometry.specs.Reach.{back-shift}
+use Rattle.geometry.specs.Reach.{reach-in, reach-le, back-shift}
 use Rattle.geometry.specs.BoxLines.{line-distinct, back-in}
 use Rattle.geometry.specs.Pipes.{Accepted, OnePipe, flip-pipe, held, in-space, pipe-self, same-pipe, on-in, in-on, one-home, held-one}
 
@@ -79,6 +81,23 @@ module _ {n : Nest} {s : Stream} (h : Accepted n s) where
       nil : (p q : ℕ) → pos p ≡ pos q +ℤ negℤ (pos q) → p ≡ 0
       nil p q e = omega (arith, eq-out (e ∙ Is-eq (Is-add (Is-pos q) (Is-neg (Is-pos q))) (Is-pos 0) (omega arith)))
 
+  -- no process stands before one whose predecessor lies outside the process space
+  pub entry-before : {y : V2} → Inside (space n) y → isEntry n s y ≡ eqb (before n s y) 0
+  entry-before {y} hy = go (inside (space n) (shift2 y (negsuc 0) (move n s))) (before n s y) (inside-yes (space n) _) (inside-in (space n) _)
+      (λ i. reach-le (space n) (neg-not (h .goes)) hy 1 (subst (Inside (space n)) (sym (shift-neg y (move n s) (pos 1))) i))
+      (λ l. subst (Inside (space n)) (shift-neg y (move n s) (pos 1)) (reach-in (space n) (neg-not (h .goes)) hy 1 l))
+    where
+      go : (b : Bool) (k : ℕ) → (T b → Inside (space n) (shift2 y (negsuc 0) (move n s))) → (Inside (space n) (shift2 y (negsuc 0) (move n s)) → T b)
+          → (Inside (space n) (shift2 y (negsuc 0) (move n s)) → 1 ≤ k) → (1 ≤ k → Inside (space n) (shift2 y (negsuc 0) (move n s)))
+          → not b ≡ eqb k 0
+      go true zero i j f g = absurd (omega (arith, f (i tt)))
+      go true (suc k) i j f g = sym (eqb·suc-zero k)
+      go false zero i j f g = refl
+      go false (suc k) i j f g = absurd (j (g (omega arith)))
+
+  pub is-entry : {y : V2} → Entry n s y → T (isEntry n s y)
+  is-entry {y} b = subst T (sym (entry-before (b .inside))) (subst (λ (k : ℕ). T (eqb k 0)) (sym (b .zero)) tt)
+
   -- two processes of one pipe have one entry
   pub one-entry : {y y' : V2} → Entry n s y → Entry n s y' → OnePipe n s y y' → y ≡ y'
   one-entry {y} {y'} a a' o =
@@ -98,7 +117,7 @@ module _ {n : Nest} {s : Stream} (h : Accepted n s) where
       let k = filter-in (λ y. isEntry n s y && isPipe n s y) (processes n) i in
       record {
         inside = points-inside (space n) y (k .mem);
-        zero = eqb→eq (before n s y) 0 (and-left (isEntry n s y) (isPipe n s y) (k .ok));
+        zero = eqb→eq (before n s y) 0 (subst T (entry-before (points-inside (space n) y (k .mem))) (and-left (isEntry n s y) (isPipe n s y) (k .ok)));
       }
 
   pub entry-in : {y : V2} {x : V3} → RunAt n y x → In (entryOf n s y) (entries n s)
@@ -106,7 +125,7 @@ module _ {n : Nest} {s : Stream} (h : Accepted n s) where
       let hy = in-space h a in
       let b = entry-is hy in
       in-filter (λ y. isEntry n s y && isPipe n s y) (inside-points (space n) (entryOf n s y) (b .inside))
-      (both (isEntry n s (entryOf n s y)) (isPipe n s (entryOf n s y)) (subst (λ (k : ℕ). T (eqb k 0)) (sym (b .zero)) tt)
+      (both (isEntry n s (entryOf n s y)) (isPipe n s (entryOf n s y)) (is-entry b)
       (subst (λ (l : List V2). T (any (computing n) l)) (sym (same-pipe h hy (b .inside) (entry-pipe y)))
       (yes-any (computing n) (pipe-self h hy) (is-computing (h .layout) a))))
 

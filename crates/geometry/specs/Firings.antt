@@ -8,11 +8,10 @@ use native.Mathlib.Nat.{zero-add}
 use native.Mathlib.Omega.{arith}
 use lib.Dec.{T}
 use lib.ListN.{length, getD, length-map}
-use lib.IntN.{ℤ, pos, _+ℤ_, _-ℤ_, _*ℤ_}
+use lib.IntN.{ℤ, pos, _-ℤ_}
 use lib.Signed.{_≤ℤ_, _<ℤ_, ltZ, ltZ-no, <ℤ-irrefl, <ℤ-≤ℤ-trans}
 use Rattle.integers.specs.Differences.{gaps, lt-in}
 use Rattle.integers.specs.Variables.{linear}
-use Rattle.integers.specs.Order.{mul-less}
 use Rattle.integers.specs.Vectors.{shift3, dot-shift}
 use Rattle.integers.specs.declared.V3.{V3}
 use Rattle.integers.specs.declared.V2.{V2}
@@ -21,9 +20,10 @@ use Rattle.meaning.specs.Lists.{numbers}
 use Rattle.meaning.specs.Loops.{stepOf, increment}
 use Rattle.meaning.specs.Space.{instancesAt, count, first}
 use Rattle.meaning.specs.Array.{insertByStep, byStep, runs}
+use Rattle.meaning.specs.Sorted.{Sorted, Sorted.none, Sorted.more}
 use Rattle.geometry.specs.Members.{map-in, map-at, numbers-in, in-numbers, numbers-length, numbers-at}
-use Rattle.geometry.specs.Sorting.{Sorted, Sorted.none, Sorted.more, sorted-map, sorted-with, sorted-by-map, numbers-sorted, sorted-unique}
-use Rattle.geometry.specs.Numbers.{not-zero, lt-le, positive-not, zero-on, on-one, zero-shift3}
+use Rattle.geometry.specs.Sorting.{sorted-map, sorted-with, sorted-by-map, numbers-sorted, sorted-unique}
+use Rattle.geometry.specs.Numbers.{not-zero, lt-le, positive-not, zero-on, on-less, on-one, zero-shift3}
 use Rattle.geometry.specs.Lines.{on-line}
 use Rattle.geometry.specs.Segments.{sent-distinct, at-in, in-at, numbered}
 use Rattle.geometry.specs.Processes.{Layout, RunAt, runAt, instance-at}
@@ -136,11 +136,7 @@ module _ {n : Nest} (layout : Layout n) where
   sooner-later : (y : V2) (i j : ℕ) → i < j → Sooner n (runAt n y i) (runAt n y j)
   sooner-later y i j h =
       subst₂ _<ℤ_ (sym (dot-shift (n .step) (first n y) (increment n) (pos i))) (sym (dot-shift (n .step) (first n y) (increment n) (pos j)))
-      (more-steps (stepOf n (first n y)) (pos i) (pos j) (stepOf n (increment n))
-      (mul-less (stepOf n (increment n)) (pos i) (pos j) (layout .inc .ahead) (lt-in (omega arith))))
-    where
-      more-steps : (f i j c : ℤ) → (c *ℤ i) <ℤ (c *ℤ j) → (f +ℤ i *ℤ c) <ℤ (f +ℤ j *ℤ c)
-      more-steps = linear 0 4 _ λ p m. simp gaps (omega arith)
+      (on-less (pos i) (pos j) (stepOf n (increment n)) (stepOf n (first n y)) (layout .inc .ahead) (lt-in (omega arith)))
 
   -- in step order they are the firings 0, 1, .., count − 1
   pub runs-are : (y : V2) → runs n y ≡ map (runAt n y) (numbers (count n y))

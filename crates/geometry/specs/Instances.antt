@@ -1,9 +1,9 @@
 -- The instances are the whole points in the bounds, each once, in the written order. Assumes that directions are 1 or −1.
 use mathlib.Core.Path.{_≡_, refl, sym, _∙_, ap, subst, subst₂}
 use mathlib.Core.List.{List, map, List·Memᴰ as In, List·Memᴰ·head as here, List·Memᴰ·tail as there, Memᴰ·map as in-map}
-use Prim.Native.Nat.{ℕ, zero, suc, _<_}
+use Prim.Native.Nat.{ℕ, zero, suc, _*_, _<_}
 use native.Mathlib.Omega.{arith}
-use lib.ListN.{length, getD}
+use lib.ListN.{length, getD, length-map}
 use lib.IntN.{ℤ, pos, negsuc, _+ℤ_, _-ℤ_, _*ℤ_}
 use lib.Signed.{_≤ℤ_, _<ℤ_}
 use Rattle.integers.specs.Differences.{gaps, parts, up, lt-out}
@@ -12,8 +12,10 @@ use Rattle.integers.specs.declared.V3.{V3}
 use Rattle.meaning.specs.declared.Nest.{Nest}
 use Rattle.meaning.specs.Lists.{each}
 use Rattle.meaning.specs.Loops.{walk, size, loop, instances}
-use Rattle.geometry.specs.Members.{map-in, in-each, each-in}
-use Rattle.geometry.specs.Sorting.{Sorted, Sorted.none, Sorted.more, Distinct, sorted-map, sorted-by-map, sorted-each}
+use Rattle.meaning.specs.Points.{Direction, Direction.onward, Direction.back, Between, Precedes, Directed, Within, Earlier, Earlier.by-outer, Earlier.by-middle, Earlier.by-inner}
+use Rattle.meaning.specs.Sorted.{Sorted, Sorted.none, Sorted.more, Distinct}
+use Rattle.geometry.specs.Members.{map-in, in-each, each-in, each-length, total-same}
+use Rattle.geometry.specs.Sorting.{sorted-map, sorted-by-map, sorted-each}
 use Rattle.geometry.specs.Numbers.{zero-on}
 use Rattle.geometry.specs.Places.{sorted-at, at-sorted}
 
@@ -41,15 +43,10 @@ in-walk a d zero i h e = absurd (omega arith)
 in-walk a d (suc n) zero h e = here (e ∙ zero-on a d)
 in-walk a d (suc n) (suc i) h e = there (in-walk (a +ℤ d) d n i (omega arith) (e ∙ sym (next i a d)))
 
--- a loop runs from left to right or from right to left
-pub data Direction : ℤ → Type 0 where
-  onward : Direction (pos 1)
-  back : Direction (negsuc 0)
-
--- x is in the bounds
-pub record Between (l r x : ℤ) : Type 0 where
-  pub lo : l ≤ℤ x
-  pub hi : x ≤ℤ r
+pub walk-length : (a d : ℤ) (n : ℕ) → length (walk a d n) ≡ n
+unfolding walk
+walk-length a d zero = refl
+walk-length a d (suc n) = ap suc (walk-length (a +ℤ d) d n)
 
 -- its values are the whole numbers in the bounds
 pub loop-in : (l r : ℤ) {d x : ℤ} → Direction d → In x (loop l r d) → Between l r x
@@ -72,10 +69,6 @@ in-loop l r {x} back h = in-walk r (negsuc 0) (size l r) (up (r -ℤ x)) (go l r
     go : (l r x : ℤ) → l ≤ℤ x → x ≤ℤ r → (up (r -ℤ x) < size l r) × (x ≡ r +ℤ pos (up (r -ℤ x)) *ℤ negsuc 0)
     go = linear 0 3 _ λ p m. simp (gaps, parts) (λ h k. (omega arith, omega arith))
 
--- u comes before w in a loop of direction d
-abbrev pub Precedes : ℤ → ℤ → ℤ → Type 0
-Precedes d u w = (d *ℤ u) <ℤ (d *ℤ w)
-
 pub walk-sorted : {d : ℤ} → Direction d → (a : ℤ) (n : ℕ) → Sorted (Precedes d) (walk a d n)
 unfolding walk
 walk-sorted p a zero = none
@@ -92,24 +85,6 @@ walk-sorted {d} p a (suc n) = more (λ y k. let r = walk-in (a +ℤ d) d n k in 
     go back a y i e = g i a y e
 
 -- ---- the nest
-
--- all loops run one way or the other
-pub record Directed (n : Nest) : Type 0 where
-  pub outer : Direction (n .direction .x)
-  pub middle : Direction (n .direction .y)
-  pub inner : Direction (n .direction .z)
-
--- a point in the bounds
-pub record Within (n : Nest) (p : V3) : Type 0 where
-  pub inx : Between (n .left .x) (n .right .x) (p .x)
-  pub iny : Between (n .left .y) (n .right .y) (p .y)
-  pub inz : Between (n .left .z) (n .right .z) (p .z)
-
--- p is earlier than q in the written order, loop 0 outermost
-pub data Earlier (d p q : V3) : Type 0 where
-  by-outer : Precedes (d .x) (p .x) (q .x) → Earlier d p q
-  by-middle : p .x ≡ q .x → Precedes (d .y) (p .y) (q .y) → Earlier d p q
-  by-inner : p .x ≡ q .x → p .y ≡ q .y → Precedes (d .z) (p .z) (q .z) → Earlier d p q
 
 module _ {n : Nest} (h : Directed n) where
   abbrev lx : List ℤ
@@ -175,6 +150,48 @@ module _ {n : Nest} (h : Directed n) where
       sorted-each {R = Precedes (n .direction .x)} plane plane-sorted
       (λ i j p q r a b. by-outer (subst₂ (Precedes (n .direction .x)) (sym (plane-x i p a)) (sym (plane-x j q b)) r))
       (walk-sorted (h .outer) _ _)
+
+-- they are as many as the numbers of each loop, multiplied
+pub instances-length : (n : Nest) → length (instances n)
+    ≡ (size (n .left .x) (n .right .x) * size (n .left .y) (n .right .y)) * size (n .left .z) (n .right .z)
+unfolding instances
+instances-length n =
+    each-length (λ i. plane i) lx ∙ total-same (λ i. length (plane i)) (b * c) plane-length lx ∙ ap (λ (k : ℕ). k * (b * c)) (walk-length _ _ a)
+    ∙ regroup a b c
+  where
+    a : ℕ
+    a = size (n .left .x) (n .right .x)
+
+    b : ℕ
+    b = size (n .left .y) (n .right .y)
+
+    c : ℕ
+    c = size (n .left .z) (n .right .z)
+
+    lx : List ℤ
+    lx = loop (n .left .x) (n .right .x) (n .direction .x)
+
+    ly : List ℤ
+    ly = loop (n .left .y) (n .right .y) (n .direction .y)
+
+    lz : List ℤ
+    lz = loop (n .left .z) (n .right .z) (n .direction .z)
+
+    row : ℤ → ℤ → List V3
+    row i j = map (λ k. record { x = i; y = j; z = k }) lz
+
+    plane : ℤ → List V3
+    plane i = each (λ j. row i j) ly
+
+    row-length : (i j : ℤ) → length (row i j) ≡ c
+    row-length i j = length-map lz (λ k. record { x = i; y = j; z = k }) ∙ walk-length _ _ c
+
+    plane-length : (i : ℤ) → length (plane i) ≡ b * c
+    plane-length i =
+        each-length (row i) ly ∙ total-same (λ j. length (row i j)) c (row-length i) ly ∙ ap (λ (k : ℕ). k * c) (walk-length _ _ b)
+
+    regroup : (a b c : ℕ) → a * (b * c) ≡ (a * b) * c
+    regroup a b c = omega arith
 
 -- the written order is an order
 runs-irr : (d u : ℤ) → Precedes d u u → ⊥

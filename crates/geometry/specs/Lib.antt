@@ -15,8 +15,9 @@ pub mod BoxLines
 pub mod Pipes
 pub mod Moving
 pub mod Positions
-pub mod Clock
 pub mod Elements
+pub mod Soaks
+pub mod Clock
 pub mod Order
 pub mod Accept
 pub mod Descriptions
@@ -24,8 +25,8 @@ pub mod TwoLoops
 pub mod Firings
 pub mod Counts
 pub mod Report
+pub mod PipeLists
 pub mod Passes
 pub mod Wiring
 pub mod Arrays
 pub mod PipeOrder
-pub mod Geometry

@@ -18,12 +18,8 @@ use Rattle.integers.specs.declared.V2.{V2}
 use Rattle.integers.specs.declared.Matrix.{Matrix}
 use Rattle.meaning.specs.declared.Nest.{Nest}
 use Rattle.meaning.specs.Loops.{stepOf, turn, lineOf}
+use Rattle.meaning.specs.Points.{IsLine as Line}
 use Rattle.geometry.specs.Numbers.{not-zero, positive-not, zero-on, on-reflects, on-one, shift-still, shift-one}
-
--- u is the line of m
-pub record Line (n : Nest) (m : Matrix) (u : V3) : Type 0 where
-  pub short : Shortest (m .top) (m .low) u
-  pub ahead : pos 0 <ℤ stepOf n u
 
 -- ---- document 01's line is the line
 
@@ -44,15 +40,25 @@ turn-ahead s u = go (ltZ (dot s u) (pos 0)) (λ t. record { lt = t }) (λ t. ltZ
     go true f g = flip _ (dot s u) (dot-neg s u) (f tt)
     go false f g = g tt
 
--- where the rows are independent and the step is not 0
+-- where the rows are independent it is the shortest, and so the line if its step is not 0
+pub line-short : (n : Nest) (m : Matrix) → Independent (m .top) (m .low) → Shortest (m .top) (m .low) (lineOf n m)
+unfolding lineOf
+line-short n m h = shortest-turn (m .top) (m .low) (n .step) (shortCross (m .top) (m .low)) (shortest (m .top) (m .low) h)
+
 pub line-is : (n : Nest) (m : Matrix) → Independent (m .top) (m .low) → (stepOf n (lineOf n m) ≡ pos 0 → ⊥) → Line n m (lineOf n m)
 unfolding lineOf
 line-is n m h k =
-    let u = shortCross (m .top) (m .low) in
-    record {
-      short = shortest-turn (m .top) (m .low) (n .step) u (shortest (m .top) (m .low) h);
-      ahead = not-zero (stepOf n (turn (n .step) u)) (turn-ahead (n .step) u) k;
-    }
+    record { short = line-short n m h; ahead = not-zero (stepOf n (lineOf n m)) (turn-ahead (n .step) (shortCross (m .top) (m .low))) k }
+
+-- if there is a line, that step is not 0
+pub line-steps : (n : Nest) (m : Matrix) (u : V3) → Independent (m .top) (m .low) → Line n m u → stepOf n (lineOf n m) ≡ pos 0 → ⊥
+line-steps n m u h line e =
+    let r = line-short n m h .all u (line .short .null) in
+    positive-not (line .ahead)
+    (ap (stepOf n) (r .eq) ∙ dot-scale (n .step) (lineOf n m) (r .by) ∙ ap (λ (w : ℤ). r .by *ℤ w) e ∙ times-zero (r .by))
+  where
+    times-zero : (t : ℤ) → t *ℤ pos 0 ≡ pos 0
+    times-zero = linear 0 1 _ λ p m. simp gaps (omega arith)
 
 -- ---- along a line
 

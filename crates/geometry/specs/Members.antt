@@ -43,6 +43,11 @@ module _ {A : Type 0} where
       go true t ih (there k) = let r = ih k in record { mem = there (r .mem); ok = r .ok }
       go false t ih k = let r = ih k in record { mem = there (r .mem); ok = r .ok }
 
+  -- a list of which nothing is a member
+  pub no-members : (l : List A) → ((x : A) → In x l → ⊥) → l ≡ []
+  no-members [] f = refl
+  no-members (x ∷ l) f = absurd (f x (here refl))
+
   -- some member passes exactly if `any` says so
   pub record Some (f : A → Bool) (l : List A) : Type 0 where
     pub it : A

@@ -1,12 +1,12 @@
--- Moving pipes: their elements are the points of the stream's box on one line, soak and drain are steps inside the box, and firing m uses element
--- soak + m. Assumes an accepted stream that moves.
+-- Moving pipes: their elements are the points of the stream's box on one line, and the elements of a process's instances follow each other on it.
+-- Assumes an accepted stream that moves.
 use mathlib.Core.Path.{_≡_, sym, _∙_, ap, ap₂}
 use mathlib.Core.Bool.{Bool, true, false, not, cond}
 use mathlib.Core.List.{reverse, List·Memᴰ as In}
-use Prim.Native.Nat.{ℕ, suc, _+_, _-_, _<_}
+use Prim.Native.Nat.{ℕ, suc, _+_}
 use native.Mathlib.Omega.{arith}
 use lib.Dec.{T}
-use lib.ListN.{length, getD}
+use lib.ListN.{length}
 use lib.IntN.{pos, _+ℤ_}
 use Rattle.integers.specs.Differences.{eq-out}
 use Rattle.integers.specs.Vectors.{neg2, shift2, image, image-shift}
@@ -16,19 +16,21 @@ use Rattle.meaning.specs.declared.Nest.{Nest}
 use Rattle.meaning.specs.declared.Stream.{Stream}
 use Rattle.meaning.specs.Lists.{any}
 use Rattle.meaning.specs.Loops.{placeOf, increment}
-use Rattle.meaning.specs.Space.{inside, boxOf, count, first, last}
+use Rattle.meaning.specs.Space.{inside, boxOf, first}
 use Rattle.meaning.specs.Streams.{stationary, pass}
-use Rattle.meaning.specs.Pipes.{reach, lineIn, pipe, uses, usedOn, backward, pipeElements, ahead, soak, drain}
+use Rattle.meaning.specs.Pipes.{reach, lineIn, pipe, uses, usedOn, backward, pipeElements}
+use Rattle.meaning.specs.Points.{Inside, RowOrder as Row}
+use Rattle.meaning.specs.Sorted.{Sorted}
 use Rattle.geometry.specs.Members.{in-reverse, reverse-in}
-use Rattle.geometry.specs.Sorting.{Sorted, sorted-filter, sorted-reverse, sorted-unique}
-use Rattle.geometry.specs.Places.{getD-ahead}
+use Rattle.geometry.specs.Sorting.{sorted-filter, sorted-reverse, sorted-unique}
+use Rattle.geometry.specs.Places.{ahead}
 use Rattle.geometry.specs.Lines.{coordinates, image-other}
-use Rattle.geometry.specs.Boxes.{Inside, Row, row-irr, row-asym, points-sorted, box-has}
-use Rattle.geometry.specs.Segments.{at-box, first-at, last-at, segment}
-use Rattle.geometry.specs.Processes.{RunAt, runAt, instance-at}
-use Rattle.geometry.specs.Reach.{reach-shift, back-shift}
+use Rattle.geometry.specs.Boxes.{row-irr, row-asym, points-sorted, box-has}
+use Rattle.geometry.specs.Segments.{at-box, first-at}
+use Rattle.geometry.specs.Processes.{RunAt, runAt}
+use Rattle.geometry.specs.Reach.{back-shift}
 use Rattle.geometry.specs.BoxLines.{Way, Way.on, Way.back, way, march-on, march-back, OnLine, line-length, line-on, on-line-in, ahead-line}
-use Rattle.geometry.specs.Pipes.{Accepted, On, moving-move, moving-elements, passes, in-space, used-in, in-used, touched-in}
+use Rattle.geometry.specs.Pipes.{Accepted, On, moving-move, moving-elements, passes, in-space, used-in, in-used}
 
 module _ {n : Nest} {s : Stream} (h : Accepted n s) (moves : T (not (stationary n s))) where
   -- ---- G5: the elements of a pipe are a whole segment along index map times increment
@@ -95,49 +97,16 @@ module _ {n : Nest} {s : Stream} (h : Accepted n s) (moves : T (not (stationary 
       ≡ reach (boxOf n (s .map)) (neg2 (pass n s)) (image (s .map) x) + suc (reach (boxOf n (s .map)) (pass n s) (image (s .map) x))
   length-is {x} a = ap length (pipe-line a) ∙ line-length (boxOf n (s .map)) (pass n s) (image (s .map) x)
 
-  -- ---- soak and drain
-
-  -- the report's equation (8): the steps against index map times increment, from the first instance's element, that stay in the box
-  pub soak-is : {y : V2} {x : V3} → RunAt n y x → soak n s y ≡ reach (boxOf n (s .map)) (neg2 (pass n s)) (image (s .map) (first n y))
-  soak-is a = index-is (first-at (h .layout .dirs) a)
-
-  -- (9): those along it from the last instance's
-  pub drain-is : {y : V2} {x : V3} → RunAt n y x → drain n s y ≡ reach (boxOf n (s .map)) (pass n s) (image (s .map) (last n y))
-  drain-is a = go (length-is (last-at (h .layout .dirs) a)) (index-is (last-at (h .layout .dirs) a))
-    where
-      go : {l i r f : ℕ} → l ≡ r + suc f → i ≡ r → l - suc i ≡ f
-      go e g = omega arith
-
-  -- firing i uses the element of index soak + i
-  pub element-index : {y : V2} {x : V3} (i : ℕ) → RunAt n y x → RunAt n y (runAt n y i)
-      → ahead (image (s .map) (runAt n y i)) (pipeElements n s y) ≡ soak n s y + i
-  element-index {y} i a b =
+  -- that of firing i stands i places after the first one's
+  pub index-on : {y : V2} {x : V3} (i : ℕ) → RunAt n y x → RunAt n y (runAt n y i)
+      → ahead (image (s .map) (runAt n y i)) (pipeElements n s y) ≡ ahead (image (s .map) (first n y)) (pipeElements n s y) + i
+  index-on {y} i a b =
+      let f = first-at (h .layout .dirs) a in
       index-is b
       ∙ natural _ (reach (boxOf n (s .map)) (neg2 (pass n s)) (image (s .map) (first n y)))
-      (back-shift (boxOf n (s .map)) (passes h moves) (pos i) (box-has (h .layout .dirs) (s .map) (first-at (h .layout .dirs) a .within))
+      (back-shift (boxOf n (s .map)) (passes h moves) (pos i) (box-has (h .layout .dirs) (s .map) (f .within))
       (box-has (h .layout .dirs) (s .map) (b .within)) (image-shift (s .map) (first n y) (increment n) (pos i)))
-      ∙ ap (λ (k : ℕ). k + i) (sym (soak-is a))
+      ∙ ap (λ (k : ℕ). k + i) (sym (index-is f))
     where
       natural : (u v : ℕ) → pos u ≡ pos v +ℤ pos i → u ≡ v + i
       natural u v e = omega (arith, eq-out e)
-
-  pub element-at : (y : V2) (i : ℕ) (d : V2) → i < count n y → getD (pipeElements n s y) (soak n s y + i) d ≡ image (s .map) (runAt n y i)
-  element-at y i d k =
-      let a = instance-at (h .layout) y i k in
-      ap (λ (c : ℕ). getD (pipeElements n s y) c d) (sym (element-index i a a)) ∙ getD-ahead (image (s .map) (runAt n y i)) d (touched-in h a)
-
-  -- soak + count + drain is the pipe's number of elements, at each of its computing processes
-  pub total-is : {y : V2} {x : V3} → RunAt n y x → length (pipeElements n s y) ≡ soak n s y + count n y + drain n s y
-  total-is {y} a =
-      let w = segment (h .layout .dirs) (h .layout .inc) a in
-      let f = first-at (h .layout .dirs) a in
-      let l = last-at (h .layout .dirs) a in
-      let e : image (s .map) (last n y) ≡ shift2 (image (s .map) (first n y)) (pos (w .span)) (pass n s) =
-      ap (image (s .map)) (w .end) ∙ image-shift (s .map) (first n y) (increment n) (pos (w .span)) in
-      let r =
-      reach-shift (boxOf n (s .map)) (passes h moves) (w .span) (box-has (h .layout .dirs) (s .map) (f .within))
-      (box-has (h .layout .dirs) (s .map) (l .within)) e in
-      go (length-is f) (soak-is a) (drain-is a) (w .size) r
-    where
-      go : {l k c d p q t : ℕ} → l ≡ p + suc q → k ≡ p → d ≡ t → {i : ℕ} → c ≡ suc i → q ≡ i + t → l ≡ k + c + d
-      go a b c d e = omega arith

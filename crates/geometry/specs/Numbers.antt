@@ -11,7 +11,7 @@ use Rattle.integers.specs.Differences.{gaps, le-out, lt-out, eq-out, le-in, lt-
 use Rattle.integers.specs.Variables.{linear}
 use Rattle.integers.specs.Ring.{ring, quotes, literal, solve, solve3, solve-by, given, Ex.var}
 use Rattle.integers.specs.Words.{eqZ}
-use Rattle.integers.specs.Order.{mul-reflects, mul-positive, cancel}
+use Rattle.integers.specs.Order.{mul-less, mul-reflects, mul-positive, cancel}
 use Rattle.integers.specs.Vectors.{shift3, zero2, neg2, shift2, same2}
 use Rattle.integers.specs.declared.V3.{V3}
 use Rattle.integers.specs.declared.V2.{V2}
@@ -109,6 +109,12 @@ pub on-reflects : (s t c a : ℤ) → pos 0 <ℤ c → (a +ℤ s *ℤ c) ≤ℤ 
 on-reflects s t c a h k = mul-reflects c s t h (go s t c a k)
   where
     go : (s t c a : ℤ) → (a +ℤ s *ℤ c) ≤ℤ (a +ℤ t *ℤ c) → (c *ℤ s) ≤ℤ (c *ℤ t)
+    go = linear 0 4 _ λ p m. simp gaps (omega arith)
+
+pub on-less : (s t c a : ℤ) → pos 0 <ℤ c → s <ℤ t → (a +ℤ s *ℤ c) <ℤ (a +ℤ t *ℤ c)
+on-less s t c a h k = go s t c a (mul-less c s t h k)
+  where
+    go : (s t c a : ℤ) → (c *ℤ s) <ℤ (c *ℤ t) → (a +ℤ s *ℤ c) <ℤ (a +ℤ t *ℤ c)
     go = linear 0 4 _ λ p m. simp gaps (omega arith)
 
 pub on-one : (s t c a : ℤ) → (c ≡ pos 0 → ⊥) → a +ℤ s *ℤ c ≡ a +ℤ t *ℤ c → s ≡ t

@@ -20,9 +20,10 @@ use Rattle.meaning.specs.Loops.{stepOf, placeOf}
 use Rattle.meaning.specs.Space.{space}
 use Rattle.meaning.specs.Streams.{line, stationary}
 use Rattle.meaning.specs.Pipes.{before}
+use Rattle.meaning.specs.Points.{IsLine as Line, Precedes, Within, Earlier, Earlier.by-outer, Earlier.by-middle, Earlier.by-inner}
 use Rattle.geometry.specs.Numbers.{decide, lt-le, stay, zero-shift3}
-use Rattle.geometry.specs.Lines.{Line, Ahead, ahead-of}
-use Rattle.geometry.specs.Instances.{Precedes, Within, Earlier, Earlier.by-outer, Earlier.by-middle, Earlier.by-inner, earlier-irr, earlier-asym}
+use Rattle.geometry.specs.Lines.{Ahead, ahead-of}
+use Rattle.geometry.specs.Instances.{earlier-irr, earlier-asym}
 use Rattle.geometry.specs.Boxes.{box-has}
 use Rattle.geometry.specs.Processes.{firingOf, firing-shift}
 use Rattle.geometry.specs.Reach.{back-shift}

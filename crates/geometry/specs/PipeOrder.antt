@@ -21,10 +21,12 @@ use Rattle.meaning.specs.Pipes.{entries, pipeElements}
 use Rattle.meaning.specs.Description.{noStream, streamsOf}
 use Rattle.meaning.specs.Array.{pipeOf, pipesFrom, arrayOf, pipeOrder, listLength}
 use Rattle.meaning.specs.Body.{elementCount}
+use Rattle.meaning.specs.Points.{Inside}
+use Rattle.meaning.specs.Sorted.{Sorted.none, Distinct}
 use Rattle.geometry.specs.Members.{map-in, numbers-in, in-numbers, numbers-length}
-use Rattle.geometry.specs.Sorting.{Sorted.none, Distinct, sorted-map, sorted-append, distinct-map, numbers-sorted, fewer}
+use Rattle.geometry.specs.Sorting.{sorted-map, sorted-append, distinct-map, numbers-sorted, fewer}
 use Rattle.geometry.specs.Places.{getD-in, found, distinct-at, position-is}
-use Rattle.geometry.specs.Boxes.{Inside, points-inside}
+use Rattle.geometry.specs.Boxes.{points-inside}
 use Rattle.geometry.specs.RowOrder.{row-lt, row-number}
 use Rattle.geometry.specs.Pipes.{Accepted}
 use Rattle.geometry.specs.Elements.{byPipe, elements-in, in-elements, pipes-distinct}

@@ -2,9 +2,7 @@
 use mathlib.Core.Path.{_≡_, refl, sym, _∙_, ap, subst}
 use mathlib.Core.Logic.{_⊎_, inl, inr}
 use mathlib.Core.Bool.{Bool, true, false, not, cond}
-use mathlib.Core.List.{List, [], _∷_, map, reverse, List·Memᴰ as In, List·Memᴰ·head as here, Memᴰ·cast, Memᴰ·map as in-map}
-use Prim.Native.Nat.{ℕ, suc, _+_, _-_, _<_}
-use native.Mathlib.Omega.{arith}
+use mathlib.Core.List.{List, [], map, reverse, List·Memᴰ as In, Memᴰ·cast, Memᴰ·map as in-map}
 use lib.Dec.{T, T-not}
 use lib.ListN.{length, length-map}
 use lib.IntN.{ℤ, pos, negℤ, _+ℤ_, ℤ-discrete}
@@ -15,15 +13,15 @@ use Rattle.meaning.specs.declared.Nest.{Nest}
 use Rattle.meaning.specs.declared.Stream.{Stream}
 use Rattle.meaning.specs.Lists.{filter, any}
 use Rattle.meaning.specs.Loops.{placeOf, increment}
-use Rattle.meaning.specs.Space.{inside, boxOf, space, instancesAt, first, last, computing}
+use Rattle.meaning.specs.Space.{inside, boxOf, space, instancesAt, first, computing}
 use Rattle.meaning.specs.Streams.{line, stationary, move, elements, touches, pass}
-use Rattle.meaning.specs.Pipes.{pipe, isPipe, uses, usedOn, backward, pipeElements, ahead, soak, drain}
-use Rattle.geometry.specs.Members.{in-filter, filter-in, any-yes, yes-any, in-reverse, reverse-in, map-in}
+use Rattle.meaning.specs.Pipes.{pipe, isPipe, uses, usedOn, backward, pipeElements}
+use Rattle.meaning.specs.Points.{IsLine as Line, Inside, At}
+use Rattle.geometry.specs.Members.{in-filter, filter-in, no-members, any-yes, yes-any, in-reverse, reverse-in, map-in}
 use Rattle.geometry.specs.Numbers.{decide, yes-cond, no-cond, eq2-eq, eq-eq2, zero-shift, shift-shift, shift-still, shift-undo}
-use Rattle.geometry.specs.Places.{ahead-lt, ahead-map}
-use Rattle.geometry.specs.Lines.{Line, on-line, not-sent, one-line}
-use Rattle.geometry.specs.Boxes.{Inside, inside-points, box-has}
-use Rattle.geometry.specs.Segments.{At, at-in, in-at, at-box, first-at, last-at}
+use Rattle.geometry.specs.Lines.{on-line, not-sent, one-line}
+use Rattle.geometry.specs.Boxes.{inside-points, box-has}
+use Rattle.geometry.specs.Segments.{at-in, in-at, at-box, first-at}
 use Rattle.geometry.specs.Processes.{Layout, RunAt, computes, is-computing}
 use Rattle.geometry.specs.BoxLines.{line-on, on-line-in, line-self, line-same}
 
@@ -77,7 +75,7 @@ module _ {n : Nest} {s : Stream} (h : Accepted n s) where
   pub moving-not : T (not (stationary n s)) → placeOf n (line n s) ≡ zero2 → ⊥
   moving-not t e = T-not (stationary n s) t (eq-eq2 (placeOf n (line n s)) zero2 e)
 
-  still-elements : T (stationary n s) → (y : V2) → pipeElements n s y ≡ held n s y
+  pub still-elements : T (stationary n s) → (y : V2) → pipeElements n s y ≡ held n s y
   unfolding pipeElements
   still-elements t y = yes-cond (stationary n s) _ _ t
 
@@ -229,16 +227,12 @@ module _ {n : Nest} {s : Stream} (h : Accepted n s) where
 
   -- a line of processes that has no computing one has no elements
   pub no-pipe : {y : V2} → Inside (space n) y → T (not (isPipe n s y)) → pipeElements n s y ≡ []
-  no-pipe {y} hy t = none (pipeElements n s y) (λ e i. not-there (in-on hy i))
+  no-pipe {y} hy t = no-members (pipeElements n s y) (λ e i. not-there (in-on hy i))
     where
       not-there : {e : V2} → On n s y e → ⊥
       not-there o =
           let a : RunAt n (placeOf n (o .by)) (o .by) = record { within = o .at .within; to = refl } in
           T-not (isPipe n s y) t (yes-any (computing n) (pipe-in hy (in-space a) (o .place)) (is-computing (h .layout) a))
-
-      none : (l : List V2) → ((e : V2) → In e l → ⊥) → l ≡ []
-      none [] f = refl
-      none (e ∷ l) f = absurd (f e (here refl))
 
   -- G7, one half: an element is on one pipe only
   pub one-home : {y y' e : V2} → Inside (space n) y → Inside (space n) y' → In e (pipeElements n s y) → In e (pipeElements n s y') → OnePipe n s y y'
@@ -255,24 +249,6 @@ module _ {n : Nest} {s : Stream} (h : Accepted n s) where
   held-one t p q i j e =
       sym (computes (h .layout) p i .to) ∙ sym (still-place t (first n p) (first n q) e) ∙ computes (h .layout) q j .to
 
-  -- the soak is the process's rank: the number of computing processes before it on the pipe
-  pub soak-rank : T (stationary n s) → {y : V2} → Inside (space n) y → T (computing n y) → soak n s y ≡ ahead y (filter (computing n) (pipe n s y))
-  soak-rank t {y} hy c =
-      ap (ahead (image (s .map) (first n y))) (still-elements t y)
-      ∙ ahead-map (λ p. image (s .map) (first n p)) y (filter (computing n) (pipe n s y)) (in-filter (computing n) (pipe-self hy) c)
-      (λ p i e. held-one t p y (filter-in (computing n) (pipe n s y) i .ok) c e)
-
   -- it has as many elements as computing processes
   pub still-length : T (stationary n s) → (y : V2) → length (pipeElements n s y) ≡ length (filter (computing n) (pipe n s y))
   still-length t y = ap length (still-elements t y) ∙ length-map (filter (computing n) (pipe n s y)) (λ p. image (s .map) (first n p))
-
-  -- those before it, its own, and those after it
-  pub still-total : T (stationary n s) → {y : V2} {x : V3} → RunAt n y x → soak n s y + 1 + drain n s y ≡ length (pipeElements n s y)
-  still-total t {y} a =
-      let f = first-at (h .layout .dirs) a in
-      let l = last-at (h .layout .dirs) a in
-      go (ahead-lt (image (s .map) (first n y)) (touched-in f))
-      (ap (λ (e : V2). ahead e (pipeElements n s y)) (still-element t (first n y) (last n y) (f .to ∙ sym (l .to))))
-    where
-      go : {i j c : ℕ} → i < c → j ≡ i → i + 1 + (c - suc j) ≡ c
-      go h e = omega arith

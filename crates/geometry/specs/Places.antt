@@ -2,9 +2,9 @@
 use mathlib.Core.Path.{_≡_, refl, sym, _∙_, ap, subst}
 use mathlib.Core.Logic.{_⊎_, inl, inr}
 use mathlib.Core.Bool.{Bool, true, false, not, cond}
-use mathlib.Core.List.{List, [], _∷_, map, List·Memᴰ as In, List·Memᴰ·head as here, List·Memᴰ·tail as there}
-use Prim.Native.Nat.{ℕ, zero, suc, _≤_, _<_}
-use native.Mathlib.Nat.{eq-or-lt-of-le}
+use mathlib.Core.List.{List, [], _∷_, map, reverse, reverseAux, List·Memᴰ as In, List·Memᴰ·head as here, List·Memᴰ·tail as there}
+use Prim.Native.Nat.{ℕ, zero, suc, _+_, _-_, _≤_, _<_}
+use native.Mathlib.Nat.{eq-or-lt-of-le, zero-add}
 use native.Mathlib.Omega.{arith}
 use native.Mathlib.Decide.{decLe}
 use lib.Dec.{T, not-T}
@@ -12,8 +12,7 @@ use lib.ListN.{length, getD, take}
 use Rattle.integers.specs.declared.V2.{V2}
 use Rattle.meaning.specs.Lists.{filter, position}
 use Rattle.meaning.specs.Space.{eq2}
-use Rattle.meaning.specs.Pipes.{ahead}
-use Rattle.geometry.specs.Sorting.{Sorted, Sorted.none, Sorted.more, Distinct}
+use Rattle.meaning.specs.Sorted.{Sorted, Sorted.none, Sorted.more, Distinct}
 use Rattle.geometry.specs.Numbers.{yes-cond, no-cond, eq2-eq, eq-eq2}
 
 module _ {A : Type 0} where
@@ -46,6 +45,12 @@ module _ {A : Type 0} where
   sorted-at (more {x} {l} f s) zero (suc j) d h k = f (getD l j d) (getD-in l j d (omega arith))
   sorted-at (more f s) (suc i) (suc j) d h k = sorted-at s i j d (omega arith) (omega arith)
 
+  pub sorted-from : {R : A → A → Type 0} (l : List A) (d : A) → ((i j : ℕ) → i < j → j < length l → R (getD l i d) (getD l j d)) → Sorted R l
+  sorted-from [] d f = none
+  sorted-from {R} (x ∷ l) d f =
+      more {x = x} {l = l} (λ y k. let r = found d k in subst (R x) (r .is) (f 0 (suc (r .at)) (omega arith) (omega (arith, r .lt))))
+      (sorted-from l d (λ i j h k. f (suc i) (suc j) (omega arith) (omega arith)))
+
   pub at-sorted : {R : A → A → Type 0} {l : List A} → ((x : A) → R x x → ⊥) → ((x y : A) → R x y → R y x → ⊥)
       → Sorted R l → (i j : ℕ) (d : A) → i < length l → j < length l → R (getD l i d) (getD l j d) → i < j
   at-sorted {R} {l} irr asym s i j d h k r = go (decLe i j)
@@ -67,6 +72,36 @@ module _ {A : Type 0} where
   position-is f (x ∷ l) (suc q) d h t g =
       no-cond (f x) 0 (suc (position f l)) (not-T (f x) (g 0 (omega arith)))
       ∙ ap suc (position-is f l q d (omega arith) t (λ j k u. g (suc j) (omega arith) u))
+
+module _ {A : Type 0} where
+  -- and in the list reversed: of what is put before the rest, none passes
+  pub position-past : (f : A → Bool) (l m : List A) → ((x : A) → In x l → T (f x) → ⊥) → position f (reverseAux l m) ≡ length l + position f m
+  unfolding position
+  position-past f [] m g = sym (zero-add (position f m))
+  position-past f (x ∷ l) m g =
+      position-past f l (x ∷ m) (λ y i. g y (there i))
+      ∙ ap (λ (c : ℕ). length l + c) (no-cond (f x) 0 (suc (position f m)) (not-T (f x) (g x (here refl)))) ∙ one (length l) (position f m)
+    where
+      one : (a b : ℕ) → a + suc b ≡ suc a + b
+      one a b = omega arith
+
+  -- the last that passes stands at place q
+  pub position-last : (f : A → Bool) (l : List A) (q : ℕ) (d : A) → q < length l → T (f (getD l q d))
+      → ((j : ℕ) → q < j → j < length l → T (f (getD l j d)) → ⊥) → position f (reverse l) ≡ length l - suc q
+  unfolding position
+  position-last f l q d h t g = go l [] q h t g
+    where
+      go : (l m : List A) (q : ℕ) → q < length l → T (f (getD l q d)) → ((j : ℕ) → q < j → j < length l → T (f (getD l j d)) → ⊥)
+          → position f (reverseAux l m) ≡ length l - suc q
+      go [] m q h t g = absurd (omega arith)
+      go (x ∷ l) m zero h t g =
+          position-past f l (x ∷ m) (λ y i u. let r = found d i in g (suc (r .at)) (omega arith) (omega (arith, r .lt)) (subst (λ z. T (f z)) (sym (r .is)) u))
+          ∙ ap (λ (c : ℕ). length l + c) (yes-cond (f x) 0 (suc (position f m)) t) ∙ omega arith
+      go (x ∷ l) m (suc q) h t g = go l (x ∷ m) q (omega arith) t (λ j a b. g (suc j) (omega arith) (omega arith)) ∙ omega arith
+
+-- where a point stands in a list of points: how many are before it
+abbrev pub ahead : V2 → List V2 → ℕ
+ahead e l = position (λ p. eq2 p e) l
 
 -- e stands where `ahead` says
 pub getD-ahead : (e : V2) {l : List V2} (d : V2) → In e l → getD l (ahead e l) d ≡ e

@@ -14,13 +14,13 @@ use Rattle.meaning.specs.declared.Stream.{Stream}
 use Rattle.meaning.specs.Loops.{stepOf}
 use Rattle.meaning.specs.Space.{space}
 use Rattle.meaning.specs.Streams.{line, stationary, move, hop}
-use Rattle.meaning.specs.Pipes.{reach, pipe, before, ahead}
-use Rattle.geometry.specs.Sorting.{Distinct}
+use Rattle.meaning.specs.Pipes.{reach, lineIn, pipe, before}
+use Rattle.meaning.specs.Points.{Inside}
+use Rattle.meaning.specs.Sorted.{Sorted, Distinct}
 use Rattle.geometry.specs.Numbers.{shift-shift}
-use Rattle.geometry.specs.Places.{getD-in}
-use Rattle.geometry.specs.Boxes.{Inside}
+use Rattle.geometry.specs.Places.{ahead, getD-in}
 use Rattle.geometry.specs.Reach.{back-shift}
-use Rattle.geometry.specs.BoxLines.{line-distinct, line-length, line-at, ahead-line}
+use Rattle.geometry.specs.BoxLines.{march-sorted, line-distinct, line-length, line-at, ahead-line}
 use Rattle.geometry.specs.Pipes.{Accepted, OnePipe, in-pipe}
 
 module _ {n : Nest} {s : Stream} (h : Accepted n s) where
@@ -28,6 +28,10 @@ module _ {n : Nest} {s : Stream} (h : Accepted n s) where
   pub pipe-distinct : (y : V2) → Distinct (pipe n s y)
   unfolding pipe
   pipe-distinct y = line-distinct (space n) (move n s) (h .goes) y
+
+  pub pipe-sorted : (y : V2) → Sorted (λ p p'. (k : ℕ) × (p' ≡ shift2 p (pos (suc k)) (move n s))) (pipe n s y)
+  unfolding pipe lineIn
+  pipe-sorted y = march-sorted _ (move n s) _
 
   pub before-is : (y : V2) → ahead y (pipe n s y) ≡ before n s y
   unfolding pipe

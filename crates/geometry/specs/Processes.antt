@@ -19,9 +19,9 @@ use Rattle.integers.specs.declared.V2.{V2}
 use Rattle.meaning.specs.declared.Nest.{Nest}
 use Rattle.meaning.specs.Loops.{stepOf, placeOf, increment}
 use Rattle.meaning.specs.Space.{instancesAt, count, first, computing}
-use Rattle.geometry.specs.Lines.{Line, along}
-use Rattle.geometry.specs.Instances.{Directed, Within}
-use Rattle.geometry.specs.Segments.{At, at-in, first-at, segment, numbered, instance}
+use Rattle.meaning.specs.Points.{IsLine as Line, Directed, Within, At}
+use Rattle.geometry.specs.Lines.{along}
+use Rattle.geometry.specs.Segments.{at-in, first-at, segment, numbered, instance}
 
 -- what of the nest every theorem below asks
 pub record Layout (n : Nest) : Type 0 where

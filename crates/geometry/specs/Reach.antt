@@ -15,9 +15,9 @@ use Rattle.integers.specs.declared.V2.{V2}
 use Rattle.meaning.specs.Loops.{size}
 use Rattle.meaning.specs.Space.{Box, inside}
 use Rattle.meaning.specs.Pipes.{stays, reach}
+use Rattle.meaning.specs.Points.{Between, Inside}
 use Rattle.geometry.specs.Numbers.{zero-shift, shift-shift, shift-next, shift-neg, shift-turn, neg-not}
-use Rattle.geometry.specs.Instances.{Between}
-use Rattle.geometry.specs.Boxes.{Inside, inside-yes, inside-in, convex2}
+use Rattle.geometry.specs.Boxes.{inside-yes, inside-in, convex2}
 
 -- ---- what `stays` counts
 

@@ -1,7 +1,7 @@
 -- The report's equations (2), (3), (4), (8), (9) and (10) for document 01's words. (2), the process space, is `box-basis` of Boxes. The report's
 -- v // u is the k with v = k u; and first_s and last_s are the first and the last element of a pipe. Assumes, of the nest, `Layout`; of the stream,
 -- that it is accepted and moves.
-use mathlib.Core.Path.{_≡_, sym, _∙_, ap, subst, subst₂}
+use mathlib.Core.Path.{_≡_, refl, sym, _∙_, ap, subst, subst₂}
 use mathlib.Core.Bool.{not}
 use mathlib.Core.List.{List}
 use Prim.Native.Nat.{ℕ, zero, suc, _+_, _-_, _<_}
@@ -18,29 +18,23 @@ use Rattle.integers.specs.declared.V3.{V3}
 use Rattle.integers.specs.declared.V2.{V2}
 use Rattle.meaning.specs.declared.Nest.{Nest}
 use Rattle.meaning.specs.declared.Stream.{Stream}
-use Rattle.meaning.specs.Loops.{stepOf, increment}
+use Rattle.meaning.specs.Loops.{stepOf, placeOf, increment}
 use Rattle.meaning.specs.Space.{boxOf, space, count, first, last}
 use Rattle.meaning.specs.Streams.{stationary, pass}
-use Rattle.meaning.specs.Pipes.{reach, pipeElements, ahead, soak, drain}
+use Rattle.meaning.specs.Pipes.{reach, pipeElements, soak, drain}
+use Rattle.meaning.specs.Points.{Within, Inside}
+use Rattle.meaning.specs.Demand2.{Adjacent}
 use Rattle.geometry.specs.Numbers.{lt-le, beyond, shift-shift, zero-shift3}
-use Rattle.geometry.specs.Places.{getD-ahead}
+use Rattle.geometry.specs.Places.{ahead, getD-in, getD-ahead}
 use Rattle.geometry.specs.Lines.{Ahead, along, ahead-of}
-use Rattle.geometry.specs.Instances.{Within}
-use Rattle.geometry.specs.Boxes.{Inside}
 use Rattle.geometry.specs.Segments.{convex, first-at, last-at, segment}
 use Rattle.geometry.specs.Processes.{Layout, RunAt, computing-count}
 use Rattle.geometry.specs.BoxLines.{line-at}
-use Rattle.geometry.specs.Pipes.{Accepted, OnePipe, in-space, same-elements, touched-in}
-use Rattle.geometry.specs.Moving.{pipe-line, index-is, length-is, total-is}
+use Rattle.geometry.specs.Pipes.{Accepted, in-space, same-elements, in-on, touched-in}
+use Rattle.geometry.specs.Moving.{pipe-line, index-is, length-is}
+use Rattle.geometry.specs.Soaks.{soak-first, drain-last, total-is}
 
 -- ---- a process
-
--- w is directly before z among the instances of process y
-pub record Adjacent (n : Nest) (y : V2) (w z : V3) : Type 0 where
-  pub from : RunAt n y w
-  pub to : RunAt n y z
-  pub before : stepOf n w <ℤ stepOf n z
-  pub none : (x : V3) → RunAt n y x → stepOf n w <ℤ stepOf n x → stepOf n x <ℤ stepOf n z → ⊥
 
 module _ {n : Nest} (layout : Layout n) where
   -- (3): w + increment = z. The report keeps to increments with components −1, 0 and 1; nothing here needs that
@@ -125,7 +119,8 @@ module _ {n : Nest} {s : Stream} (h : Accepted n s) (moves : T (not (stationary 
   pub soak-report : {y : V2} {x : V3} → RunAt n y x → image (s .map) (first n y) ≡ shift2 (firstElement n s y) (pos (soak n s y)) (pass n s)
   soak-report {y} a =
       let f = first-at (h .layout .dirs) a in
-      sym (element-of f) ∙ element-on a (soak n s y) (omega (arith, total-is h moves a, computing-count (h .layout) a))
+      sym (element-of f) ∙ ap (λ (k : ℕ). getD (pipeElements n s y) k zero2) (sym (soak-first h a))
+      ∙ element-on a (soak n s y) (omega (arith, total-is h moves a, computing-count (h .layout) a))
 
   -- (9): drain = (last_s − M last) // increment_s
   pub drain-report : {y : V2} {x : V3} → RunAt n y x → lastElement n s y ≡ shift2 (image (s .map) (last n y)) (pos (drain n s y)) (pass n s)
@@ -135,19 +130,24 @@ module _ {n : Nest} {s : Stream} (h : Accepted n s) (moves : T (not (stationary 
       = omega (arith, index-is h moves l, length-is h moves l) in
       let i = ahead (image (s .map) (last n y)) (pipeElements n s y) in
       element-on a (length (pipeElements n s y) - 1) (omega arith)
-      ∙ ap (λ (k : ℕ). shift2 (firstElement n s y) (pos k) (pass n s)) (sum (length (pipeElements n s y)) i c)
+      ∙ ap (λ (k : ℕ). shift2 (firstElement n s y) (pos k) (pass n s)) (sum (length (pipeElements n s y)) i (drain n s y) c (drain-last h a))
       ∙ sym (shift-shift (firstElement n s y) (pass n s) (pos i) (pos (drain n s y)))
       ∙ ap (λ (w : V2). shift2 w (pos (drain n s y)) (pass n s)) (sym (element-on a i c) ∙ element-of l)
     where
-      sum : (l i : ℕ) → i < l → l - 1 ≡ i + (l - suc i)
-      sum l i h = omega arith
+      sum : (l i k : ℕ) → i < l → k ≡ l - suc i → l - 1 ≡ i + k
+      sum l i k h e = omega arith
+
+  -- so of any pipe that has an element
+  pub element-from : {y : V2} → Inside (space n) y → (i : ℕ) → i < length (pipeElements n s y)
+      → getD (pipeElements n s y) i zero2 ≡ shift2 (firstElement n s y) (pos i) (pass n s)
+  element-from {y} hy i l =
+      let o = in-on h hy (getD-in (pipeElements n s y) i zero2 l) in
+      let a : RunAt n (placeOf n (o .by)) (o .by) = record { within = o .at .within; to = refl } in
+      subst (λ (es : List V2). (i : ℕ) → i < length es → getD es i zero2 ≡ shift2 (getD es 0 zero2) (pos i) (pass n s))
+      (same-elements h hy (in-space h a) (o .place)) (element-on a) i l
 
   -- (10): the soak of a null process, which is the number of its pipe's elements, = ((last_s − first_s) // increment_s) + 1. Where its line has no
   -- computing process there is no pipe: document 01 has 0 there, `no-pipe` of Pipes, and the report says nothing
-  pub null-report : {y y' : V2} {x : V3} → Inside (space n) y → RunAt n y' x → OnePipe n s y y'
-      → (k : ℕ) × (lastElement n s y ≡ shift2 (firstElement n s y) (pos k) (pass n s)) × (length (pipeElements n s y) ≡ k + 1)
-  null-report {y} {y'} hy a o =
-      let e = same-elements h hy (in-space h a) o in
-      let c : 0 < length (pipeElements n s y') = omega (arith, total-is h moves a, computing-count (h .layout) a) in
-      subst (λ (l : List V2). (k : ℕ) × (getD l (length l - 1) zero2 ≡ shift2 (getD l 0 zero2) (pos k) (pass n s)) × (length l ≡ k + 1)) e
-      (length (pipeElements n s y') - 1, element-on a (length (pipeElements n s y') - 1) (omega arith), omega arith)
+  pub null-report : {y : V2} → Inside (space n) y → 0 < length (pipeElements n s y)
+      → (k : ℕ) × (lastElement n s y ≡ shift2 (firstElement n s y) (pos k) (pass n s)) × (length (pipeElements n s y) ≡ suc k)
+  null-report {y} hy c = (length (pipeElements n s y) - 1, element-from hy (length (pipeElements n s y) - 1) (omega arith), omega arith)

@@ -1,5 +1,5 @@
 -- Row order as numbers: `rowIndex` and the list of a box's points determine each other. Assumes nothing.
-use mathlib.Core.Path.{_≡_, refl, sym, _∙_, ap, subst}
+use mathlib.Core.Path.{_≡_, sym, _∙_, ap, subst}
 use mathlib.Core.List.{List, map}
 use Prim.Native.Nat.{ℕ, zero, suc, _+_, _*_, _<_}
 use native.Mathlib.Nat.{mul-le-mul-right}
@@ -13,16 +13,12 @@ use Rattle.integers.specs.Vectors.{same2}
 use Rattle.integers.specs.declared.V2.{V2}
 use Rattle.meaning.specs.Loops.{walk, size, loop}
 use Rattle.meaning.specs.Space.{Box, points, rowIndex}
+use Rattle.meaning.specs.Points.{Between, Inside}
 use Rattle.geometry.specs.Members.{map-at, each-length, each-at, total-same}
 use Rattle.geometry.specs.Numbers.{zero-on}
 use Rattle.geometry.specs.Places.{getD-in, distinct-at}
-use Rattle.geometry.specs.Instances.{next, Between}
-use Rattle.geometry.specs.Boxes.{Inside, row-distinct, points-inside, points-sorted}
-
-walk-length : (a d : ℤ) (n : ℕ) → length (walk a d n) ≡ n
-unfolding walk
-walk-length a d zero = refl
-walk-length a d (suc n) = ap suc (walk-length (a +ℤ d) d n)
+use Rattle.geometry.specs.Instances.{next, walk-length}
+use Rattle.geometry.specs.Boxes.{row-distinct, points-inside, points-sorted}
 
 walk-at : (a d : ℤ) (n i : ℕ) (z : ℤ) → i < n → getD (walk a d n) i z ≡ a +ℤ pos i *ℤ d
 unfolding walk

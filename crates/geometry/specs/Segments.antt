@@ -13,15 +13,18 @@ use Rattle.integers.specs.declared.V3.{V3}
 use Rattle.integers.specs.declared.V2.{V2}
 use Rattle.integers.specs.declared.Matrix.{Matrix}
 use Rattle.meaning.specs.declared.Nest.{Nest}
+use Rattle.meaning.specs.Lists.{bestOr}
 use Rattle.meaning.specs.Loops.{instances, stepOf}
 use Rattle.meaning.specs.Space.{eq2, boxOf, sentTo, countOf, sooner, later, firstOf, lastOf}
-use Rattle.geometry.specs.Members.{in-filter, filter-in}
-use Rattle.geometry.specs.Sorting.{Distinct, sorted-filter, counted}
+use Rattle.meaning.specs.Points.{IsLine as Line, Directed, Within, Inside, At}
+use Rattle.meaning.specs.Sorted.{Distinct}
+use Rattle.geometry.specs.Members.{in-filter, filter-in, no-members}
+use Rattle.geometry.specs.Sorting.{sorted-filter, counted}
 use Rattle.geometry.specs.Best.{bestOr-in, bestOr-le}
 use Rattle.geometry.specs.Numbers.{eq2-eq, eq-eq2, lt-le}
-use Rattle.geometry.specs.Lines.{Line, Ahead, along, ahead-of, ahead-le, one-along}
-use Rattle.geometry.specs.Instances.{Directed, Within, within-in, in-within, distinct}
-use Rattle.geometry.specs.Boxes.{Inside, between-on, box-has}
+use Rattle.geometry.specs.Lines.{Ahead, along, ahead-of, ahead-le, one-along}
+use Rattle.geometry.specs.Instances.{within-in, in-within, distinct}
+use Rattle.geometry.specs.Boxes.{between-on, box-has}
 
 -- ---- the bounds are convex
 
@@ -35,11 +38,6 @@ convex n f u i t h j k =
     }
 
 -- ---- first and last
-
--- x is an instance that m sends to y
-pub record At (n : Nest) (m : Matrix) (y : V2) (x : V3) : Type 0 where
-  pub within : Within n x
-  pub to : image m x ≡ y
 
 -- those that are sent to a point, each once
 pub sent-distinct : {n : Nest} → Directed n → (m : Matrix) (y : V2) → Distinct (sentTo n m y)
@@ -81,6 +79,13 @@ module _ {n : Nest} (dirs : Directed n) {m : Matrix} where
   last-greatest {y} h =
       bestOr-le (later n) (λ u v. stepOf n v ≤ℤ stepOf n u) (λ u. ≤ℤ-refl (stepOf n u)) (λ u v w p q. omega (arith, zrules))
       (λ u v t. lt-le (record { lt = t })) (λ u v t. ltZ-no t) zero3 (sentTo n m y) (at-in h)
+
+  -- without one there is none, and both are zero
+  pub none-first : {y : V2} → ((x : V3) → At n m y x → ⊥) → (firstOf n m y ≡ zero3) × (lastOf n m y ≡ zero3)
+  unfolding firstOf lastOf bestOr
+  none-first {y} f =
+      let e = no-members (sentTo n m y) (λ x i. f x (in-at y x i)) in
+      (ap (bestOr zero3 (sooner n)) e, ap (bestOr zero3 (later n)) e)
 
 -- ---- G1: they are a whole segment
 

@@ -8,18 +8,10 @@ use Prim.Native.Nat.{ℕ, zero, suc, _≤_, _<_}
 use native.Mathlib.Omega.{arith}
 use lib.ListN.{length, length-map}
 use Rattle.meaning.specs.Lists.{filter, each, numbersFrom, numbers}
+use Rattle.meaning.specs.Sorted.{Sorted, Sorted.none, Sorted.more, Distinct}
 use Rattle.geometry.specs.Members.{filter-in, map-in, each-in, numbers-in, in-numbers, numbers-length}
 
 module _ {A : Type 0} where
-  -- each member stands in R to all behind it
-  pub data Sorted (R : A → A → Type 0) : List A → Type 0 where
-    none : Sorted R []
-    more : {x : A} {l : List A} → ((y : A) → In y l → R x y) → Sorted R l → Sorted R (x ∷ l)
-
-  -- no member twice
-  abbrev pub Distinct : List A → Type 0
-  Distinct l = Sorted (λ x y. x ≡ y → ⊥) l
-
   -- another order that the first implies
   pub sorted-map : {R S : A → A → Type 0} → ((x y : A) → R x y → S x y) → {l : List A} → Sorted R l → Sorted S l
   sorted-map f none = none

@@ -22,9 +22,8 @@ use Rattle.meaning.specs.declared.Sizes.{Sizes}
 use Rattle.meaning.specs.Loops.{size}
 use Rattle.meaning.specs.Space.{Box, rowIndex, boxOf}
 use Rattle.meaning.specs.Description.{unit3, nestOf, streamOf}
+use Rattle.meaning.specs.Points.{IsLine as Line, Precedes, Directed, Within, Inside, Earlier, Earlier.by-outer, Earlier.by-middle, Earlier.by-inner}
 use Rattle.geometry.specs.Numbers.{yes-cond}
-use Rattle.geometry.specs.Lines.{Line}
-use Rattle.geometry.specs.Instances.{Precedes, Directed, Within, Earlier, Earlier.by-outer, Earlier.by-middle, Earlier.by-inner}
 use Rattle.geometry.specs.Boxes.{box-basis}
 
 -- a matrix that is one row of two numbers, and a nest of two loops
@@ -54,12 +53,12 @@ flat-stream s z i e = (record { top = two z _ _ e; low = two z _ _ e }, two z _ 
 
 -- ---- instances, places, elements
 
+pinched : (a l r : ℤ) → l ≡ pos 0 → r ≡ pos 0 → l ≤ℤ a → a ≤ℤ r → a ≡ pos 0
+pinched = linear 0 3 _ λ p m. simp gaps (omega arith)
+
 -- an instance has no third coordinate to speak of
 pub no-third : {n : Nest} → Planar n → {x : V3} → Within n x → x .z ≡ pos 0
-no-third h {x} w = go (x .z) _ _ (h .left) (h .right) (w .inz .lo) (w .inz .hi)
-  where
-    go : (a l r : ℤ) → l ≡ pos 0 → r ≡ pos 0 → l ≤ℤ a → a ≤ℤ r → a ≡ pos 0
-    go = linear 0 3 _ λ p m. simp gaps (omega arith)
+no-third h {x} w = pinched (x .z) _ _ (h .left) (h .right) (w .inz .lo) (w .inz .hi)
 
 -- the second coordinate of a place or an element is the third loop's, so 0
 pub no-second : {m : Matrix} → Flat m → (x : V3) → image m x .b ≡ x .z
@@ -74,6 +73,9 @@ pub low-box : {n : Nest} {m : Matrix} → Planar n → Flat m → Directed n →
 low-box {n} {m} h f d w =
     let k = box-basis d m w in
     (k .lob .is ∙ no-second f (k .lob .by) ∙ no-third h (k .lob .within), k .hib .is ∙ no-second f (k .hib .by) ∙ no-third h (k .hib .within))
+
+pub low-point : {n : Nest} {m : Matrix} → Planar n → Flat m → Directed n → {x : V3} → Within n x → {p : V2} → Inside (boxOf n m) p → p .b ≡ pos 0
+low-point h f d w {p} i = let k = low-box h f d w in pinched (p .b) _ _ (k .0) (k .1) (i .inb .lo) (i .inb .hi)
 
 -- and row order is the order of the first coordinate
 pub flat-row : (k : Box) (p : V2) → k .lo .b ≡ pos 0 → k .hi .b ≡ pos 0 → p .b ≡ pos 0 → rowIndex k p ≡ up (p .a -ℤ k .lo .a)

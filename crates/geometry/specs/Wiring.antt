@@ -18,16 +18,17 @@ use Rattle.meaning.specs.Lists.{filter, total}
 use Rattle.meaning.specs.Loops.{instances, placeOf}
 use Rattle.meaning.specs.Space.{boxOf, space, processes, count, first, computing}
 use Rattle.meaning.specs.Streams.{line, stationary, move, hop, elements}
-use Rattle.meaning.specs.Pipes.{pipe, before, isPipe, isEntry, entries, pipeElements, ahead, soak, drain}
+use Rattle.meaning.specs.Pipes.{pipe, before, isPipe, isEntry, entries, pipeElements, soak, drain}
+use Rattle.meaning.specs.Points.{Within, Earlier, Inside}
 use Rattle.geometry.specs.Members.{filter-in, any-yes}
 use Rattle.geometry.specs.Numbers.{and-right, zero-shift}
-use Rattle.geometry.specs.Places.{getD-in, getD-ahead, ahead-getD, rank, ahead-filter}
-use Rattle.geometry.specs.Instances.{Within, Earlier, in-within, number-earlier}
-use Rattle.geometry.specs.Boxes.{Inside, inside-points}
+use Rattle.geometry.specs.Places.{ahead, getD-in, getD-ahead, ahead-getD, rank, ahead-filter}
+use Rattle.geometry.specs.Instances.{in-within, number-earlier}
+use Rattle.geometry.specs.Boxes.{inside-points}
 use Rattle.geometry.specs.Segments.{at-box, first-at}
 use Rattle.geometry.specs.Processes.{RunAt, runAt, firingOf, firing-lt, instance-firing, instance-at, computes}
-use Rattle.geometry.specs.Pipes.{Accepted, OnePipe, flip-pipe, join-pipe, in-space, in-pipe, pipe-self, same-pipe, same-elements, still-element, in-on, touched-in, soak-rank, still-length, still-total}
-use Rattle.geometry.specs.Moving.{element-index, element-at, total-is}
+use Rattle.geometry.specs.Pipes.{Accepted, OnePipe, flip-pipe, join-pipe, in-space, in-pipe, pipe-self, same-pipe, same-elements, still-element, in-on, touched-in, still-length}
+use Rattle.geometry.specs.Soaks.{soak-first, soak-rank, still-total, element-index, element-at, total-is}
 use Rattle.geometry.specs.Positions.{pipe-distinct, before-is, pipe-length, pipe-at, at-inside, at-pipe, before-at, pipe-next, hop-positive}
 use Rattle.geometry.specs.Clock.{Clock, clock-from, clock}
 use Rattle.geometry.specs.Elements.{entryOf, homeOf, indexOf, entry-pipe, entry-is, one-entry, entries-entry, entry-in, elements-distinct, home-in, home-is, pipes-total, index-lt, element-home, home-element}
@@ -218,13 +219,15 @@ module _ {n : Nest} {s : Stream} (h : Accepted n s) where
             let f = first-at (h .layout .dirs) b in
             still-element h still (first n p) (runAt n p i) (f .to ∙ sym (b .to))
             ∙ sym (ap (λ (r : List V2). getD r (soak n s p) zero2) (entry-elements (in-space h b))
+            ∙ ap (λ (k : ℕ). getD (pipeElements n s p) k zero2) (soak-first h b)
             ∙ getD-ahead (image (s .map) (first n p)) zero2 (touched-in h f));
         touches-kept = λ x y j w i l e.
             let r = there-is x y j w i l e in
             let p = placeOf n x in
             let b : RunAt n p x = record { within = w; to = refl } in (
               r .0,
-              ap (λ (e : V2). ahead e (pipeElements n s p)) (sym (still-element h still (first n p) x (first-at (h .layout .dirs) b .to))) ∙ r .1,
+              soak-first h b
+                  ∙ ap (λ (e : V2). ahead e (pipeElements n s p)) (sym (still-element h still (first n p) x (first-at (h .layout .dirs) b .to))) ∙ r .1,
             );
       }
 

@@ -1,17 +1,18 @@
 // The geometry of an accepted description. Theory only: nothing here runs. The lemmas are numbered as in docs/PROMISES.md: L for lattice facts, G for
 // geometry.
 //
-//   the whole          `geometry` of Geometry: demand 2's mathematics, from "no refusal applies" alone, whatever the limits
-//   increment, lines   Lines: `line-is`, `line-shortest`, `line-unique`; `not-sent` (L4), `one-line` (L5), `coordinates`, `determined` (G3);
+//   increment, lines   Lines: `line-is`, `line-steps`, `line-shortest`, `line-unique`; `not-sent` (L4), `one-line` (L5), `coordinates`, `determined` (G3);
 //                      of a stream: `passes`, `still-line` of Pipes
-//   instances          Instances: `within-in`, `in-within`, `distinct`, `number-earlier`, `earlier-number`: the points in the bounds, in order
+//   instances          Instances: `within-in`, `in-within`, `distinct`, `number-earlier`, `earlier-number`: the points in the bounds, in order;
+//                      `instances-length`: how many
 //   processes          Segments: `segment`, `numbered`, `instance` (G1); Processes: `instance-firing`, `firing-instance`, .. (G2);
-//                      Firings: `runs-are`; Passes: `demand2`: every pass of the loops is run by one processor; Counts: `counts-total`
+//                      Firings: `runs-are`; Passes: `every-pass`: every pass of the loops is run by one processor; Counts: `counts-total`
 //   boxes              Boxes: `inside-points`, `points-sorted`, `box-basis`, `box-least`; RowOrder: `row-at`, `row-number`
-//   pipes              Pipes: `one-pipe` (G4), `same-pipe`, `on-in`, `in-on`, `soak-rank`, `still-total` (G6), `no-pipe`;
-//                      Positions: `pipe-at`, `pipe-next`, `before-at`
-//   elements           Moving: `pipe-line`, `soak-is`, `drain-is`, `element-at`, `total-is` (G5); Elements: `home-in`, `home-is`, `pipes-total`,
-//                      `home-element`, `waiting-number`, `number-waiting` (G7); over all streams PipeOrder
+//   pipes              Pipes: `one-pipe` (G4), `same-pipe`, `on-in`, `in-on`, `no-pipe`; Positions: `pipe-at`, `pipe-next`, `before-at`
+//   elements           Moving: `pipe-line` (G5); Elements: `entry-before`, `home-in`, `home-is`, `pipes-total`, `home-element`, `waiting-number`,
+//                      `number-waiting` (G7); over all streams PipeOrder; PipeLists: `pipe-elements`, `pipe-ends`, `soaks`: as demand 2 speaks of them
+//   soak and drain     Soaks: `soak-first`, `drain-last`; of a moving stream `soak-is`, `drain-is`, `element-at`, `total-is` (G5), of a stationary one
+//                      `soak-rank`, `still-total` (G6)
 //   the clock          Clock: `clock` (G8)
 //   written order      Order: `step-earlier`, `earlier-step`, `written-moving`, `written-still` (G9)
 //   the report         Report: equations (3), (4), (8), (9), (10); (2) is `box-basis` of Boxes

@@ -13,8 +13,8 @@ use Rattle.meaning.specs.Description.{noStream, streamsOf}
 use Rattle.meaning.specs.Body.{streamStart}
 use Rattle.meaning.specs.Array.{arrayOf, elementsOn}
 use Rattle.meaning.specs.Rules.{streamOn}
-use Rattle.meaning.specs.Demands.{instanceNumber}
-use Rattle.geometry.specs.Boxes.{Inside, box-has, points-inside}
+use Rattle.meaning.specs.Points.{Inside}
+use Rattle.geometry.specs.Boxes.{box-has, points-inside}
 use Rattle.geometry.specs.RowOrder.{row-lt}
 use Rattle.geometry.specs.Descriptions.{Laid}
 use Rattle.geometry.specs.Wiring.{wired}
@@ -22,7 +22,7 @@ use Rattle.geometry.specs.Arrays.{streamAt, pipe-is}
 use Rattle.network.specs.Lists.{total-next}
 use Rattle.network.specs.Wiring.{element-pipe, elementAt}
 use Rattle.network.specs.Plain.{Among}
-use Rattle.guarantee.specs.Instances.{instanceCount, within}
+use Rattle.guarantee.specs.Instances.{instanceNumber, instanceCount, within}
 use Rattle.guarantee.specs.Stops.{stream-is, element-is, elements-length}
 use Rattle.guarantee.specs.Touches.{touchedAt}
 

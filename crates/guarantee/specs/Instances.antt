@@ -17,12 +17,12 @@ use Rattle.meaning.specs.Lists.{position, total, numbers}
 use Rattle.meaning.specs.Loops.{instances, placeOf}
 use Rattle.meaning.specs.Space.{rowIndex, space, processes, count}
 use Rattle.meaning.specs.Array.{runs, Array, arrayOf, runsOf, countAt, instanceAt, processCount}
-use Rattle.meaning.specs.Demands.{instanceNumber}
+use Rattle.meaning.specs.Points.{Within, Inside}
 use Rattle.geometry.specs.Members.{map-at, numbers-length, numbers-at}
 use Rattle.geometry.specs.Numbers.{and-left, and-right, both}
 use Rattle.geometry.specs.Places.{getD-in, found, distinct-at, position-is}
-use Rattle.geometry.specs.Instances.{Within, within-in, in-within, distinct}
-use Rattle.geometry.specs.Boxes.{Inside, points-inside, box-has}
+use Rattle.geometry.specs.Instances.{within-in, in-within, distinct}
+use Rattle.geometry.specs.Boxes.{points-inside, box-has}
 use Rattle.geometry.specs.RowOrder.{row-at, row-lt, row-number}
 use Rattle.geometry.specs.Processes.{runAt, firingOf, firing-lt, instance-firing, instance-at, firing-instance}
 use Rattle.geometry.specs.Firings.{runs-length, runs-at}
@@ -32,6 +32,10 @@ use Rattle.geometry.specs.Descriptions.{Laid}
 use Rattle.geometry.specs.Arrays.{one-number}
 use Rattle.network.specs.Cases.{Order, less, atLeast, order}
 use Rattle.guarantee.specs.Sums.{total-map, total-ext, total-numbers}
+
+-- the i-th instance of the written order
+abbrev pub instanceNumber : Description → ℕ → V3
+instanceNumber d i = getD (instances (d .nest)) i zero3
 
 module _ (d : Description) where
   abbrev pub instanceCount : ℕ

@@ -1,4 +1,8 @@
 -- What holds of an accepted array; src/lib.rt lists the theorems.
+pub mod Refusals
+pub mod WordConditions
+pub mod NestConditions
+pub mod StreamConditions
 pub mod Acceptance
 pub mod Sums
 pub mod Instances
@@ -8,4 +12,8 @@ pub mod Touches
 pub mod Times
 pub mod Wired
 pub mod Elements
+pub mod Beyond
+pub mod Demand1
+pub mod TableRows
+pub mod Demand2
 pub mod Guarantee

@@ -22,10 +22,10 @@ use Rattle.meaning.specs.Description.{noStream, streamsOf}
 use Rattle.meaning.specs.Body.{streamStart}
 use Rattle.meaning.specs.Array.{Stop, Pipe, stopOf, pipeOf, Array, arrayOf, countAt, instanceAt, processCount, streamCount, pipeNumber, noStop, pipeAt, stopsOn, elementsOn, stopAt, isStop, pipeThrough, onPipe, placeOn}
 use Rattle.meaning.specs.Rules.{processOn, streamOn}
+use Rattle.meaning.specs.Points.{Inside}
 use Rattle.geometry.specs.Members.{map-at, yes-any}
 use Rattle.geometry.specs.Numbers.{decide, both, yes-cond, no-cond}
 use Rattle.geometry.specs.Places.{getD-in}
-use Rattle.geometry.specs.Boxes.{Inside}
 use Rattle.geometry.specs.RowOrder.{row-lt}
 use Rattle.geometry.specs.Processes.{runAt}
 use Rattle.geometry.specs.Pipes.{Accepted, same-elements}

@@ -13,12 +13,11 @@ use Rattle.meaning.specs.Body.{touchedBy}
 use Rattle.meaning.specs.Description.{descriptionOf, streamsOf, written}
 use Rattle.meaning.specs.Accept.{refusalOf}
 use Rattle.meaning.specs.Array.{arrayOf, instanceAt, streamCount}
-use Rattle.meaning.specs.Demands.{instanceNumber}
 use Rattle.geometry.specs.Descriptions.{Laid, laid}
 use Rattle.geometry.specs.Arrays.{pipe-is}
 use Rattle.network.specs.Wiring.{writes, Wired, stop-pipe}
 use Rattle.guarantee.specs.Acceptance.{some-stream}
-use Rattle.guarantee.specs.Instances.{instanceCount, owner, firing, instanceOf, instance-of, instance-back, instance-same, instances-add}
+use Rattle.guarantee.specs.Instances.{instanceNumber, instanceCount, owner, firing, instanceOf, instance-of, instance-back, instance-same, instances-add}
 use Rattle.guarantee.specs.Stops.{some-element, uses-within, process-lt, stream-lt, hop-is, pipe-through, place-is, on-all}
 use Rattle.guarantee.specs.Touches.{touchedAt, touched-by, touch, find, meets}
 use Rattle.guarantee.specs.Times.{timeFrom, pace, pace-positive, time-rises, early}

@@ -2,3 +2,4 @@
 pub mod Gcd
 pub mod Shorten
 pub mod Lattice
+pub mod Independence

@@ -4,7 +4,7 @@ use mathlib.Core.Bool.{Bool, false, cond, _&&_}
 use mathlib.Core.List.{List, [], _∷_, _++_, map}
 use Prim.Native.Nat.{ℕ, suc, _+_}
 use lib.Dec.{eqb, ltb}
-use lib.ListN.{length, getD, take}
+use lib.ListN.{length, getD, take, drop}
 use lib.Signed.{ltZ}
 use Rattle.integers.specs.Vectors.{zero3}
 use Rattle.integers.specs.declared.V3.{V3}
@@ -141,6 +141,10 @@ pipeOrder A = each (λ q. q .elements) (A .pipes)
 
 abbrev pub partStart : Array → ℕ → ℕ
 partStart A q = total (λ r. length (r .elements)) (take q (A .pipes))
+
+-- that part of such a list
+abbrev pub partOf : Array → ℕ → List ℕ → List ℕ
+partOf A q out = take (elementsOn A q) (drop (partStart A q) out)
 
 abbrev pub listLength : Array → ℕ
 listLength A = length (pipeOrder A)

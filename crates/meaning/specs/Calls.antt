@@ -4,7 +4,7 @@ use mathlib.Core.Bool.{Bool, true, false, not, cond, _&&_, _||_}
 use mathlib.Core.List.{List, [], _∷_, _++_, map}
 use Prim.Native.Nat.{ℕ, _+_, _*_, _-_, _^_}
 use lib.Dec.{eqb, ltb}
-use lib.ListN.{length, getD, take, drop, replicate}
+use lib.ListN.{length, getD, drop, replicate}
 use Rattle.integers.specs.declared.V2.{V2}
 use Rattle.meaning.specs.declared.Limits.{Limits}
 use Rattle.meaning.specs.declared.Stream.{Stream}
@@ -21,7 +21,7 @@ use Rattle.meaning.specs.Pipes.{drain}
 use Rattle.meaning.specs.Description.{descriptionOf, streamsOf}
 use Rattle.meaning.specs.Body.{elementCount, gather, finalValues}
 use Rattle.meaning.specs.Accept.{refusalOf, stateWords}
-use Rattle.meaning.specs.Array.{Array, arrayOf, rowSoak, processCount, streamCount, pipeNumber, elementsOn, pipeOrder, partStart, onPipe}
+use Rattle.meaning.specs.Array.{Array, arrayOf, rowSoak, processCount, streamCount, pipeNumber, elementsOn, pipeOrder, partOf, onPipe}
 use Rattle.meaning.specs.State.{Received, read}
 use Rattle.meaning.specs.Rules.{sound, Step, Send, Take, Fire, Give, Receive, Memory, ready, apply, stepsOf, anyReady, Found, at, nothing, runSteps, applyAll}
 
@@ -85,10 +85,14 @@ module _ (l : Limits) (s : List ℕ) where
     pub answer : Answer
     pub rows : List Row
 
-  -- "one row for each process, in row order. 18: fewer rows than P"
+  -- "18: fewer rows than P"
+  abbrev pub tableTests : List Row → List Test
+  tableTests rows = (18 if ltb (length rows) (length (processes (d .nest)))) ∷ []
+
+  -- "one row for each process, in row order"
   unfoldable pub table : List Row → Tabled
   table rows =
-      let n = refusedBy ((18 if ltb (length rows) (length (processes (d .nest)))) ∷ []) in
+      let n = refusedBy (tableTests rows) in
       record {
         answer = answer n;
         rows = cond (eqb n 0) (map rowOf (processes (d .nest)) ++ drop (length (processes (d .nest))) rows) rows;
@@ -111,10 +115,16 @@ module _ (l : Limits) (s : List ℕ) where
       }
 
   -- "20: values or waiting list not E long. 26: received not E long. 21: state short"
+  abbrev pub startTests : List ℕ → Memory → List Test
+  startTests values M =
+      (20 if (not (eqb (length values) (lengthOf d)) || not (eqb (length (M .waiting)) (lengthOf d))))
+      ∷ (26 if not (eqb (length (M .received)) (lengthOf d)))
+      ∷ (21 if ltb (length (M .state)) (stateLength d))
+      ∷ []
+
   unfoldable pub start : List ℕ → Memory → Left Answer
   start values M =
-      let n = refusedBy ((20 if (not (eqb (length values) (lengthOf d)) || not (eqb (length (M .waiting)) (lengthOf d))))
-      ∷ (26 if not (eqb (length (M .received)) (lengthOf d))) ∷ (21 if ltb (length (M .state)) (stateLength d)) ∷ []) in
+      let n = refusedBy (startTests values M) in
       record { answer = answer n; memory = cond (eqb n 0) (started values M) M }
 
   -- ---- STEP
@@ -148,10 +158,13 @@ module _ (l : Limits) (s : List ℕ) where
   applied M (at a) = apply A M a
 
   -- "23: no such kind, process, pipe or stream, or the process is on no pipe of that stream. 24: not ready"
+  abbrev pub stepTests : Found → Memory → List Test
+  stepTests f M = memoryTests d M ++ ((23 if isNothing f) ∷ (24 if not (readyAt (M .state) f)) ∷ [])
+
   unfoldable pub step : ℕ → ℕ → ℕ → Memory → Left Answer
   step kind number stream M =
       let f = stepOf kind number stream in
-      let n = refusedBy (memoryTests d M ++ ((23 if isNothing f) ∷ (24 if not (readyAt (M .state) f)) ∷ [])) in
+      let n = refusedBy (stepTests f M) in
       record { answer = answer n; memory = cond (eqb n 0) (applied M f) M }
 
   -- ---- RUN
@@ -181,10 +194,14 @@ module _ (l : Limits) (s : List ℕ) where
     pub answer : Readiness.Readiness
     pub words : List ℕ
 
-  -- "answers how many and the lowest (P when none). 27: fewer than 16 words"
+  -- "27: fewer than 16 words"
+  abbrev pub readyTests : List ℕ → Memory → List Test
+  readyTests words M = memoryTests d M ++ ((27 if ltb (length words) 16) ∷ [])
+
+  -- "answers how many and the lowest (P when none)"
   unfoldable pub readyCall : List ℕ → Memory → Readied
   readyCall words M =
-      let n = refusedBy (memoryTests d M ++ ((27 if ltb (length words) 16) ∷ [])) in
+      let n = refusedBy (readyTests words M) in
       let ps = numbers (processCount A) in
       record {
         answer =
@@ -200,14 +217,17 @@ module _ (l : Limits) (s : List ℕ) where
     pub refusal : ℕ
     pub part : List ℕ
 
-  -- "that pipe's part of the waiting values or of the received ones. 19: no such pipe, or a side other than 0 (waiting) or 1 (received). The part is
-  -- empty after every refusal"
+  -- "19: no such pipe, or a side other than 0 (waiting) or 1 (received)"
+  abbrev pub windowTests : ℕ → ℕ → List ℕ → List ℕ → List Test
+  windowTests pipe side waiting received = listTests d waiting received ++ ((19 if (not (ltb pipe (pipeNumber A)) || not (ltb side 2))) ∷ [])
+
+  -- "that pipe's part of the waiting values or of the received ones. The part is empty after every refusal"
   unfoldable pub window : ℕ → ℕ → List ℕ → List ℕ → Seen
   window pipe side waiting received =
-      let n = refusedBy (listTests d waiting received ++ ((19 if (not (ltb pipe (pipeNumber A)) || not (ltb side 2))) ∷ [])) in
+      let n = refusedBy (windowTests pipe side waiting received) in
       record {
         refusal = n;
-        part = cond (eqb n 0) (take (elementsOn A pipe) (drop (partStart A pipe) (cond (eqb side 0) waiting received))) [];
+        part = cond (eqb n 0) (partOf A pipe (cond (eqb side 0) waiting received)) [];
       }
 
   -- ---- RESULT
@@ -228,15 +248,22 @@ module _ (l : Limits) (s : List ℕ) where
     pub output : List ℕ
 
   -- "25: some pipe not wholly received. 28: output not E long"
+  abbrev pub resultTests : List ℕ → Memory → List Test
+  resultTests output M = memoryTests d M ++ ((25 if not (allOut (M .state))) ∷ (28 if not (eqb (length output) (lengthOf d))) ∷ [])
+
   unfoldable pub result : List ℕ → Memory → Written
   result output M =
-      let n = refusedBy (memoryTests d M ++ ((25 if not (allOut (M .state))) ∷ (28 if not (eqb (length output) (lengthOf d))) ∷ [])) in
+      let n = refusedBy (resultTests output M) in
       record { answer = answer n; output = cond (eqb n 0) (inElementOrder (M .received)) output }
 
   -- ---- PLAIN RUN
 
-  -- "writes final values in element order. 20: values not E long. 28"
+  -- "20: values not E long. 28"
+  abbrev pub plainTests : List ℕ → List ℕ → List Test
+  plainTests values output = (20 if not (eqb (length values) (lengthOf d))) ∷ (28 if not (eqb (length output) (lengthOf d))) ∷ []
+
+  -- "writes final values in element order"
   unfoldable pub plainRun : List ℕ → List ℕ → Written
   plainRun values output =
-      let n = refusedBy ((20 if not (eqb (length values) (lengthOf d))) ∷ (28 if not (eqb (length output) (lengthOf d))) ∷ []) in
+      let n = refusedBy (plainTests values output) in
       record { answer = answer n; output = cond (eqb n 0) (finalValues d values) output }

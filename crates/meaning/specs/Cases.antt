@@ -1,37 +1,38 @@
 -- Document 01's cases marked P: one table, proved together by computing the definitions on the designs' bytes.
-use mathlib.Core.Path.{_≡_}
+use mathlib.Core.Path.{_≡_, refl}
 use mathlib.Core.List.{List, [], _∷_, map}
 use Prim.Native.Nat.{ℕ}
-use lib.ListN.{replicate, drop}
+use lib.ListN.{getD, replicate, drop}
 use lib.IntN.{ℤ, pos, negsuc}
 use Rattle.integers.specs.Bytes.{bitsAt, wordAt}
-use Rattle.integers.specs.declared.V2.{V2}
 use Rattle.lattice.specs.Gcd.{gcdOf, euclid}
+use Rattle.meaning.specs.declared.Row.{Row}
 use Rattle.meaning.specs.Limits.{gaugeLimits}
 use Rattle.meaning.specs.Lists.{filter, any, every, position, best, bestOr, total, each, numbersFrom}
 use Rattle.meaning.specs.Tests.{refusal}
 use Rattle.meaning.specs.Loops.{walk, instances, lineOf, increment}
-use Rattle.meaning.specs.Space.{points, widenAll, around, boxOf, sentTo, firstOf, lastOf, first, last}
+use Rattle.meaning.specs.Space.{points, widenAll, around, boxOf, sentTo, firstOf, lastOf}
 use Rattle.meaning.specs.Streams.{hop}
-use Rattle.meaning.specs.Pipes.{stays, march, lineIn, pipe, usedOn, pipeElements, soak, drain}
+use Rattle.meaning.specs.Pipes.{stays, march, lineIn, pipe, usedOn, pipeElements}
 use Rattle.meaning.specs.Description.{nestOf, streamOf, bodyLine, descriptionOf}
 use Rattle.meaning.specs.Body.{runLines, touchedFrom, scatter, execute, executeAll}
-use Rattle.meaning.specs.Accept.{refused6, testsFrom, refusalOf, figures, accept}
+use Rattle.meaning.specs.Accept.{testsFrom, refusalOf, accept}
 use Rattle.meaning.specs.Array.{insertByStep, byStep, pipesFrom, arrayOf}
 use Rattle.meaning.specs.Rules.{moveDown, sound, writeAll, apply, firstOf as firstReady, runSteps, applyAll}
 use Rattle.meaning.specs.Answers.{acceptNumber, acceptValues}
-use Rattle.meaning.specs.Calls.{start, run, result, plainRun}
-use Rattle.meaning.specs.Comparison.{Case, _is_, naturals, number, truth, planar, eqList, agree-after}
-use Rattle.meaning.specs.Designs.{bytes, pair, polynomial, designOne, designTwo, values, nest, stream, startedOn}
+use Rattle.meaning.specs.Calls.{table, start, run, result, plainRun}
+use Rattle.meaning.specs.Comparison.{Case, _is_, naturals, number, planar, eqList, firstWrong, agree-after}
+use Rattle.meaning.specs.Designs.{bytes, pair, polynomial, designOne, designTwo, values, nest, stream, blank, startedOn}
 use Rattle.meaning.specs.Singles as Singles
 
--- c's values by the plain run, and by the network run to its end from a state of n words
+-- c's values by the plain run, and by the network run to its end from a state of n words, in two calls, which are computed sooner than one
 abbrev pub plainly : List ℕ → List ℤ
 plainly s = naturals (drop 6 (plainRun gaugeLimits s values (replicate 11 1) .output))
 
 abbrev pub byNetwork : List ℕ → ℕ → List ℤ
 byNetwork s n =
-    naturals (drop 6 (result gaugeLimits s (replicate 11 1) (run gaugeLimits s 1000 (startedOn s n) .memory) .output))
+    let half = run gaugeLimits s 60 (startedOn s n) .memory in
+    naturals (drop 6 (result gaugeLimits s (replicate 11 1) (run gaugeLimits s 1000 half .memory) .output))
 
 abbrev pub product : List ℤ
 product = naturals (4 ∷ 13 ∷ 28 ∷ 27 ∷ 18 ∷ [])
@@ -44,12 +45,13 @@ crossing k = polynomial 2 2 (pair (pos k) (pos 1)) (pair (pos 1) (pos 0)) (pair 
 abbrev slanted : List ℤ → List ℤ → List ℕ
 slanted step place = polynomial 2 2 step place (pair (pos 1) (pos 1)) (pos 0 ∷ pos 0 ∷ pos 1 ∷ [])
 
--- design one on 0..m and 0..n
-abbrev sized : ℕ → ℕ → List ℕ
-sized m n = polynomial m n (pair (pos 2) (pos 1)) (pair (pos 1) (pos 0)) (pair (pos 1) (pos 1)) (pos 1 ∷ pos 0 ∷ pos 0 ∷ [])
+-- design one on 0..m and 0..n with place p times i
+abbrev sized : ℤ → ℕ → ℕ → List ℕ
+sized p m n = polynomial m n (pair (pos 2) (pos 1)) (pair p (pos 0)) (pair (pos 1) (pos 1)) (pos 1 ∷ pos 0 ∷ pos 0 ∷ [])
 
-abbrev processOne : V2
-processOne = record { a = pos 1; b = pos 0 }
+-- row 1 of Table
+abbrev processOne : Row
+processOne = getD (table gaugeLimits designOne (replicate 3 blank) .rows) 1 blank
 
 abbrev pub cases : List Case
 cases =
@@ -60,10 +62,10 @@ cases =
     ∷ (number (hop (nest designOne) (stream designOne 1)) is number 2)
     ∷ (number (hop (nest designTwo) (stream designTwo 1)) is number 2)
     -- design one, process 1: first (1,0), last (1,2), c soak 1 and drain 1
-    ∷ (planar (first (nest designOne) processOne) is pair (pos 1) (pos 0))
-    ∷ (planar (last (nest designOne) processOne) is pair (pos 1) (pos 2))
-    ∷ (number (soak (nest designOne) (stream designOne 2) processOne) is number 1)
-    ∷ (number (drain (nest designOne) (stream designOne 2) processOne) is number 1)
+    ∷ (planar (processOne .first) is pair (pos 1) (pos 0))
+    ∷ (planar (processOne .last) is pair (pos 1) (pos 2))
+    ∷ (number (getD (processOne .soak) 2 0) is number 1)
+    ∷ (number (getD (processOne .drain) 2 0) is number 1)
     -- state words 61, steps 97 in design one; design two takes 141 steps
     ∷ (naturals (acceptValues (accept gaugeLimits designOne)) is naturals (3 ∷ 9 ∷ 11 ∷ 3 ∷ 61 ∷ 97 ∷ []))
     ∷ (naturals (acceptValues (accept gaugeLimits designTwo)) is naturals (5 ∷ 9 ∷ 11 ∷ 3 ∷ 95 ∷ 141 ∷ []))
@@ -73,20 +75,21 @@ cases =
     -- design two with place i−j is 13; with place 2i+j and step 3i+j it is 9
     ∷ (number (acceptNumber (accept gaugeLimits (slanted (pair (pos 2) (pos 1)) (pair (pos 1) (negsuc 0))))) is number 13)
     ∷ (number (acceptNumber (accept gaugeLimits (slanted (pair (pos 3) (pos 1)) (pair (pos 2) (pos 1))))) is number 9)
-    -- bounds 0..63 twice pass 6; 0..63 and 0..64 are 6
-    ∷ (truth (refused6 gaugeLimits (nest (sized 63 63))) is number 0)
-    ∷ (number (acceptNumber (accept gaugeLimits (sized 63 64))) is number 6)
+    -- bounds 0..63 twice pass 6: with place 0 Accept answers 7, which comes after 6; 0..63 and 0..64 are 6
+    ∷ (number (acceptNumber (accept gaugeLimits (sized (pos 0) 63 63))) is number 7)
+    ∷ (number (acceptNumber (accept gaugeLimits (sized (pos 0) 63 64))) is number 6)
+    ∷ (number (acceptNumber (accept gaugeLimits (sized (pos 1) 63 64))) is number 6)
     -- design one with c's map i−j and step 7i+j gives c hop 8; step 8i+j is 14
     ∷ (number (hop (nest (crossing 7)) (stream (crossing 7) 2)) is number 8)
     ∷ (number (acceptNumber (accept gaugeLimits (crossing 7))) is number 0)
     ∷ (number (acceptNumber (accept gaugeLimits (crossing 8))) is number 14)
     -- design one with bounds 0..0 takes 13 steps
-    ∷ (number (figures (descriptionOf (sized 0 0)) .steps) is number 13)
+    ∷ (number (getD (acceptValues (accept gaugeLimits (sized (pos 1) 0 0))) 5 0) is number 13)
     -- and the same c by the network, which takes longest to compute
     ∷ (byNetwork designOne 61 is product)
     ∷ (byNetwork designTwo 95 is product)
     ∷ []
 
 pub proved : map (λ c. c .got) cases ≡ map (λ c. c .wanted) cases
-unfolding eqList bytes bitsAt wordAt gcdOf euclid filter any every position best bestOr total each numbersFrom refusal walk instances lineOf points widenAll around boxOf sentTo firstOf lastOf stays march lineIn pipe usedOn pipeElements nestOf streamOf bodyLine descriptionOf runLines touchedFrom scatter execute executeAll testsFrom refusalOf accept insertByStep byStep pipesFrom arrayOf moveDown sound writeAll apply firstReady runSteps applyAll start run result plainRun
-proved = agree-after Singles.proved cases tt
+unfolding eqList firstWrong bytes bitsAt wordAt gcdOf euclid filter any every position best bestOr total each numbersFrom refusal walk instances lineOf points widenAll around boxOf sentTo firstOf lastOf stays march lineIn pipe usedOn pipeElements nestOf streamOf bodyLine descriptionOf runLines touchedFrom scatter execute executeAll testsFrom refusalOf accept insertByStep byStep pipesFrom arrayOf moveDown sound writeAll apply firstReady runSteps applyAll table start run result plainRun
+proved = agree-after Singles.proved cases refl

@@ -1,12 +1,13 @@
 -- Document 01's designs as a user gives them, bytes, and what the cases lend to a call.
 use mathlib.Core.List.{List, [], _∷_, _++_}
 use Prim.Native.Nat.{ℕ, _/_, _%_}
-use lib.ListN.{getD, replicate}
+use lib.ListN.{length, getD, replicate}
 use lib.IntN.{ℤ, pos, negsuc}
 use mir.Syntax.{w32}
 use mir.Val.{ofZ}
 use Rattle.meaning.specs.declared.Nest.{Nest}
 use Rattle.meaning.specs.declared.Stream.{Stream}
+use Rattle.meaning.specs.declared.Row.{Row}
 use Rattle.meaning.specs.Limits.{gaugeLimits}
 use Rattle.meaning.specs.Description.{noStream, descriptionOf}
 use Rattle.meaning.specs.Rules.{Memory}
@@ -45,14 +46,36 @@ designTwo = polynomial 2 2 (pair (pos 2) (pos 1)) (pair (pos 1) (pos 1)) (pair (
 abbrev pub values : List ℕ
 values = 1 ∷ 2 ∷ 3 ∷ 4 ∷ 5 ∷ 6 ∷ 0 ∷ 0 ∷ 0 ∷ 0 ∷ 0 ∷ []
 
--- the matrix product of 2 by 2, three loops, step i+j+k, place (i−k, j−k): 9 processes, 2 of them null
-abbrev pub matrixProduct : List ℕ
-matrixProduct =
+-- design one with loop 0 from right to left, step −2i+j and the body scratch := a times b, c := scratch − c, whose order counts; the hop of c is 3
+abbrev pub turned : List ℕ
+turned =
     bytes
-    ((pos 3 ∷ pos 3 ∷ pos 2 ∷ pos 0 ∷ pos 0 ∷ pos 0 ∷ pos 1 ∷ pos 1 ∷ pos 1 ∷ pos 1 ∷ pos 1 ∷ pos 1 ∷ pos 1 ∷ pos 1 ∷ pos 1 ∷ [])
-    ++ ((pos 1 ∷ pos 0 ∷ negsuc 0 ∷ pos 0 ∷ pos 1 ∷ negsuc 0 ∷ [])
-    ++ ((pos 1 ∷ pos 0 ∷ pos 0 ∷ pos 0 ∷ pos 0 ∷ pos 1 ∷ []) ++ ((pos 0 ∷ pos 0 ∷ pos 1 ∷ pos 0 ∷ pos 1 ∷ pos 0 ∷ [])
+    ((pos 2 ∷ pos 3 ∷ pos 2 ∷ pos 0 ∷ pos 0 ∷ pos 2 ∷ pos 2 ∷ negsuc 0 ∷ pos 1 ∷ negsuc 1 ∷ pos 1 ∷ pos 1 ∷ pos 0 ∷ [])
+    ++ ((pos 1 ∷ pos 0 ∷ pos 0 ∷ pos 1 ∷ pos 1 ∷ pos 1 ∷ []) ++ ((pos 1 ∷ pos 0 ∷ pos 0 ∷ [])
+    ++ (pos 3 ∷ pos 3 ∷ pos 0 ∷ pos 1 ∷ pos 2 ∷ pos 2 ∷ pos 3 ∷ pos 2 ∷ []))))
+
+-- the matrix product on loops 0..1, 0..n and 0..1, step i+j+k, place as six words: streams a: (i,k), b: (k,j), c: (i,j)
+abbrev pub matrices : ℕ → List ℤ → List ℕ
+matrices n place =
+    bytes
+    ((pos 3 ∷ pos 3 ∷ pos 2 ∷ pos 0 ∷ pos 0 ∷ pos 0 ∷ pos 1 ∷ pos n ∷ pos 1 ∷ pos 1 ∷ pos 1 ∷ pos 1 ∷ pos 1 ∷ pos 1 ∷ pos 1 ∷ [])
+    ++ (place ++ ((pos 1 ∷ pos 0 ∷ pos 0 ∷ pos 0 ∷ pos 0 ∷ pos 1 ∷ []) ++ ((pos 0 ∷ pos 0 ∷ pos 1 ∷ pos 0 ∷ pos 1 ∷ pos 0 ∷ [])
     ++ ((pos 1 ∷ pos 0 ∷ pos 0 ∷ pos 0 ∷ pos 1 ∷ pos 0 ∷ []) ++ ((pos 0 ∷ pos 0 ∷ pos 0 ∷ pos 0 ∷ pos 0 ∷ pos 0 ∷ []) ++ product))))))
+
+-- 2 by 2 with place (i−k, j−k): 9 processes, 2 of them null; with place (i+k, j+k) the increment is (1,1,−1)
+abbrev pub matrixProduct : List ℕ
+matrixProduct = matrices 1 (pos 1 ∷ pos 0 ∷ negsuc 0 ∷ pos 0 ∷ pos 1 ∷ negsuc 0 ∷ [])
+
+abbrev pub matrixRising : List ℕ
+matrixRising = matrices 1 (pos 1 ∷ pos 0 ∷ pos 1 ∷ pos 0 ∷ pos 1 ∷ pos 1 ∷ [])
+
+-- and 2 by 2 times a column, place (i−k, j−k): 6 processes, 2 of them null
+abbrev pub columnProduct : List ℕ
+columnProduct = matrices 0 (pos 1 ∷ pos 0 ∷ negsuc 0 ∷ pos 0 ∷ pos 1 ∷ negsuc 0 ∷ [])
+
+-- a 1,2 above 3,4, b 5,6 above 7,8, c zeros
+abbrev pub matrixValues : List ℕ
+matrixValues = 1 ∷ 2 ∷ 3 ∷ 4 ∷ 5 ∷ 6 ∷ 7 ∷ 8 ∷ 0 ∷ 0 ∷ 0 ∷ 0 ∷ []
 
 -- of a description its nest and stream i
 abbrev pub nest : List ℕ → Nest
@@ -61,10 +84,24 @@ nest s = descriptionOf s .nest
 abbrev pub stream : List ℕ → ℕ → Stream
 stream s i = getD (descriptionOf s .streams) i noStream
 
--- lists lent as they come: full of junk
-abbrev pub lent : ℕ → Memory
-lent n = record { waiting = replicate 11 7; received = replicate 11 8; state = replicate n 9 }
+-- lent as they come, full of junk: a row, and lists for e elements with a state of n words
+abbrev pub blank : Row
+blank =
+    record {
+      point = record { a = pos 7; b = pos 7 };
+      count = 7;
+      first = record { x = pos 7; y = pos 7; z = pos 7 };
+      last = record { x = pos 7; y = pos 7; z = pos 7 };
+      soak = [];
+      drain = [];
+    }
 
--- a design started on the values, on a state of n words
+abbrev pub lent : ℕ → ℕ → Memory
+lent e n = record { waiting = replicate e 7; received = replicate e 8; state = replicate n 9 }
+
+-- a design started on some values, or on those above, on a state of n words
+abbrev pub startedWith : List ℕ → List ℕ → ℕ → Memory
+startedWith s vs n = start gaugeLimits s vs (lent (length vs) n) .memory
+
 abbrev pub startedOn : List ℕ → ℕ → Memory
-startedOn s n = start gaugeLimits s values (lent n) .memory
+startedOn s n = startedWith s values n

@@ -1,10 +1,8 @@
 -- Document 01, words of the trade: pipes, their processes and elements in order, soak and drain.
-use mathlib.Core.Bool.{Bool, cond, _&&_, _||_}
+use mathlib.Core.Bool.{Bool, not, cond, _&&_, _||_}
 use mathlib.Core.List.{List, [], _∷_, map, reverse}
-use Prim.Native.Nat.{ℕ, zero, suc, _+_, _-_}
-use lib.Dec.{eqb}
-use lib.ListN.{length}
-use lib.IntN.{pos, negℤ}
+use Prim.Native.Nat.{ℕ, zero, suc, _+_}
+use lib.IntN.{pos, negsuc, negℤ}
 use lib.Signed.{ltZ}
 use Rattle.integers.specs.Words.{eqZ}
 use Rattle.integers.specs.Vectors.{neg2, shift2, image}
@@ -13,7 +11,7 @@ use Rattle.meaning.specs.declared.Nest.{Nest}
 use Rattle.meaning.specs.declared.Stream.{Stream}
 use Rattle.meaning.specs.Lists.{filter, any, position}
 use Rattle.meaning.specs.Loops.{size}
-use Rattle.meaning.specs.Space.{Box, eq2, inside, space, processes, instancesAt, first, last, computing}
+use Rattle.meaning.specs.Space.{Box, inside, space, processes, instancesAt, first, computing}
 use Rattle.meaning.specs.Streams.{stationary, move, elements, touches, pass}
 
 -- ---- a line of points in a box
@@ -51,7 +49,7 @@ isPipe n s y = any (computing n) (pipe n s y)
 
 -- "it enters at its point whose predecessor lies outside the process space"
 abbrev pub isEntry : Nest → Stream → V2 → Bool
-isEntry n s y = eqb (before n s y) 0
+isEntry n s y = not (inside (space n) (shift2 y (negsuc 0) (move n s)))
 
 -- a stream's pipes by their entries, in row order
 abbrev pub entries : Nest → Stream → List V2
@@ -78,14 +76,11 @@ pipeElements n s y =
     cond (stationary n s) (map (λ p. image (s .map) (first n p)) (filter (computing n) (pipe n s y)))
     (cond (backward (pass n s)) (reverse (usedOn n s y)) (usedOn n s y))
 
--- ---- soak and drain: "the pipe's elements before the first and after the last that a process uses" (the report's equations (8) and (9):
--- `soak-report` and `drain-report` of geometry)
-
-abbrev pub ahead : V2 → List V2 → ℕ
-ahead e l = position (λ p. eq2 p e) l
+-- ---- soak and drain: "the pipe's elements before the first and after the last that a process uses" (those of its first and last instance: `soak-first` and
+-- `drain-last` of geometry; the report's equations (8) and (9): `soak-report` and `drain-report`)
 
 abbrev pub soak : Nest → Stream → V2 → ℕ
-soak n s y = ahead (image (s .map) (first n y)) (pipeElements n s y)
+soak n s y = position (uses n s y) (pipeElements n s y)
 
 abbrev pub drain : Nest → Stream → V2 → ℕ
-drain n s y = length (pipeElements n s y) - suc (ahead (image (s .map) (last n y)) (pipeElements n s y))
+drain n s y = position (uses n s y) (reverse (pipeElements n s y))

@@ -184,9 +184,11 @@ module _ (A : Array) where
   abbrev pub bodyAt : V3 → List ℕ → List ℕ
   bodyAt x vs = take (length vs) (runLines x (A .lines) (vs ++ (0 ∷ 0 ∷ [])))
 
+  abbrev pub fireInstance : List ℕ → ℕ → V3 → List ℕ
+  fireInstance st p x = increase (writeAll st (usedWords p) (bodyAt x (map (read A st) (usedWords p)))) (Firings p)
+
   abbrev pub doFire : List ℕ → ℕ → List ℕ
-  doFire st p =
-      increase (writeAll st (usedWords p) (bodyAt (instanceAt A p (read A st (Firings p))) (map (read A st) (usedWords p)))) (Firings p)
+  doFire st p = fireInstance st p (instanceAt A p (read A st (Firings p)))
 
   -- "every emptied place, hand or keep is 0"
   abbrev pub doGive : List ℕ → ℕ → ℕ → List ℕ

@@ -1,9 +1,9 @@
--- Figures and runs beside document 01's cases, because they hold the rules: three loops, states stopped in the middle of a run, two orders with one end.
+-- Runs beside document 01's cases, because they hold the rules: states stopped in the middle of a run, two orders with one end, three loops.
 -- The states' words are those of the second implementation.
-use mathlib.Core.Path.{_≡_}
+use mathlib.Core.Path.{_≡_, refl}
 use mathlib.Core.List.{List, [], _∷_, _++_, map, reverse}
 use Prim.Native.Nat.{ℕ, zero, suc}
-use lib.ListN.{replicate, drop}
+use lib.ListN.{replicate}
 use Rattle.integers.specs.Bytes.{bitsAt, wordAt}
 use Rattle.lattice.specs.Gcd.{gcdOf, euclid}
 use Rattle.meaning.specs.Limits.{gaugeLimits}
@@ -17,17 +17,11 @@ use Rattle.meaning.specs.Body.{runLines, touchedFrom, scatter, execute, 
 use Rattle.meaning.specs.Accept.{testsFrom, refusalOf, accept}
 use Rattle.meaning.specs.Array.{Array, insertByStep, byStep, pipesFrom, arrayOf}
 use Rattle.meaning.specs.Rules.{moveDown, sound, writeAll, Memory, Step, ready, inOrder, apply, Found, at, nothing, firstOf as firstReady, runSteps, applyAll}
-use Rattle.meaning.specs.Answers.{answerNumber, ranValues, readyValues}
-use Rattle.meaning.specs.Calls.{start, run, readyCall, window, result}
-use Rattle.meaning.specs.Comparison.{Case, _is_, naturals, number, eqList, agree-after}
-use Rattle.meaning.specs.Designs.{bytes, designOne, designTwo, startedOn}
+use Rattle.meaning.specs.Answers.{acceptValues, answerNumber, ranValues, readyValues}
+use Rattle.meaning.specs.Calls.{start, run, readyCall, window, result, plainRun}
+use Rattle.meaning.specs.Comparison.{Case, _is_, naturals, number, eqList, firstWrong, agree-after}
+use Rattle.meaning.specs.Designs.{bytes, designOne, designTwo, values, turned, columnProduct, startedWith, startedOn}
 use Rattle.meaning.specs.Cases as P
-
--- ---- runs
-
--- a design started on the values, on a state of n words, and run for k steps
-abbrev ranFor : List ℕ → ℕ → ℕ → Memory
-ranFor s n k = run gaugeLimits s k (startedOn s n) .memory
 
 -- the highest ready step first, n times
 abbrev onward : Memory → (Step → Memory) → Found → Memory
@@ -38,42 +32,69 @@ unfoldable pub backwards : Array → ℕ → Memory → Memory
 backwards A zero M = M
 backwards A (suc n) M = onward M (λ a. backwards A n (apply A M a)) (firstReady (ready A (M .state)) (reverse (inOrder A)))
 
-abbrev reversed : List ℕ → ℕ → Memory
-reversed s n = backwards (arrayOf (descriptionOf s)) 1000 (startedOn s n)
+-- ---- both designs stopped after 20 and after 60 steps; a longer state is cleared and stepped in its first words alone
 
-abbrev pub more : List Case
-more =
-    -- both designs stopped after 20 and after 60 steps of Run
-    (naturals (ranFor designOne 61 20 .state) is naturals
-    (1 ∷ 3 ∷ 1 ∷ 3 ∷ 1 ∷ 0 ∷ 2 ∷ 1 ∷ 5 ∷ 0 ∷ 6 ∷ 0 ∷ 2 ∷ 1 ∷ 0 ∷ 0 ∷ 0 ∷ 0 ∷ 0 ∷ 0 ∷ 0 ∷ 0 ∷ 2 ∷ 0 ∷ 0 ∷ 0 ∷ 0 ∷ 4 ∷ 0 ∷ 0 ∷ 0 ∷ 0 ∷ 0 ∷ 4 ∷ 0 ∷
-    0 ∷ 0 ∷ 0 ∷ 0 ∷ 0 ∷ 0 ∷ 0 ∷ 0 ∷ 0 ∷ 0 ∷ 0 ∷ 0 ∷ 0 ∷ 0 ∷ 0 ∷ 0 ∷ 3 ∷ 0 ∷ 0 ∷ 3 ∷ 0 ∷ 0 ∷ 0 ∷ 3 ∷ 0 ∷ 0 ∷ []))
-    ∷ (naturals (ranFor designOne 61 60 .state) is naturals
-    (3 ∷ 3 ∷ 3 ∷ 0 ∷ 0 ∷ 0 ∷ 3 ∷ 3 ∷ 0 ∷ 0 ∷ 0 ∷ 0 ∷ 5 ∷ 4 ∷ 0 ∷ 0 ∷ 0 ∷ 2 ∷ 3 ∷ 2 ∷ 0 ∷ 2 ∷ 0 ∷ 3 ∷ 2 ∷ 6 ∷ 0 ∷ 0 ∷ 0 ∷ 3 ∷ 3 ∷ 0 ∷ 0 ∷ 0 ∷ 0 ∷
-    2 ∷ 1 ∷ 0 ∷ 3 ∷ 0 ∷ 1 ∷ 0 ∷ 4 ∷ 0 ∷ 5 ∷ 0 ∷ 2 ∷ 1 ∷ 13 ∷ 0 ∷ 16 ∷ 3 ∷ 0 ∷ 1 ∷ 3 ∷ 0 ∷ 0 ∷ 0 ∷ 5 ∷ 0 ∷ 4 ∷ []))
-    ∷ (naturals (ranFor designTwo 95 20 .state) is naturals
-    (1 ∷ 2 ∷ 1 ∷ 2 ∷ 0 ∷ 3 ∷ 3 ∷ 2 ∷ 4 ∷ 0 ∷ 0 ∷ 0 ∷ 2 ∷ 0 ∷ 0 ∷ 4 ∷ 0 ∷ 0 ∷ 0 ∷ 0 ∷ 0 ∷ 0 ∷ 1 ∷ 0 ∷ 0 ∷ 0 ∷ 0 ∷ 6 ∷ 5 ∷ 0 ∷ 0 ∷ 0 ∷ 0 ∷ 0 ∷ 0 ∷
-    0 ∷ 0 ∷ 0 ∷ 0 ∷ 0 ∷ 0 ∷ 0 ∷ 0 ∷ 0 ∷ 0 ∷ 0 ∷ 0 ∷ 0 ∷ 0 ∷ 0 ∷ 0 ∷ 0 ∷ 0 ∷ 0 ∷ 0 ∷ 0 ∷ 0 ∷ 0 ∷ 0 ∷ 0 ∷ 0 ∷ 0 ∷ 0 ∷ 0 ∷ 0 ∷ 0 ∷ 0 ∷ 0 ∷ 0 ∷ 0 ∷
-    0 ∷ 0 ∷ 0 ∷ 0 ∷ 0 ∷ 0 ∷ 0 ∷ 0 ∷ 0 ∷ 0 ∷ 0 ∷ 0 ∷ 0 ∷ 0 ∷ 0 ∷ 3 ∷ 0 ∷ 0 ∷ 3 ∷ 0 ∷ 0 ∷ 0 ∷ 3 ∷ 0 ∷ 0 ∷ []))
-    ∷ (naturals (ranFor designTwo 95 60 .state) is naturals
-    (1 ∷ 3 ∷ 3 ∷ 0 ∷ 0 ∷ 0 ∷ 3 ∷ 3 ∷ 0 ∷ 0 ∷ 0 ∷ 0 ∷ 5 ∷ 5 ∷ 0 ∷ 0 ∷ 0 ∷ 2 ∷ 3 ∷ 2 ∷ 3 ∷ 0 ∷ 0 ∷ 3 ∷ 3 ∷ 0 ∷ 0 ∷ 0 ∷ 0 ∷ 5 ∷ 3 ∷ 4 ∷ 13 ∷ 0 ∷ 1 ∷
-    1 ∷ 0 ∷ 1 ∷ 0 ∷ 2 ∷ 1 ∷ 0 ∷ 6 ∷ 0 ∷ 5 ∷ 4 ∷ 2 ∷ 0 ∷ 0 ∷ 6 ∷ 0 ∷ 0 ∷ 0 ∷ 0 ∷ 0 ∷ 0 ∷ 0 ∷ 0 ∷ 0 ∷ 0 ∷ 0 ∷ 0 ∷ 0 ∷ 0 ∷ 0 ∷ 0 ∷ 0 ∷ 0 ∷ 0 ∷ 0 ∷
-    0 ∷ 0 ∷ 0 ∷ 0 ∷ 0 ∷ 0 ∷ 0 ∷ 0 ∷ 0 ∷ 0 ∷ 0 ∷ 0 ∷ 0 ∷ 0 ∷ 0 ∷ 3 ∷ 0 ∷ 0 ∷ 3 ∷ 0 ∷ 0 ∷ 0 ∷ 5 ∷ 0 ∷ 0 ∷ []))
-    -- what Run and Ready answer there, and that a run to the end does 97 steps and leaves none ready
-    ∷ (naturals (ranValues (run gaugeLimits designOne 20 (startedOn designOne 61) .answer)) is naturals (20 ∷ 1 ∷ []))
-    ∷ (naturals (readyValues (readyCall gaugeLimits designOne (replicate 17 5) (ranFor designOne 61 20) .answer)) is naturals (2 ∷ 0 ∷ []))
-    ∷ (naturals (readyCall gaugeLimits designOne (replicate 17 5) (ranFor designOne 61 60) .words) is naturals (2 ∷ replicate 15 0 ++ (5 ∷ [])))
-    ∷ (naturals (ranValues (run gaugeLimits designOne 1000 (startedOn designOne 61) .answer)) is naturals (97 ∷ 0 ∷ []))
-    -- a longer state is cleared and stepped in its first words alone
-    ∷ (naturals (drop 61 (ranFor designOne 64 60 .state)) is naturals (9 ∷ 9 ∷ 9 ∷ []))
-    -- the highest ready step first ends in the same words and the same received list
-    ∷ (naturals (reversed designOne 61 .state) is naturals (ranFor designOne 61 1000 .state))
-    ∷ (naturals (reversed designTwo 95 .received) is naturals (ranFor designTwo 95 1000 .received))
-    ∷ (naturals (reversed designTwo 95 .state) is naturals (ranFor designTwo 95 1000 .state))
-    -- c's part of the received values at the end; there Result finds its list too short
-    ∷ (naturals (window gaugeLimits designOne 2 1 (startedOn designOne 61 .waiting) (ranFor designOne 61 1000 .received) .part) is naturals (4 ∷ 13 ∷ 28 ∷ 27 ∷ 18 ∷ []))
-    ∷ (number (answerNumber (result gaugeLimits designOne [] (ranFor designOne 61 1000) .answer)) is number 28)
+abbrev pub one : List Case
+one =
+    let at20 = run gaugeLimits designOne 20 (startedOn designOne 64) in
+    let at60 = run gaugeLimits designOne 40 (at20 .memory) in
+    (naturals (ranValues (at20 .answer)) is naturals (20 ∷ 1 ∷ []))
+    ∷ (naturals (at20 .memory .state) is naturals
+    (1 ∷ 3 ∷ 1 ∷ 3 ∷ 1 ∷ 0 ∷ 2 ∷ 1 ∷ 5 ∷ 0 ∷ 6 ∷ 0 ∷ 2 ∷ 1 ∷ 0 ∷ 0 ∷ 0 ∷ 0 ∷ 0 ∷ 0 ∷ 0 ∷ 0 ∷ 2 ∷ 0 ∷ 0 ∷ 0 ∷ 0 ∷ 4 ∷ 0 ∷ 0 ∷ 0 ∷ 0 ∷ 0 ∷ 4 ∷ 0
+    ∷ 0 ∷ 0 ∷ 0 ∷ 0 ∷ 0 ∷ 0 ∷ 0 ∷ 0 ∷ 0 ∷ 0 ∷ 0 ∷ 0 ∷ 0 ∷ 0 ∷ 0 ∷ 0 ∷ 3 ∷ 0 ∷ 0 ∷ 3 ∷ 0 ∷ 0 ∷ 0 ∷ 3 ∷ 0 ∷ 0 ∷ 9 ∷ 9 ∷ 9 ∷ []))
+    ∷ (naturals (readyValues (readyCall gaugeLimits designOne (replicate 17 5) (at20 .memory) .answer)) is naturals (2 ∷ 0 ∷ []))
+    ∷ (naturals (at60 .memory .state) is naturals
+    (3 ∷ 3 ∷ 3 ∷ 0 ∷ 0 ∷ 0 ∷ 3 ∷ 3 ∷ 0 ∷ 0 ∷ 0 ∷ 0 ∷ 5 ∷ 4 ∷ 0 ∷ 0 ∷ 0 ∷ 2 ∷ 3 ∷ 2 ∷ 0 ∷ 2 ∷ 0 ∷ 3 ∷ 2 ∷ 6 ∷ 0 ∷ 0 ∷ 0 ∷ 3 ∷ 3 ∷ 0 ∷ 0 ∷ 0 ∷ 0
+    ∷ 2 ∷ 1 ∷ 0 ∷ 3 ∷ 0 ∷ 1 ∷ 0 ∷ 4 ∷ 0 ∷ 5 ∷ 0 ∷ 2 ∷ 1 ∷ 13 ∷ 0 ∷ 16 ∷ 3 ∷ 0 ∷ 1 ∷ 3 ∷ 0 ∷ 0 ∷ 0 ∷ 5 ∷ 0 ∷ 4 ∷ 9 ∷ 9 ∷ 9 ∷ []))
+    ∷ (naturals (readyCall gaugeLimits designOne (replicate 17 5) (at60 .memory) .words) is naturals (2 ∷ replicate 15 0 ++ (5 ∷ [])))
     ∷ []
 
+abbrev pub two : List Case
+two =
+    let at20 = run gaugeLimits designTwo 20 (startedOn designTwo 95) in
+    let at60 = run gaugeLimits designTwo 40 (at20 .memory) in
+    (naturals (at20 .memory .state) is naturals
+    (1 ∷ 2 ∷ 1 ∷ 2 ∷ 0 ∷ 3 ∷ 3 ∷ 2 ∷ 4 ∷ 0 ∷ 0 ∷ 0 ∷ 2 ∷ 0 ∷ 0 ∷ 4 ∷ 0 ∷ 0 ∷ 0 ∷ 0 ∷ 0 ∷ 0 ∷ 1 ∷ 0 ∷ 0 ∷ 0 ∷ 0 ∷ 6 ∷ 5 ∷ 0 ∷ 0 ∷ 0 ∷ 0 ∷ 0 ∷ 0
+    ∷ 0 ∷ 0 ∷ 0 ∷ 0 ∷ 0 ∷ 0 ∷ 0 ∷ 0 ∷ 0 ∷ 0 ∷ 0 ∷ 0 ∷ 0 ∷ 0 ∷ 0 ∷ 0 ∷ 0 ∷ 0 ∷ 0 ∷ 0 ∷ 0 ∷ 0 ∷ 0 ∷ 0 ∷ 0 ∷ 0 ∷ 0 ∷ 0 ∷ 0 ∷ 0 ∷ 0 ∷ 0 ∷ 0 ∷ 0 ∷ 0
+    ∷ 0 ∷ 0 ∷ 0 ∷ 0 ∷ 0 ∷ 0 ∷ 0 ∷ 0 ∷ 0 ∷ 0 ∷ 0 ∷ 0 ∷ 0 ∷ 0 ∷ 0 ∷ 3 ∷ 0 ∷ 0 ∷ 3 ∷ 0 ∷ 0 ∷ 0 ∷ 3 ∷ 0 ∷ 0 ∷ []))
+    ∷ (naturals (at60 .memory .state) is naturals
+    (1 ∷ 3 ∷ 3 ∷ 0 ∷ 0 ∷ 0 ∷ 3 ∷ 3 ∷ 0 ∷ 0 ∷ 0 ∷ 0 ∷ 5 ∷ 5 ∷ 0 ∷ 0 ∷ 0 ∷ 2 ∷ 3 ∷ 2 ∷ 3 ∷ 0 ∷ 0 ∷ 3 ∷ 3 ∷ 0 ∷ 0 ∷ 0 ∷ 0 ∷ 5 ∷ 3 ∷ 4 ∷ 13 ∷ 0 ∷ 1
+    ∷ 1 ∷ 0 ∷ 1 ∷ 0 ∷ 2 ∷ 1 ∷ 0 ∷ 6 ∷ 0 ∷ 5 ∷ 4 ∷ 2 ∷ 0 ∷ 0 ∷ 6 ∷ 0 ∷ 0 ∷ 0 ∷ 0 ∷ 0 ∷ 0 ∷ 0 ∷ 0 ∷ 0 ∷ 0 ∷ 0 ∷ 0 ∷ 0 ∷ 0 ∷ 0 ∷ 0 ∷ 0 ∷ 0 ∷ 0 ∷ 0
+    ∷ 0 ∷ 0 ∷ 0 ∷ 0 ∷ 0 ∷ 0 ∷ 0 ∷ 0 ∷ 0 ∷ 0 ∷ 0 ∷ 0 ∷ 0 ∷ 0 ∷ 0 ∷ 3 ∷ 0 ∷ 0 ∷ 3 ∷ 0 ∷ 0 ∷ 0 ∷ 5 ∷ 0 ∷ 0 ∷ []))
+    ∷ []
+
+-- ---- runs to the end: as many steps as Accept says, and Result writes what Plain run writes
+
+-- with a body whose order counts, 60 and 37 steps; the highest ready step first ends in the same words
+abbrev pub ordered : List Case
+ordered =
+    let start = startedOn turned 69 in
+    let end = run gaugeLimits turned 1000 (run gaugeLimits turned 60 start .memory) in
+    let M = end .memory in
+    let reversed = backwards (arrayOf (descriptionOf turned)) 1000 start in
+    (naturals (ranValues (end .answer)) is naturals (37 ∷ 0 ∷ []))
+    ∷ (naturals (result gaugeLimits turned (replicate 11 1) M .output)
+    is naturals (plainRun gaugeLimits turned values (replicate 11 1) .output))
+    ∷ (number (answerNumber (result gaugeLimits turned [] M .answer)) is number 28)
+    ∷ (naturals (window gaugeLimits turned 2 1 (M .waiting) (M .received) .part)
+    is naturals (4 ∷ 4294967293 ∷ 8 ∷ 4294967293 ∷ 18 ∷ []))
+    ∷ (naturals (reversed .state ++ reversed .received) is naturals (M .state ++ M .received))
+    ∷ []
+
+-- three loops with null processes: a 1,2 above 3,4, b 5 above 6
+abbrev pub spatialRun : List Case
+spatialRun =
+    let vs : List ℕ = 1 ∷ 2 ∷ 3 ∷ 4 ∷ 5 ∷ 6 ∷ 0 ∷ 0 ∷ [] in
+    let end = run gaugeLimits columnProduct 1000 (startedWith columnProduct vs 117) in
+    (naturals (acceptValues (accept gaugeLimits columnProduct)) is naturals (6 ∷ 4 ∷ 8 ∷ 7 ∷ 117 ∷ 56 ∷ []))
+    ∷ (naturals (ranValues (end .answer)) is naturals (56 ∷ 0 ∷ []))
+    ∷ (naturals (result gaugeLimits columnProduct (replicate 8 1) (end .memory) .output) is naturals (1 ∷ 2 ∷ 3 ∷ 4 ∷ 5 ∷ 6 ∷ 17 ∷ 39 ∷ []))
+    ∷ (naturals (plainRun gaugeLimits columnProduct vs (replicate 8 1) .output) is naturals (1 ∷ 2 ∷ 3 ∷ 4 ∷ 5 ∷ 6 ∷ 17 ∷ 39 ∷ []))
+    ∷ []
+
+abbrev pub more : List Case
+more = one ++ (two ++ (ordered ++ spatialRun))
+
 pub proved : map (λ c. c .got) more ≡ map (λ c. c .wanted) more
-unfolding eqList backwards bytes bitsAt wordAt gcdOf euclid filter any every position best bestOr total each numbersFrom refusal walk instances lineOf points widenAll around boxOf sentTo firstOf lastOf stays march lineIn pipe usedOn pipeElements nestOf streamOf bodyLine descriptionOf runLines touchedFrom scatter execute executeAll testsFrom refusalOf accept insertByStep byStep pipesFrom arrayOf moveDown sound writeAll apply firstReady runSteps applyAll start run readyCall window result
-proved = agree-after P.proved more tt
+unfolding eqList firstWrong backwards bytes bitsAt wordAt gcdOf euclid filter any every position best bestOr total each numbersFrom refusal walk instances lineOf points widenAll around boxOf sentTo firstOf lastOf stays march lineIn pipe usedOn pipeElements nestOf streamOf bodyLine descriptionOf runLines touchedFrom scatter execute executeAll testsFrom refusalOf accept insertByStep byStep pipesFrom arrayOf moveDown sound writeAll apply firstReady runSteps applyAll start run readyCall window result plainRun
+proved = agree-after P.proved more refl

@@ -1,14 +1,13 @@
--- Cases of single calls and steps beside document 01's, because they hold the rules: a whole table, a link's places, a state that no start leads to, null
--- processes, declined calls. They are computed in a moment, so that a wrong rule is found here, before any run. The states' words are those of the second
--- implementation.
-use mathlib.Core.Path.{_≡_}
+-- Cases of single calls and steps beside document 01's, because they hold the rules: whole tables, direction −1, a link's places, a state that no start
+-- leads to, three loops, null processes, declined calls. They are computed in a moment, so that a wrong rule is found here, before any run. The words are
+-- those of the second implementation.
+use mathlib.Core.Path.{_≡_, refl}
 use mathlib.Core.List.{List, [], _∷_, _++_, map}
 use Prim.Native.Nat.{ℕ}
 use lib.ListN.{getD, replicate}
 use lib.IntN.{ℤ, pos, negsuc}
 use Rattle.integers.specs.Bytes.{bitsAt, wordAt}
 use Rattle.lattice.specs.Gcd.{gcdOf, euclid}
-use Rattle.meaning.specs.declared.Row.{Row}
 use Rattle.meaning.specs.Limits.{gaugeLimits}
 use Rattle.meaning.specs.Lists.{filter, any, every, position, best, bestOr, total, each, numbersFrom}
 use Rattle.meaning.specs.Tests.{refusal}
@@ -22,30 +21,12 @@ use Rattle.meaning.specs.Array.{insertByStep, byStep, pipesFrom, arrayOf
 use Rattle.meaning.specs.Rules.{moveDown, sound, writeAll, Memory, apply, firstOf as firstReady, runSteps, applyAll}
 use Rattle.meaning.specs.Answers.{acceptValues, answerNumber, ranNumber, readyNumber}
 use Rattle.meaning.specs.Calls.{table, start, step, run, readyCall, window, result, plainRun}
-use Rattle.meaning.specs.Comparison.{Case, _is_, naturals, number, planar, eqList, agree}
-use Rattle.meaning.specs.Designs.{bytes, pair, polynomial, designOne, designTwo, values, matrixProduct, nest, lent, startedOn}
+use Rattle.meaning.specs.Comparison.{Case, _is_, naturals, number, planar, rowWords, eqList, firstWrong, agree}
+use Rattle.meaning.specs.Designs.{bytes, pair, polynomial, designOne, designTwo, values, turned, matrixProduct, matrixRising, matrixValues, nest, blank, lent, startedWith, startedOn}
 
--- ---- the table of design two, as its program prints it: y n f l s d
-
-abbrev blank : Row
-blank =
-    record {
-      point = record { a = pos 7; b = pos 7 };
-      count = 7;
-      first = record { x = pos 7; y = pos 7; z = pos 7 };
-      last = record { x = pos 7; y = pos 7; z = pos 7 };
-      soak = [];
-      drain = [];
-    }
-
-abbrev three : List ℕ → List ℤ
-three l = naturals (lib.ListN.take 3 l)
-
-abbrev rowWords : Row → List ℤ
-rowWords r = r .point .a ∷ pos (r .count) ∷ (planar (r .first) ++ (planar (r .last) ++ (three (r .soak) ++ three (r .drain))))
-
-abbrev rowCase : ℕ → List ℕ → Case
-rowCase i wanted = rowWords (getD (table gaugeLimits designTwo (replicate 6 blank) .rows) i blank) is naturals wanted
+-- the words of a table of n rows lent
+abbrev tableWords : List ℕ → ℕ → List ℤ
+tableWords s n = each rowWords (table gaugeLimits s (replicate n blank) .rows)
 
 -- ---- a sound state of design one that no start leads to: junk in empty places, firings ahead of what was taken
 
@@ -59,18 +40,22 @@ odd =
           ∷ 0 ∷ 0 ∷ 0 ∷ 0 ∷ 0 ∷ 1 ∷ 1 ∷ 0 ∷ 0 ∷ 0 ∷ 0 ∷ 2 ∷ 1 ∷ 9 ∷ 0 ∷ 0 ∷ 1 ∷ 0 ∷ 0 ∷ 3 ∷ 0 ∷ 55 ∷ 66 ∷ 3 ∷ 1 ∷ 0 ∷ [];
     }
 
+-- a step of a design, and the number that Step answers
+abbrev stepOn : List ℕ → ℕ → ℕ → ℕ → Memory → Memory
+stepOn s kind n stream M = step gaugeLimits s kind n stream M .memory
+
+abbrev numberOn : List ℕ → ℕ → ℕ → ℕ → Memory → List ℤ
+numberOn s kind n stream M = number (answerNumber (step gaugeLimits s kind n stream M .answer))
+
 abbrev then : ℕ → ℕ → ℕ → Memory → Memory
-then kind number stream M = step gaugeLimits designOne kind number stream M .memory
+then = stepOn designOne
+
+abbrev stepNumber : ℕ → ℕ → ℕ → Memory → List ℤ
+stepNumber = numberOn designOne
 
 -- each rule once: send on a, take of b at process 1, fire at process 0, give of c at process 2, receive on b
 abbrev stepped : Memory
 stepped = then 4 1 9 (then 3 2 2 (then 2 0 9 (then 1 1 1 (then 0 0 9 odd))))
-
--- ---- declined calls
-
--- the number that Step answers in a state of design one
-abbrev stepNumber : ℕ → ℕ → ℕ → Memory → List ℤ
-stepNumber kind n stream M = number (answerNumber (step gaugeLimits designOne kind n stream M .answer))
 
 abbrev twoSent : Memory
 twoSent = then 0 1 0 (then 0 1 0 (startedOn designOne 61))
@@ -79,18 +64,55 @@ twoSent = then 0 1 0 (then 0 1 0 (startedOn designOne 61))
 abbrev unsound : Memory
 unsound = record { waiting = replicate 11 0; received = replicate 11 0; state = 0 ∷ 1 ∷ replicate 59 0 }
 
-abbrev pub singles : List Case
-singles =
+-- ---- links of three places, and a null process
+
+-- three values sent into a link, where a fourth is 24; a take moves the others down
+abbrev pub threePlaces : List Case
+threePlaces =
+    let send = stepOn turned 0 2 0 in
+    let sent = send (send (send (startedWith turned (1 ∷ 2 ∷ 3 ∷ 4 ∷ 5 ∷ 6 ∷ 7 ∷ 8 ∷ 9 ∷ 10 ∷ 11 ∷ []) 69))) in
+    (naturals (sent .state) is naturals (replicate 54 0 ++ (7 ∷ 8 ∷ 9 ∷ replicate 7 0 ++ (3 ∷ replicate 4 0))))
+    ∷ (numberOn turned 0 2 0 sent is number 24)
+    ∷ (naturals (stepOn turned 1 2 2 sent .state)
+    is naturals (replicate 50 0 ++ (1 ∷ 0 ∷ 7 ∷ 0 ∷ 8 ∷ 9 ∷ replicate 8 0 ++ (3 ∷ replicate 4 0))))
+    ∷ []
+
+-- process 2 of the matrix product takes and gives an element of b; of c it is on no pipe, which is 23; to fire it is 24
+abbrev pub nullProcess : List Case
+nullProcess =
+    let started = startedWith matrixProduct matrixValues 171 in
+    let taken = stepOn matrixProduct 1 2 1 (stepOn matrixProduct 0 5 0 started) in
+    (naturals (taken .state) is naturals (replicate 38 0 ++ (1 ∷ 0 ∷ 6 ∷ replicate 118 0 ++ (1 ∷ replicate 11 0))))
+    ∷ (naturals (stepOn matrixProduct 3 2 1 taken .state)
+    is naturals (replicate 38 0 ++ (1 ∷ 1 ∷ replicate 50 0 ++ (6 ∷ replicate 68 0 ++ (1 ∷ replicate 11 0)))))
+    ∷ (numberOn matrixProduct 1 2 2 started is number 23)
+    ∷ (numberOn matrixProduct 3 2 2 started is number 23)
+    ∷ (numberOn matrixProduct 2 2 0 started is number 24)
+    ∷ []
+
+-- ---- the others, and all
+
+abbrev pub calls : List Case
+calls =
     -- the increment is turned by the step, not by the directions: step i+2j, place i+j
     (planar (increment (nest (polynomial 2 2 (pair (pos 1) (pos 2)) (pair (pos 1) (pos 1)) (pair (pos 1) (pos 1)) (pos 0 ∷ pos 0 ∷ pos 1 ∷ []))))
     is pair (negsuc 0) (pos 1))
     -- the table of design two; the sixth row lent is as it was
-    ∷ rowCase 0 (0 ∷ 1 ∷ 0 ∷ 0 ∷ 0 ∷ 0 ∷ 0 ∷ 2 ∷ 0 ∷ 2 ∷ 0 ∷ 4 ∷ [])
-    ∷ rowCase 1 (1 ∷ 2 ∷ 0 ∷ 1 ∷ 1 ∷ 0 ∷ 0 ∷ 1 ∷ 1 ∷ 1 ∷ 0 ∷ 3 ∷ [])
-    ∷ rowCase 2 (2 ∷ 3 ∷ 0 ∷ 2 ∷ 2 ∷ 0 ∷ 0 ∷ 0 ∷ 2 ∷ 0 ∷ 0 ∷ 2 ∷ [])
-    ∷ rowCase 3 (3 ∷ 2 ∷ 1 ∷ 2 ∷ 2 ∷ 1 ∷ 1 ∷ 0 ∷ 3 ∷ 0 ∷ 1 ∷ 1 ∷ [])
-    ∷ rowCase 4 (4 ∷ 1 ∷ 2 ∷ 2 ∷ 2 ∷ 2 ∷ 2 ∷ 0 ∷ 4 ∷ 0 ∷ 2 ∷ 0 ∷ [])
-    ∷ rowCase 5 (7 ∷ 7 ∷ 7 ∷ 7 ∷ 7 ∷ 7 ∷ [])
+    ∷ (tableWords designTwo 6 is naturals
+    (0 ∷ 0 ∷ 1 ∷ 0 ∷ 0 ∷ 0 ∷ 0 ∷ 0 ∷ 0 ∷ 0 ∷ 2 ∷ 0 ∷ 0 ∷ 0 ∷ 0 ∷ 2 ∷ 0 ∷ 4 ∷ 0 ∷ 0 ∷ 0
+    ∷ 1 ∷ 0 ∷ 2 ∷ 0 ∷ 1 ∷ 0 ∷ 1 ∷ 0 ∷ 0 ∷ 0 ∷ 1 ∷ 1 ∷ 0 ∷ 0 ∷ 0 ∷ 1 ∷ 0 ∷ 3 ∷ 0 ∷ 0 ∷ 0
+    ∷ 2 ∷ 0 ∷ 3 ∷ 0 ∷ 2 ∷ 0 ∷ 2 ∷ 0 ∷ 0 ∷ 0 ∷ 0 ∷ 2 ∷ 0 ∷ 0 ∷ 0 ∷ 0 ∷ 0 ∷ 2 ∷ 0 ∷ 0 ∷ 0
+    ∷ 3 ∷ 0 ∷ 2 ∷ 1 ∷ 2 ∷ 0 ∷ 2 ∷ 1 ∷ 0 ∷ 1 ∷ 0 ∷ 3 ∷ 0 ∷ 0 ∷ 0 ∷ 0 ∷ 1 ∷ 1 ∷ 0 ∷ 0 ∷ 0
+    ∷ 4 ∷ 0 ∷ 1 ∷ 2 ∷ 2 ∷ 0 ∷ 2 ∷ 2 ∷ 0 ∷ 2 ∷ 0 ∷ 4 ∷ 0 ∷ 0 ∷ 0 ∷ 0 ∷ 2 ∷ 0 ∷ 0 ∷ 0 ∷ 0
+    ∷ replicate 9 7))
+    -- direction −1 in loop 0: the figures, the table, and a plain run that subtracts in that order, modulo 2^32
+    ∷ (naturals (acceptValues (accept gaugeLimits turned)) is naturals (3 ∷ 9 ∷ 11 ∷ 3 ∷ 69 ∷ 97 ∷ []))
+    ∷ (tableWords turned 3 is naturals
+    (0 ∷ 0 ∷ 3 ∷ 0 ∷ 0 ∷ 0 ∷ 0 ∷ 2 ∷ 0 ∷ 0 ∷ 0 ∷ 0 ∷ 0 ∷ 0 ∷ 0 ∷ 2 ∷ 0 ∷ 2 ∷ 0 ∷ 0 ∷ 0
+    ∷ 1 ∷ 0 ∷ 3 ∷ 1 ∷ 0 ∷ 0 ∷ 1 ∷ 2 ∷ 0 ∷ 1 ∷ 0 ∷ 1 ∷ 0 ∷ 0 ∷ 0 ∷ 1 ∷ 0 ∷ 1 ∷ 0 ∷ 0 ∷ 0
+    ∷ 2 ∷ 0 ∷ 3 ∷ 2 ∷ 0 ∷ 0 ∷ 2 ∷ 2 ∷ 0 ∷ 2 ∷ 0 ∷ 2 ∷ 0 ∷ 0 ∷ 0 ∷ 0 ∷ 0 ∷ 0 ∷ 0 ∷ 0 ∷ 0 ∷ []))
+    ∷ (naturals (plainRun gaugeLimits turned values (replicate 11 1) .output)
+    is naturals (1 ∷ 2 ∷ 3 ∷ 4 ∷ 5 ∷ 6 ∷ 4 ∷ 4294967293 ∷ 8 ∷ 4294967293 ∷ 18 ∷ []))
     -- Window: b's waiting values in design two, where they pass backwards
     ∷ (naturals (window gaugeLimits designTwo 1 0 (startedOn designTwo 95 .waiting) (replicate 11 0) .part) is naturals (6 ∷ 5 ∷ 4 ∷ []))
     -- a third send on b after Start is 24: its links have two places
@@ -103,15 +125,20 @@ singles =
     ∷ (stepNumber 0 0 0 stepped is number 24)
     -- the keep of a at process 0, which has fired, is not given before the others are taken
     ∷ (stepNumber 3 0 0 stepped is number 24)
-    -- three loops with null processes: the figures, and the soaks of a null row
+    -- three loops with null processes: the figures, and a null row
     ∷ (naturals (acceptValues (accept gaugeLimits matrixProduct)) is naturals (9 ∷ 8 ∷ 12 ∷ 9 ∷ 171 ∷ 100 ∷ []))
-    ∷ (three (getD (table gaugeLimits matrixProduct (replicate 9 blank) .rows) 2 blank .soak) is naturals (1 ∷ 1 ∷ 0 ∷ []))
+    ∷ (rowWords (getD (table gaugeLimits matrixProduct (replicate 9 blank) .rows) 2 blank)
+    is negsuc 0 ∷ pos 1 ∷ naturals (replicate 7 0 ++ (1 ∷ 1 ∷ replicate 10 0)))
+    -- an increment whose third component is −1 is accepted: the figures, and the row of its middle process
+    ∷ (naturals (acceptValues (accept gaugeLimits matrixRising)) is naturals (9 ∷ 8 ∷ 12 ∷ 9 ∷ 171 ∷ 100 ∷ []))
+    ∷ (rowWords (getD (table gaugeLimits matrixRising (replicate 9 blank) .rows) 4 blank)
+    is naturals (1 ∷ 1 ∷ 2 ∷ 0 ∷ 0 ∷ 1 ∷ 1 ∷ 1 ∷ 0 ∷ replicate 12 0))
     -- declined calls: the numbers in order, and nothing changed
     ∷ (number (answerNumber (table gaugeLimits designTwo (replicate 4 blank) .answer)) is number 18)
-    ∷ (number (answerNumber (start gaugeLimits designOne (replicate 10 0) (lent 60) .answer)) is number 20)
+    ∷ (number (answerNumber (start gaugeLimits designOne (replicate 10 0) (lent 11 60) .answer)) is number 20)
     ∷ (number (answerNumber (start gaugeLimits designOne values (record { waiting = replicate 11 0; received = []; state = [] }) .answer)) is number 26)
-    ∷ (number (answerNumber (start gaugeLimits designOne values (lent 60) .answer)) is number 21)
-    ∷ (naturals (start gaugeLimits designOne values (lent 60) .memory .waiting) is naturals (replicate 11 7))
+    ∷ (number (answerNumber (start gaugeLimits designOne values (lent 11 60) .answer)) is number 21)
+    ∷ (naturals (start gaugeLimits designOne values (lent 11 60) .memory .waiting) is naturals (replicate 11 7))
     ∷ (stepNumber 9 9 9 unsound is number 22)
     ∷ (naturals (then 0 0 0 unsound .state) is naturals (unsound .state))
     ∷ (stepNumber 5 0 0 (startedOn designOne 61) is number 23)
@@ -130,6 +157,9 @@ singles =
     ∷ (number (answerNumber (plainRun gaugeLimits [] [] [] .answer)) is number 1)
     ∷ []
 
+abbrev pub singles : List Case
+singles = calls ++ (threePlaces ++ nullProcess)
+
 pub proved : map (λ c. c .got) singles ≡ map (λ c. c .wanted) singles
-unfolding eqList bytes bitsAt wordAt gcdOf euclid filter any every position best bestOr total each numbersFrom refusal walk instances lineOf points widenAll around boxOf sentTo firstOf lastOf stays march lineIn pipe usedOn pipeElements nestOf streamOf bodyLine descriptionOf runLines touchedFrom scatter execute executeAll testsFrom refusalOf accept insertByStep byStep pipesFrom arrayOf moveDown sound writeAll apply firstReady runSteps applyAll table start step run readyCall window result plainRun
-proved = agree singles tt
+unfolding eqList firstWrong bytes bitsAt wordAt gcdOf euclid filter any every position best bestOr total each numbersFrom refusal walk instances lineOf points widenAll around boxOf sentTo firstOf lastOf stays march lineIn pipe usedOn pipeElements nestOf streamOf bodyLine descriptionOf runLines touchedFrom scatter execute executeAll testsFrom refusalOf accept insertByStep byStep pipesFrom arrayOf moveDown sound writeAll apply firstReady runSteps applyAll table start step run readyCall window result plainRun
+proved = agree singles refl

@@ -1,10 +1,10 @@
 -- Document 01, the words of a state and where they stand: "for each process its firings, and for each stream taken, given, hand, keep and the places of
 -- the link into it; for each pipe sent, received and the places of its last link". That order is the program's choice (docs/STATE.md).
-use mathlib.Core.List.{List}
+use mathlib.Core.List.{List, [], _∷_, _++_, map}
 use Prim.Native.Nat.{ℕ, _+_, _*_}
 use lib.ListN.{getD, set, take}
-use Rattle.meaning.specs.Lists.{total}
-use Rattle.meaning.specs.Array.{Array, processCount}
+use Rattle.meaning.specs.Lists.{total, each, numbers}
+use Rattle.meaning.specs.Array.{Array, processCount, streamCount, pipeNumber, pipeAt}
 
 -- of process p; of process p and stream s; of pipe q. `place p s i` is a place of the link into p, `end q i` one of the pipe's last link
 pub data Word : Type 0 where
@@ -47,6 +47,19 @@ index A (End q i) = endStart A q + 2 + i
 -- how many words there are
 abbrev pub wordCount : Array → ℕ
 wordCount A = processStart A (processCount A) + total (λ r. 2 + r .hop) (A .pipes)
+
+-- the words one after the other, as they stand (that the i-th of them stands at place i, `words-stand` of network says)
+abbrev pub seatWords : Array → ℕ → ℕ → List Word
+seatWords A p s = Taken p s ∷ Given p s ∷ Hand p s ∷ Keep p s ∷ map (Place p s) (numbers (getD (A .hops) s 0))
+
+abbrev pub processWords : Array → ℕ → List Word
+processWords A p = Firings p ∷ each (seatWords A p) (numbers (streamCount A))
+
+abbrev pub pipeWords : Array → ℕ → List Word
+pipeWords A q = Sent q ∷ Received q ∷ map (End q) (numbers (pipeAt A q .hop))
+
+abbrev pub words : Array → List Word
+words A = each (processWords A) (numbers (processCount A)) ++ each (pipeWords A) (numbers (pipeNumber A))
 
 abbrev pub read : Array → List ℕ → Word → ℕ
 read A st w = getD st (index A w) 0

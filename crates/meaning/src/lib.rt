@@ -9,10 +9,14 @@
 //   Description       bytes to words, lengths, ranges, decoding
 //   Body              operations, lines, one instance on a store, the plain run
 //   Accept            the refusals 1 to 17, named one by one and chained; the figures
+//   Points, Sorted    points, lines, boxes and lists in order as propositions
 //   Array, State      what the rules look at; the words of the state and where they stand
 //   Rules             send, take, fire, give, receive: ready and apply; sound; the lowest ready step
 //   Answers, Calls    the numbers and values of answers; the nine calls: the answer and every lent list afterwards
-//   Demands           lists of calls; demands 2 and 3 as statements
+//   Conditions        the conditions of acceptance said a second time, as propositions; demand 2: accepted and refused exactly by them
+//   Demand1           what all calls have in common: numbers and values of answers, nothing changed, nothing written beyond
+//   Demand2           what Table leaves, every pass of the loops by one processor, what Plain run leaves
+//   Demand3           lists of calls, and what holds after every one of them
 //   Designs, Cases    document 01's designs as bytes, and its cases marked P, computed as one table (Comparison)
 //   Singles, Runs     cases beside them that hold the rules: tables, single steps and declined calls; states stopped in the middle, other orders
 //

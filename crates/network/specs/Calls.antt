@@ -13,7 +13,7 @@ use Rattle.meaning.specs.Accept.{refusalOf}
 use Rattle.meaning.specs.Array.{Array, arrayOf, processCount, streamCount, pipeNumber, onPipe}
 use Rattle.meaning.specs.Rules.{Step, Send, Take, Fire, Give, Receive, Memory, ready, apply, inOrder, Found, at, nothing, lowest, runSteps, applyAll}
 use Rattle.meaning.specs.Calls.{orElse, memoryTests, refusedBy, seated, ifThere, stepOf, isNothing, readyAt, applied, step, run}
-use Rattle.meaning.specs.Demands.{Call, CallStep, CallRun, CallReady, CallWindow, CallResult, leaves, asList, grants, memoryAfter, grantedBy}
+use Rattle.meaning.specs.Demand3.{Call, CallStep, CallRun, CallReady, CallWindow, CallResult, leaves, asList, grants, memoryAfter, grantedBy}
 use Rattle.network.specs.Lists.{both-true}
 use Rattle.network.specs.Ready.{There}
 use Rattle.network.specs.Members.{listed, ready-there, found-passes}

@@ -1,30 +1,41 @@
 -- Demand 3 for every description whose array is wired: for every start that is not declined and every list of calls after it. Assumes nothing.
-use mathlib.Core.Path.{_≡_, refl, sym, _∙_, ap, subst, subst₂}
-use mathlib.Core.Bool.{Bool, true, false, not, _||_}
-use mathlib.Core.List.{List, [], _∷_}
-use Prim.Native.Nat.{ℕ}
+use mathlib.Core.Path.{_≡_, sym, _∙_, ap, ap₂, subst}
+use mathlib.Core.Bool.{true, false}
+use mathlib.Core.List.{List, map, _++_, append-nil}
+use Prim.Native.Nat.{ℕ, _-_, _≤_, _<_}
 use native.Mathlib.Omega.{arith}
-use lib.Dec.{eqb, ltb}
-use lib.ListN.{length, take, drop, replicate, length-append, length-replicate, getD-replicate, List·getD-append}
-use borrow.Author.Tests.{eqb-true, not-false}
+use lib.Dec.{eqb}
+use lib.ListN.{take, replicate, length-map, length-replicate}
+use lib.Seq.{take-length, take-all}
+use borrow.Author.Tests.{eqb-true}
 use Rattle.meaning.specs.declared.Limits.{Limits}
 use Rattle.meaning.specs.declared.Description.{Description}
 use Rattle.meaning.specs.declared.Answer.the-variants.{Done, Refused}
-use Rattle.meaning.specs.Tests.{_if_}
 use Rattle.meaning.specs.Description.{descriptionOf}
+use Rattle.meaning.specs.Body.{finalValues}
 use Rattle.meaning.specs.Accept.{refusalOf}
-use Rattle.meaning.specs.Array.{Array, arrayOf}
-use Rattle.meaning.specs.Rules.{Step, Memory, applyAll}
-use Rattle.meaning.specs.Calls.{lengthOf, stateLength, refusedBy, started, start}
-use Rattle.meaning.specs.Demands.{Call, memoryAfter, grantedBy, allReceived, Holds, SameFinish, Demand3, Guarantee}
+use Rattle.meaning.specs.Array.{Array, arrayOf, pipeNumber, pipeAt, elementsOn, pipeOrder, partOf}
+use Rattle.meaning.specs.State.{words}
+use Rattle.meaning.specs.Rules.{Step, Memory, totalOf, applyAll}
+use Rattle.meaning.specs.Answers.{answerNumber}
+use Rattle.meaning.specs.Calls.{lengthOf, stateLength, started, start, allOut, inElementOrder, result}
+use Rattle.meaning.specs.Demand3.{Call, memoryAfter, grantedBy, receives, allReceived, finalValue, Holds, finish, SameMemory, declinedBy, NotByMemory, AfterCalls, Demand3, Guarantee}
+use Rattle.network.specs.Lists.{every-numbers, same-every}
+use Rattle.network.specs.WordOrder.{words-length}
 use Rattle.network.specs.Wiring.{Wired}
-use Rattle.network.specs.Parts.{waiting-is}
+use Rattle.network.specs.Ready.{end-is}
+use Rattle.network.specs.Parts.{part-is, parts-are}
+use Rattle.network.specs.Steps.{all-waiting, all-length}
 use Rattle.network.specs.Runs.{Grants, Cleared}
-use Rattle.network.specs.Outcome.{After, receives-most, after}
-use Rattle.network.specs.Finish.{same-state, same-received}
-use Rattle.network.specs.Calls.{refusal-none, or-else, calls-granted, calls-leave}
+use Rattle.network.specs.Outcome.{After, received-is, receives-most, reached-of, after}
+use Rattle.network.specs.Finish.{finish-words}
+use Rattle.network.specs.Calls.{calls-granted, calls-leave}
+use Rattle.network.specs.Declined.{Usable, not-by-memory}
 use Rattle.network.specs.Plain.{Described, final-is}
 use Rattle.network.specs.Figures.{words-are, steps-are}
+use Rattle.network.specs.Starts.{Proper, proper, cleared, passes-after}
+use Rattle.network.specs.Results.{result-early, result-only-early, result-late, in-element-order}
+use Rattle.network.specs.Beyond.{calls-beyond}
 
 module _ (l : Limits) (s values : List ℕ) (M₀ : Memory) where
   abbrev d : Description
@@ -33,125 +44,117 @@ module _ (l : Limits) (s values : List ℕ) (M₀ : Memory) where
   abbrev A : Array
   A = arrayOf d
 
-  -- what it leaves
   abbrev M₁ : Memory
   M₁ = started l s values M₀
 
-  -- what a start that is not declined was lent
-  record Proper : Type 0 where
-    accepted : refusalOf l s ≡ 0
-    values-length : length values ≡ lengthOf d
-    memory : start l s values M₀ .memory ≡ M₁
+  module _ (W : Wired A) (D : Described d W) (p : Proper l s values M₀) (cs : List Call) where
+    abbrev ss : List Step
+    ss = grantedBy l s M₁ cs
 
-  proper : start l s values M₀ .answer ≡ Done → Proper
-  unfolding start
-  proper e = go (eqb n 0) refl
-    where
-      n : ℕ
-      n =
-          refusedBy l s
-          ((20 if (not (eqb (length values) (lengthOf d)) || not (eqb (length (M₀ .waiting)) (lengthOf d))))
-          ∷ (26 if not (eqb (length (M₀ .received)) (lengthOf d)))
-          ∷ (21 if ltb (length (M₀ .state)) (stateLength d))
-          ∷ [])
+    abbrev M : Memory
+    M = applyAll A M₁ ss
 
-      first : (a b : Bool) → (a || b) ≡ false → a ≡ false
-      first true b e = e
-      first false b e = refl
+    C : Cleared W values M₁
+    C = cleared l s values M₀ W D
 
-      go : (b : Bool) → eqb n 0 ≡ b → Proper
-      go true i =
-          let r = or-else (refusalOf l s) _ (eqb-true n 0 i) in
-          let a = refusal-none _ _ (omega arith) (r .1) in
+    G : Grants A M₁ ss
+    G = calls-granted l s M₁ cs
+
+    F : After W values ss M
+    F = after W values M₁ C ss G
+
+    -- ---- what holds after the calls
+
+    few : (q : ℕ) → receives q ss ≤ elementsOn A q
+    few = receives-most W values M₁ C ss G
+
+    stretch : (q : ℕ) → q < pipeNumber A
+        → partOf A q (M .received)
+        ≡ map (finalValue d values) (take (receives q ss) (pipeAt A q .elements)) ++ replicate (elementsOn A q - receives q ss) 0
+    stretch q h =
+        part-is A (M .received) (reached-of W values M₁ C ss G .fit .list) (finalValue d values) q (receives q ss) h (few q)
+        (λ i m. F .stretch q i h m ∙ final-is d W D values (omega (arith, p .values-length)) q i (omega (arith, few q)))
+        (λ i m. F .rest q i h m)
+
+    holds-after : Holds d values M ss
+    holds-after =
+        record {
+          few = λ q h. few q;
+          stretch = stretch;
+          ready = F .ready;
+          most = omega (arith, F .most, steps-are d W (D .instances-are));
+          reached = (λ e. F .reached .0 (e ∙ sym (steps-are d W (D .instances-are))), λ e. F .reached .1 e ∙ steps-are d W (D .instances-are));
+        }
+
+    -- ---- the finish
+
+    module _ (out : allReceived d ss ≡ true) where
+      -- each pipe is wholly received
+      whole : (q : ℕ) → q < pipeNumber A → partOf A q (M .received) ≡ map (finalValue d values) (pipeAt A q .elements)
+      whole q h =
+          let k : receives q ss ≡ elementsOn A q = eqb-true (receives q ss) (elementsOn A q)
+          (every-numbers (λ q. eqb (receives q ss) (elementsOn A q)) 0 (pipeNumber A) out q (omega arith) (omega arith)) in
+          let z : elementsOn A q - receives q ss ≡ 0 = omega arith in
+          stretch q h
+          ∙ ap₂ (λ (es : List ℕ) (n : ℕ). map (finalValue d values) es ++ replicate n 0)
+          (ap (λ (k : ℕ). take k (pipeAt A q .elements)) k ∙ take-length (pipeAt A q .elements)) z
+          ∙ append-nil (map (finalValue d values) (pipeAt A q .elements))
+
+      received-final : M .received ≡ map (finalValue d values) (pipeOrder A)
+      received-final =
+          parts-are A (M .received) (all-length A M₁ ss ∙ length-replicate {A = ℕ} (lengthOf d) 0 ∙ sym (D .elements-add)) (finalValue d values) whole
+
+      same-finish : SameMemory d M (finish d values)
+      same-finish =
           record {
-            accepted = r .0;
-            values-length =
-                eqb-true (length values) (lengthOf d)
-                (not-false (eqb (length values) (lengthOf d)) (first (not (eqb (length values) (lengthOf d)))
-                (not (eqb (length (M₀ .waiting)) (lengthOf d))) (a .0)));
-            memory = rw i;
+            waiting = all-waiting A M₁ ss;
+            received = received-final;
+            state =
+                ap (λ (n : ℕ). take n (M .state)) (sym (words-are d))
+                ∙ finish-words W values M₁ C ss G out
+                ∙ sym (take-all (stateLength d) (map (totalOf A) (words A))
+                (omega (arith, length-map (words A) (totalOf A), words-length A, words-are d)));
           }
-      go false i = absurd (refused (rw i at e))
-        where
-          refused : Refused n ≡ Done → ⊥
-          refused e = let z : _≡_ {A = ℕ} 0 1 = cc in omega arith
 
-  module _ (W : Wired A) (D : Described d W) where
-    -- a start clears
-    cleared : Proper → Cleared W values M₁
-    cleared p =
+    -- ---- Result
+
+    -- all is out by the state's counters exactly if it is by the granted receives
+    out-is : allOut l s (M .state) ≡ allReceived d ss
+    out-is =
+        same-every _ _ 0 (pipeNumber A)
+        (λ q i h. ap (λ (n : ℕ). eqb n (elementsOn A q)) (end-is A (M .state) q (omega arith) ∙ received-is W values M₁ C ss G q))
+
+    -- ---- all of it
+
+    U : Usable l s M
+    U = record { accepted = p .accepted; passes = passes-after l s values M₀ W D cs }
+
+    -- a fact of that memory is one of what the calls leave
+    leave : (P : Memory → Type 0) → P M → P (memoryAfter l s M₁ cs)
+    leave P h = subst P (sym (calls-leave l s M₁ cs)) h
+
+    after-calls : AfterCalls l s values M₁ cs
+    after-calls =
         record {
-          fit =
-              record {
-                long =
-                    let a = length-append (replicate (stateLength d) 0) (drop (stateLength d) (M₀ .state)) in
-                    let b = length-replicate {A = ℕ} (stateLength d) 0 in
-                    let c = words-are d in omega arith;
-                list = let a = length-replicate {A = ℕ} (lengthOf d) 0 in let b = D .elements-add in omega arith;
-                waits = waiting-is A values;
-              };
-          state = λ i h.
-              let b = length-replicate {A = ℕ} (stateLength d) 0 in
-              let c = words-are d in
-              List·getD-append (replicate (stateLength d) 0) (drop (stateLength d) (M₀ .state)) 0 i (omega arith)
-              ∙ getD-replicate (stateLength d) i 0 0 (omega arith);
-          received = λ i h. let b = D .elements-add in getD-replicate (lengthOf d) i 0 0 (omega arith);
+          holds = leave (λ N. Holds d values N ss) holds-after;
+          next = λ c. leave (λ N. NotByMemory (declinedBy l s N c)) (not-by-memory l s U c);
+          early = λ e output. leave (λ N. result l s output N ≡ record { answer = Refused 25; output = output }) (result-early l s U output (out-is ∙ e));
+          only-early = λ output.
+              leave (λ N. answerNumber (result l s output N .answer) ≡ 25 → allReceived d ss ≡ false)
+              (λ e. sym out-is ∙ result-only-early l s U output e);
+          late = λ e output k.
+              leave (λ N. result l s output N ≡ record { answer = Done; output = finalValues d values })
+              (result-late l s U output (out-is ∙ e) k
+              ∙ ap (λ (vs : List ℕ). record { answer = Done; output = vs })
+              (ap (inElementOrder l s) (received-final e) ∙ in-element-order l s values W D (p .values-length)));
+          finished = λ e. leave (λ N. SameMemory d N (finish d values)) (same-finish e);
+          beyond = calls-beyond l s (λ e. W) M₁ cs;
         }
 
-    module _ (p : Proper) where
-      -- what holds after every list of calls
-      holds-after : (cs : List Call) → Holds d values (memoryAfter l s M₁ cs) (grantedBy l s M₁ cs)
-      holds-after cs = subst (λ (M : Memory). Holds d values M ss) (sym (calls-leave l s M₁ cs)) here
-        where
-          ss : List Step
-          ss = grantedBy l s M₁ cs
-
-          G : Grants A M₁ ss
-          G = calls-granted l s M₁ cs
-
-          F : After W values ss (applyAll A M₁ ss)
-          F = after W values M₁ (cleared p) ss G
-
-          here : Holds d values (applyAll A M₁ ss) ss
-          here =
-              record {
-                stretch = λ q i h m.
-                    F .stretch q i h m
-                    ∙ final-is d W D values (omega (arith, p .values-length)) q i (omega (arith, receives-most W values M₁ (cleared p) ss G q));
-                rest = F .rest;
-                ready = F .ready;
-                most = omega (arith, F .most, steps-are d W (D .instances-are));
-                reached = (λ e. F .reached .0 (e ∙ sym (steps-are d W (D .instances-are))), λ e. F .reached .1 e ∙ steps-are d W (D .instances-are));
-              }
-
-      -- two lists of calls that bring all values out leave the same
-      one-finish : (cs cs' : List Call) → allReceived d (grantedBy l s M₁ cs) ≡ true → allReceived d (grantedBy l s M₁ cs') ≡ true
-          → SameFinish d (memoryAfter l s M₁ cs) (memoryAfter l s M₁ cs')
-      one-finish cs cs' o o' =
-          let G = calls-granted l s M₁ cs in
-          let G' = calls-granted l s M₁ cs' in
-          subst₂ (λ (M M' : Memory). SameFinish d M M') (sym (calls-leave l s M₁ cs)) (sym (calls-leave l s M₁ cs'))
-          (record {
-            state = ap (take (stateLength d)) (same-state W values M₁ (cleared p) _ _ G G' o o');
-            received = same-received W values M₁ (cleared p) _ _ G G' o o';
-          })
-
-    -- demand 3
-    pub demand3 : start l s values M₀ .answer ≡ Done → Demand3 l s values M₀
-    demand3 e =
-        let p = proper e in
-        record {
-          holds = λ cs.
-              subst (λ (M : Memory). Holds d values (memoryAfter l s M cs) (grantedBy l s M cs)) (sym (p .memory)) (holds-after p cs);
-          finish = λ cs cs' o o'.
-              subst
-              (λ (M : Memory). allReceived d (grantedBy l s M cs) ≡ true → allReceived d (grantedBy l s M cs') ≡ true
-              → SameFinish d (memoryAfter l s M cs) (memoryAfter l s M cs'))
-              (sym (p .memory))
-              (one-finish p cs cs')
-              o
-              o';
-        }
+  -- demand 3
+  pub demand3 : (W : Wired A) → Described d W → start l s values M₀ .answer ≡ Done → Demand3 l s values M₀
+  demand3 W D e cs =
+      let p = proper l s values M₀ e in subst (λ (M : Memory). AfterCalls l s values M cs) (sym (p .memory)) (after-calls W D p cs)
 
 -- what geometry owes: an array of an accepted description is wired and has the description's instances and elements
 abbrev pub FromGeometry : Type 0

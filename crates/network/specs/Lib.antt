@@ -18,6 +18,7 @@ pub mod Good
 pub mod Claims
 pub mod Count
 pub mod Layout
+pub mod WordOrder
 pub mod Wiring
 pub mod Programs
 pub mod Slots
@@ -33,9 +34,14 @@ pub mod Steps
 pub mod Members
 pub mod Runs
 pub mod Outcome
-pub mod Finish
 pub mod States
+pub mod Kept
+pub mod Finish
 pub mod Calls
+pub mod Declined
 pub mod Plain
 pub mod Figures
+pub mod Starts
+pub mod Results
+pub mod Beyond
 pub mod Demand

@@ -83,3 +83,9 @@ module _ (f : ℕ → Bool) where
   numbers-every i zero h = refl
   numbers-every i (suc n) h =
       rw (h i (le-refl i) (omega arith)) (numbers-every (suc i) n (λ j l m. h j (omega arith) (omega arith)))
+
+pub same-every : (f g : ℕ → Bool) (i n : ℕ) → ((j : ℕ) → i ≤ j → j < i + n → f j ≡ g j) → every f (numbersFrom i n) ≡ every g (numbersFrom i n)
+unfolding every numbersFrom
+same-every f g i zero h = refl
+same-every f g i (suc n) h =
+    ap₂ (λ (a b : Bool). cond a b false) (h i (le-refl i) (omega arith)) (same-every f g (suc i) n (λ j l m. h j (omega arith) (omega arith)))

@@ -14,7 +14,7 @@ use Rattle.meaning.specs.Lists.{total}
 use Rattle.meaning.specs.Array.{Array, Pipe, countAt, processCount, pipeNumber, noPipe, stopsOn, elementsOn, partStart, pipeThrough}
 use Rattle.meaning.specs.Rules.{processOn, streamOn, Send, Take, Fire, Give, Receive, Memory, ready, inOrder, anyReady, applyAll}
 use Rattle.meaning.specs.Rules as Rules
-use Rattle.meaning.specs.Demands.{receives}
+use Rattle.meaning.specs.Demand3.{receives}
 use Rattle.network.specs.Cases.{Order, less, atLeast, order}
 use Rattle.network.specs.Sums.{sum-members}
 use Rattle.network.specs.Counters.{Step, put, get, fire, Counts, Guard}

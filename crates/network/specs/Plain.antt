@@ -1,9 +1,11 @@
 -- The plain run on the flat store is the abstract plain run, element by element. Assumes nothing.
 use mathlib.Core.Path.{_≡_, refl, sym, _∙_, ap, ap₂, subst}
+use mathlib.Core.Bool.{true}
 use mathlib.Core.List.{List, [], _∷_, _++_, map}
 use Prim.Native.Nat.{ℕ, zero, suc, _+_, _≤_, _<_}
 use native.Mathlib.Nat.{le-refl}
 use native.Mathlib.Omega.{arith}
+use lib.Dec.{eqb}
 use lib.ListN.{length, getD, set, take, length-set, length-map}
 use lib.Seq.{getD-set-same, getD-set-other, take-suc, take-length, ext-getD}
 use Rattle.integers.specs.Vectors.{zero3}
@@ -11,12 +13,12 @@ use Rattle.integers.specs.declared.V3.{V3}
 use Rattle.meaning.specs.declared.Nest.{Nest}
 use Rattle.meaning.specs.declared.Stream.{Stream}
 use Rattle.meaning.specs.declared.Description.{Description}
-use Rattle.meaning.specs.Lists.{total, numbers, numbersFrom}
+use Rattle.meaning.specs.Lists.{any, total, numbers, numbersFrom}
 use Rattle.meaning.specs.Loops.{instances}
 use Rattle.meaning.specs.Streams.{elements, hop}
 use Rattle.meaning.specs.Description.{streamsOf}
 use Rattle.meaning.specs.Body.{body, streamStart, elementCount, touchedFrom, touchedBy, gather, scatter, execute, executeAll, storeAfter, finalValues}
-use Rattle.meaning.specs.Array.{Array, arrayOf, instanceAt, streamCount, elementsOn, listLength}
+use Rattle.meaning.specs.Array.{Array, arrayOf, instanceAt, streamCount, elementsOn, pipeOrder, listLength}
 use Rattle.meaning.specs.Rules.{streamOn, bodyAt}
 use Rattle.network.specs.Cases.{Order, less, atLeast, order, Equal, same, other, equal}
 use Rattle.network.specs.Lists.{length-numbers, getD-first, same-numbers}
@@ -24,15 +26,23 @@ use Rattle.network.specs.Values.{Program, exec, plain, exec-hit, exec-mi
 use Rattle.network.specs.Wiring.{elementAt, Wired, element-pipe}
 use Rattle.network.specs.Programs.{length-body, programOf}
 
+-- ---- the store keeps its length
+
+scatter-length : (S es vs : List ℕ) → length (scatter S es vs) ≡ length S
+unfolding scatter
+scatter-length S [] vs = refl
+scatter-length S (e ∷ es) [] = refl
+scatter-length S (e ∷ es) (v ∷ vs) = scatter-length (set S e v) es vs ∙ length-set S e v
+
+pub execute-length : (d : Description) (xs : List V3) (S : List ℕ) → length (executeAll d xs S) ≡ length S
+unfolding executeAll execute
+execute-length d [] S = refl
+execute-length d (x ∷ xs) S =
+    execute-length d xs (execute d x S) ∙ scatter-length S (touchedBy d x) (body d x (gather S (touchedBy d x)))
+
 -- ---- values put at the places t i, t (i + 1), ..
 
 module _ (t : ℕ → ℕ) where
-  scatter-length : (n i : ℕ) (S vs : List ℕ) → length (scatter S (map t (numbersFrom i n)) vs) ≡ length S
-  unfolding scatter numbersFrom
-  scatter-length zero i S vs = refl
-  scatter-length (suc n) i S [] = refl
-  scatter-length (suc n) i S (v ∷ vs) = scatter-length n (suc i) (set S (t i) v) vs ∙ length-set S (t i) v
-
   scatter-other : (n i : ℕ) (S vs : List ℕ) (e : ℕ) → ((j : ℕ) → i ≤ j → j < i + n → t j ≡ e → ⊥)
       → getD (scatter S (map t (numbersFrom i n)) vs) e 0 ≡ getD S e 0
   unfolding scatter numbersFrom
@@ -125,6 +135,8 @@ pub record Described (d : Description) (W : Wired (arrayOf d)) : Type 0 where
   -- the pipes' elements are within their streams' boxes, and add up to all elements
   pub element-among : (q j : ℕ) → j < elementsOn (arrayOf d) q → Among d (streamOn (arrayOf d) q) (elementAt (arrayOf d) q j)
   pub elements-add : listLength (arrayOf d) ≡ elementCount (d .nest) (streamsOf d)
+  -- and each waits somewhere
+  pub element-waits : (e : ℕ) → e < elementCount (d .nest) (streamsOf d) → any (eqb e) (pipeOrder (arrayOf d)) ≡ true
 
 module _ (d : Description) (W : Wired (arrayOf d)) (D : Described d W) (values : List ℕ)
     (enough : elementCount (d .nest) (streamsOf d) ≤ length values) where
@@ -171,21 +183,10 @@ module _ (d : Description) (W : Wired (arrayOf d)) (D : Described d W) (values :
       ∙ ap₂ (λ (x : V3) (vs : List ℕ). bodyAt A x vs) (sym (D .instance-is i h))
       (ap (gather S) (touched-list i h) ∙ gathered (W .touched i) S 0 m))
 
-  execute-length : (i : ℕ) (S : List ℕ) → i < W .instances → length (execute d (getD xs i zero3) S) ≡ length S
-  execute-length i S h = ap length (execute-is i S h) ∙ scatter-length (W .touched i) m 0 S (made i S)
-
   apart : (i s s' : ℕ) → i < W .instances → s < s' → s' < m → W .touched i s' ≡ W .touched i s → ⊥
   apart i s s' h l l' e =
       among-apart d s s' (W .touched i s) l (D .touched-among i s h (omega (arith, streams-are d)))
       (subst (Among d s') e (D .touched-among i s' h (omega (arith, streams-are d))))
-
-  length-store : (j : ℕ) → j ≤ W .instances → length (storeAfter d j values) ≡ length values
-  unfolding executeAll
-  length-store zero h = refl
-  length-store (suc j) h =
-      ap length (store-next d j values (omega (arith, D .instances-are)))
-      ∙ execute-length j (storeAfter d j values) (omega arith)
-      ∙ length-store j (omega arith)
 
   -- the store after j instances has the abstract plain run's values
   pub plain-is : (j : ℕ) → j ≤ W .instances → (s e : ℕ) → s < m → Among d s e → plain P j s e ≡ getD (storeAfter d j values) e 0
@@ -224,7 +225,7 @@ module _ (d : Description) (W : Wired (arrayOf d)) (D : Described d W) (values :
           ∙ sym
           (scatter-there (W .touched j) m 0 S (made j S) (λ u w x y z. apart j u w (omega arith) y (omega arith))
           (omega (arith, length-made)) s (omega arith) (omega arith)
-          (omega (arith, n, among-lt d s e a, length-store j (omega arith))) s (omega arith))
+          (omega (arith, n, among-lt d s e a, execute-length d (take j xs) values)) s (omega arith))
           ∙ ap (λ (x : ℕ). getD (scatter S (map (W .touched j) (numbers m)) (made j S)) x 0) n
         where
           length-made : length (made j S) ≡ m

@@ -12,7 +12,7 @@ use Rattle.meaning.specs.Array.{Array, pipeNumber, stopsOn, elementsOn, partSta
 use Rattle.meaning.specs.State.{index, wordCount}
 use Rattle.meaning.specs.Rules.{Send, Take, Fire, Give, Receive, Memory, ready, apply, applyAll}
 use Rattle.meaning.specs.Rules as Rules
-use Rattle.meaning.specs.Demands.{isReceive, receives}
+use Rattle.meaning.specs.Demand3.{isReceive, receives}
 use Rattle.network.specs.Cases.{Order, less, atLeast, order}
 use Rattle.network.specs.Counters.{get, Counts, Guard, OneMore, put≢get, get≢fire}
 use Rattle.network.specs.Words.{Words}

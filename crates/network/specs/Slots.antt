@@ -1,9 +1,10 @@
 -- The words of a state as the network sees them: by pipe and place. A slot has at most one word, and different slots have different words, so that
 -- writing one changes no other. Assumes nothing.
-use mathlib.Core.Path.{_≡_, refl, sym, _∙_, ap, ap₂}
+use mathlib.Core.Path.{_≡_, refl, sym, _∙_, ap, ap₂, subst}
 use mathlib.Core.Bool.{cond}
 use mathlib.Core.List.{List}
 use Prim.Native.Nat.{ℕ, zero, suc, _+_, _≤_, _<_}
+use native.Mathlib.Nat.{le-refl}
 use native.Mathlib.Omega.{arith}
 use lib.Dec.{ltb}
 use lib.ListN.{length, getD}
@@ -15,7 +16,7 @@ use Rattle.network.specs.Cases.{Order, less, atLeast, order}
 use Rattle.network.specs.Counters.{Step, put, get, fire, Counts}
 use Rattle.network.specs.Words.{Words}
 use Rattle.network.specs.Layout.{Live, read-same, read-other}
-use Rattle.network.specs.Wiring.{Wired, stop-pipe, seat-is, placeAt}
+use Rattle.network.specs.Wiring.{Wired, stop-pipe, Seated, seated, seat-is, placeAt}
 
 -- of pipe q what was sent; of its place k what was taken out of the link there, what was given, hand, keep, and the link's places; of process p its firings
 pub data Slot : Type 0 where
@@ -164,6 +165,29 @@ module _ (A : Array) where
   slotOf (Received q) = taken q (stopsOn A q)
   slotOf (End q i) = place q (stopsOn A q) i
 
+  -- a process whose pipe is there has its place on it
+  pub on : (p s : ℕ) → pipeThrough A p s < pipeNumber A → Seated A p s
+  on p s h = seated A p s (lt-ltb (pipeThrough A p s) (pipeNumber A) h)
+
+  stop-on : (p s : ℕ) → placeAt A p s < stopsOn A (pipeThrough A p s) → Seated A p s
+  stop-on p s h = on p s (stop-pipe A (pipeThrough A p s) (placeAt A p s) h)
+
+  -- and the word of that slot, if it has one
+  pub word-slot : (w : Word) → Has (slotOf w) → wordOf (slotOf w) ≡ w
+  word-slot (Firings p) h = refl
+  word-slot (Taken p s) h =
+      let z = on p s (h .0) in
+      rw (lt-ltb (placeAt A p s) (stopsOn A (pipeThrough A p s)) (z .place-lt)) (ap₂ Taken (z .process) (z .stream))
+  word-slot (Given p s) h = let z = stop-on p s h in ap₂ Given (z .process) (z .stream)
+  word-slot (Hand p s) h = let z = stop-on p s h in ap₂ Hand (z .process) (z .stream)
+  word-slot (Keep p s) h = let z = stop-on p s h in ap₂ Keep (z .process) (z .stream)
+  word-slot (Place p s i) h =
+      let z = on p s (h .0) in
+      rw (lt-ltb (placeAt A p s) (stopsOn A (pipeThrough A p s)) (z .place-lt)) (ap₂ (λ (p s : ℕ). Place p s i) (z .process) (z .stream))
+  word-slot (Sent q) h = refl
+  word-slot (Received q) h = rw (le-ltb (stopsOn A q) (stopsOn A q) (le-refl (stopsOn A q)))
+  word-slot (End q i) h = rw (le-ltb (stopsOn A q) (stopsOn A q) (le-refl (stopsOn A q)))
+
   module _ (W : Wired A) where
     pub slot-word : (a : Slot) → Has a → slotOf (wordOf a) ≡ a
     slot-word (sent q) h = refl
@@ -181,6 +205,10 @@ module _ (A : Array) where
         go : Order k (stopsOn A q) → slotOf (linkPlace A q k i) ≡ place q k i
         go (less m) = let z = seat-is W q k m in rw (lt-ltb k (stopsOn A q) m) (ap₂ (λ (q k : ℕ). place q k i) (z .1) (z .2))
         go (atLeast m) = let e : stopsOn A q ≡ k = omega arith in rw (le-ltb k (stopsOn A q) m) (ap (λ (k : ℕ). place q k i) e)
+
+    -- so a word whose slot has none is no slot's word
+    pub no-slot : (w : Word) → (Has (slotOf w) → ⊥) → (a : Slot) → Has a → wordOf a ≡ w → ⊥
+    no-slot w n a h e = n (subst Has (sym (slot-word a h) ∙ ap slotOf e) h)
 
     -- a slot's word is live
     pub word-live : (a : Slot) → Has a → Live A (wordOf a)

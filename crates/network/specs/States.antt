@@ -1,6 +1,6 @@
 -- Sound states: the test says that the counters are sound and that the counts of processes on no pipe are 0. Every granted step keeps a sound state
 -- sound, whether a start leads to it or not. Assumes nothing.
-use mathlib.Core.Path.{_≡_, refl, sym, _∙_, ap, ap₂, subst}
+use mathlib.Core.Path.{_≡_, refl, ap, ap₂, subst}
 use mathlib.Core.Bool.{Bool, true, false}
 use mathlib.Core.List.{List}
 use Prim.Native.Nat.{ℕ, zero, suc, _+_, _≤_, _<_}
@@ -16,7 +16,7 @@ use Rattle.network.specs.Cases.{Order, less, atLeast, order}
 use Rattle.network.specs.Counters.{put, get, fire}
 use Rattle.network.specs.Sound.{Balance, Sound, sound-step}
 use Rattle.network.specs.Wiring.{kindOf, netOf, Wired, stop-pipe, seated, placeAt}
-use Rattle.network.specs.Slots.{Slot, sent, taken, given, fired, Has, wordOf, slotOf, slot-word, view-none, countsOf}
+use Rattle.network.specs.Slots.{sent, taken, given, fired, Has, slotOf, no-slot, view-none, countsOf}
 use Rattle.network.specs.Decide.{Says, said, says-true, says-and, says-then, says-as, says-le, says-every, says-balance}
 use Rattle.network.specs.Ready.{There, put-is, get-is, end-is, taken-is, given-is, fired-is, says-ready}
 use Rattle.network.specs.Links.{written-past}
@@ -24,10 +24,10 @@ use Rattle.network.specs.Steps.{step-written, step-more}
 
 module _ {A : Array} (W : Wired A) where
   -- the counts of a process and a stream are within the elements of its pipe, 0 without one; said of those without one
-  pub Seat : List ℕ → ℕ → ℕ → Type 0
+  unfoldable pub Seat : List ℕ → ℕ → ℕ → Type 0
   Seat st p s = (read A st (Taken p s) ≤ elementsOn A (pipeThrough A p s)) × (read A st (Given p s) ≤ elementsOn A (pipeThrough A p s))
 
-  pub Off : List ℕ → Type 0
+  unfoldable pub Off : List ℕ → Type 0
   Off st = (p s : ℕ) → p < processCount A → s < streamCount A → onPipe A p s ≡ false → Seat st p s
 
   module _ (st : List ℕ) where
@@ -196,19 +196,15 @@ module _ {A : Array} (W : Wired A) where
         ))
         (says-then (says-every (soundProcess A st) (processCount A) says-process) (λ f. says-every (soundPipe A st) (pipeNumber A) (says-pipe f)))
 
-  -- a word of a process on no pipe is no slot's
-  off-taken : (p s : ℕ) → onPipe A p s ≡ false → (a : Slot) → Has A a → wordOf A a ≡ Taken p s → ⊥
-  off-taken p s e a h d =
-      let z : a ≡ taken (pipeThrough A p s) (placeAt A p s) = sym (slot-word A W a h) ∙ ap (slotOf A) d in
-      let l = subst (Has A) z h in
-      let t = lt-ltb (pipeThrough A p s) (pipeNumber A) (l .0) in
+  -- the counts of a process on no pipe are no slot's words
+  off-taken : (p s : ℕ) → onPipe A p s ≡ false → Has A (slotOf A (Taken p s)) → ⊥
+  off-taken p s e h =
+      let t = lt-ltb (pipeThrough A p s) (pipeNumber A) (h .0) in
       let n : _≡_ {A = ℕ} 0 1 = cc in omega arith
 
-  off-given : (p s : ℕ) → onPipe A p s ≡ false → (a : Slot) → Has A a → wordOf A a ≡ Given p s → ⊥
-  off-given p s e a h d =
-      let z : a ≡ given (pipeThrough A p s) (placeAt A p s) = sym (slot-word A W a h) ∙ ap (slotOf A) d in
-      let l = subst (Has A) z h in
-      let t = lt-ltb (pipeThrough A p s) (pipeNumber A) (stop-pipe A (pipeThrough A p s) (placeAt A p s) l) in
+  off-given : (p s : ℕ) → onPipe A p s ≡ false → Has A (slotOf A (Given p s)) → ⊥
+  off-given p s e h =
+      let t = lt-ltb (pipeThrough A p s) (pipeNumber A) (stop-pipe A (pipeThrough A p s) (placeAt A p s) h) in
       let n : _≡_ {A = ℕ} 0 1 = cc in omega arith
 
   -- every granted step keeps a sound state sound
@@ -223,7 +219,7 @@ module _ {A : Array} (W : Wired A) where
       says-true (says-sound (apply A M a .state)) (
         sound-step (netOf A) (step-more W M l (z .0) a h g) (z .0) g,
         λ p s i j d. (
-          omega (arith, written-past W w (Taken p s) (i, j) (off-taken p s d), z .1 p s i j d .0),
-          omega (arith, written-past W w (Given p s) (i, j) (off-given p s d), z .1 p s i j d .1),
+          omega (arith, written-past W w (Taken p s) (i, j) (no-slot A W (Taken p s) (off-taken p s d)), z .1 p s i j d .0),
+          omega (arith, written-past W w (Given p s) (i, j) (no-slot A W (Given p s) (off-given p s d)), z .1 p s i j d .1),
         ),
       )

@@ -1,7 +1,7 @@
 -- What a granted step of the array does is a granted step of the abstract network. Assumes nothing.
 use mathlib.Core.Path.{_≡_, refl, sym, _∙_, ap, ap₂}
 use mathlib.Core.Bool.{Bool, true, false}
-use mathlib.Core.List.{List, map}
+use mathlib.Core.List.{List, [], _∷_, map}
 use Prim.Native.Nat.{ℕ, _+_, _≤_, _<_}
 use native.Mathlib.Nat.{le-refl}
 use native.Mathlib.Omega.{arith}
@@ -9,7 +9,7 @@ use lib.ListN.{length, getD, length-set}
 use Rattle.meaning.specs.Lists.{numbers}
 use Rattle.meaning.specs.Array.{Array, countAt, instanceAt, processCount, streamCount, stopsOn, elementsOn, partStart, listLength, pipeThrough}
 use Rattle.meaning.specs.State.{Firings, Received, wordCount, read}
-use Rattle.meaning.specs.Rules.{streamOn, oldest, bodyAt, Send, Take, Fire, Give, Receive, Memory, apply}
+use Rattle.meaning.specs.Rules.{streamOn, oldest, bodyAt, Send, Take, Fire, Give, Receive, Memory, apply, applyAll}
 use Rattle.meaning.specs.Rules as Rules
 use Rattle.network.specs.Lists.{same-numbers}
 use Rattle.network.specs.Counters.{fire, Guard, OneMore, put≢fire, get≢fire}
@@ -52,6 +52,18 @@ module _ (A : Array) (M : Memory) where
   received-length (Fire p) = refl
   received-length (Give p s) = refl
   received-length (Receive q) = length-set (M .received) (partStart A q + read A (M .state) (Received q)) (oldest A (M .state) q (stopsOn A q))
+
+-- nor any list of steps
+module _ (A : Array) where
+  pub all-waiting : (M : Memory) (l : List Rules.Step) → applyAll A M l .waiting ≡ M .waiting
+  unfolding applyAll
+  all-waiting M [] = refl
+  all-waiting M (a ∷ l) = all-waiting (apply A M a) l ∙ waiting-same A M a
+
+  pub all-length : (M : Memory) (l : List Rules.Step) → length (applyAll A M l .received) ≡ length (M .received)
+  unfolding applyAll
+  all-length M [] = refl
+  all-length M (a ∷ l) = all-length (apply A M a) l ∙ received-length A M a
 
 module _ {A : Array} (W : Wired A) where
   -- ---- on any sound state
