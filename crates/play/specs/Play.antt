@@ -1,64 +1,181 @@
--- Calls in words, and demand 3 of what they leave. Assumes nothing.
+-- Calls in words, what they leave of all that is lent, and demand 3 of it. Assumes nothing.
 use mathlib.Core.Path.{_≡_, refl, sym, _∙_, ap, subst}
-use mathlib.Core.Bool.{cond}
-use mathlib.Core.List.{List, [], map}
-use Prim.Native.Nat.{ℕ, suc, _+_, _*_, _-_, _/_, _≤_, _<_}
+use mathlib.Core.Bool.{Bool, true, false, cond}
+use mathlib.Core.List.{List, [], _∷_}
+use Prim.Native.Nat.{ℕ, zero, suc, _+_, _*_, _-_, _/_, _≤_, _<_, min}
 use native.Mathlib.Omega.{arith}
 use lib.Dec.{eqb}
 use lib.ListN.{length, getD}
+use borrow.Author.Tests.{eq-eqb, ne-eqb}
+use Rattle.integers.specs.Fill.{fillBy}
 use Rattle.meaning.specs.declared.Answer.{Answer}
 use Rattle.meaning.specs.declared.Answer.the-variants.{Done}
-use Rattle.meaning.specs.Lists.{numbersFrom}
 use Rattle.meaning.specs.Limits.{gaugeLimits}
-use Rattle.meaning.specs.Description.{descriptionOf}
-use Rattle.meaning.specs.Rules.{Memory}
-use Rattle.meaning.specs.Calls.{start}
-use Rattle.meaning.specs.Demands.{Call, CallStep, CallRun, CallReady, CallWindow, CallResult, leaves, memoryAfter, grantedBy, Holds}
+use Rattle.meaning.specs.Rules.{Memory, memoryOf}
+use Rattle.meaning.specs.Answers.{answerNumber}
+use Rattle.meaning.specs.Calls.{start, step, run, readyCall, window, result}
+use Rattle.meaning.specs.Demand3.{Call, CallStep, CallRun, CallReady, CallWindow, CallResult, leaves, memoryAfter, Demand3}
+use Rattle.answer_words.specs.Words.{wordsOf, ofAnswer, ofRan, ofReadiness, noted}
 use Rattle.guarantee.specs.Guarantee.{guarantee}
 
--- the call at word `at`; the lists that Ready and Result are lent do not matter to the memory
-abbrev pub callAt : List ℕ → ℕ → Call
-callAt ws at =
-    let kind = getD ws at 0 in
-    cond (eqb kind 0) (CallStep (getD ws (at + 1) 0) (getD ws (at + 2) 0) (getD ws (at + 3) 0))
-    (cond (eqb kind 1) (CallRun (getD ws (at + 1) 0))
-    (cond (eqb kind 2) (CallReady [])
-    (cond (eqb kind 3) (CallWindow (getD ws (at + 1) 0) (getD ws (at + 2) 0))
-    (CallResult []))))
+-- ---- what is lent
 
--- all calls of a list of words
-abbrev pub callsFrom : List ℕ → ℕ → ℕ → List Call
-callsFrom ws k n = map (λ k. callAt ws (4 * k)) (numbersFrom k n)
+-- the memory; Ready's words, Result's output, a list for the part that Window hands back, and one for the answers
+pub record Lent : Type 0 where
+  pub memory : Memory
+  pub words : List ℕ
+  pub output : List ℕ
+  pub part : List ℕ
+  pub answers : List ℕ
 
-abbrev pub callsOf : List ℕ → List Call
-callsOf ws = callsFrom ws 0 (length ws / 4)
+abbrev pub lentOf : List ℕ → List ℕ → List ℕ → List ℕ → List ℕ → List ℕ → List ℕ → Lent
+lentOf waiting received state words output part answers =
+    record { memory = memoryOf waiting received state; words = words; output = output; part = part; answers = answers }
 
--- ---- a turn of the loop: the calls from k on, up to n
+pub same-lent : {M M' : Memory} {ws ws' os os' ps ps' ns ns' : List ℕ} → M ≡ M' → ws ≡ ws' → os ≡ os' → ps ≡ ps' → ns ≡ ns'
+    → _≡_ {A = Lent} (record { memory = M; words = ws; output = os; part = ps; answers = ns })
+    (record { memory = M'; words = ws'; output = os'; part = ps'; answers = ns' })
+same-lent a b c d e = λ i. record { memory = a i; words = b i; output = c i; part = d i; answers = e i }
 
-module _ (s ws : List ℕ) (n : ℕ) where
-  abbrev pub left : ℕ → Memory → Memory
-  left k M = memoryAfter gaugeLimits s M (callsFrom ws k (n - k))
+-- values over the first places of a list, as far as there is room
+abbrev pub copied : List ℕ → List ℕ → List ℕ
+copied values to = fillBy (λ i. getD values i 0) (min (length values) (length to)) to
 
-  pub left-next : (k : ℕ) (M : Memory) → k < n → left k M ≡ left (k + 1) (leaves gaugeLimits s M (callAt ws (4 * k)))
-  unfolding memoryAfter numbersFrom
-  left-next k M h =
+-- ---- a call
+
+-- the first word of the k-th call, and its j-th after that
+abbrev pub kindOf : List ℕ → ℕ → ℕ
+kindOf ws k = getD ws (4 * k) 0
+
+abbrev pub callWord : List ℕ → ℕ → ℕ → ℕ
+callWord ws k j = getD ws (4 * k + j) 0
+
+module _ (s ws : List ℕ) where
+  abbrev byKind : {B : Type 0} → ℕ → B → B → B → B → B → B
+  byKind kind a b c d e = cond (eqb kind 0) a (cond (eqb kind 1) b (cond (eqb kind 2) c (cond (eqb kind 3) d e)))
+
+  abbrev pub callAt : ℕ → Lent → Call
+  callAt k L =
+      byKind (kindOf ws k) (CallStep (callWord ws k 1) (callWord ws k 2) (callWord ws k 3)) (CallRun (callWord ws k 1)) (CallReady (L .words))
+      (CallWindow (callWord ws k 1) (callWord ws k 2)) (CallResult (L .output))
+
+  -- what each leaves of what is lent
+  abbrev afterStep : ℕ → Lent → Lent
+  afterStep k L =
+      let r = step gaugeLimits s (callWord ws k 1) (callWord ws k 2) (callWord ws k 3) (L .memory) in
+      record { memory = r .memory; words = L .words; output = L .output; part = L .part; answers = noted (L .answers) k (ofAnswer (r .answer)) }
+
+  abbrev afterRun : ℕ → Lent → Lent
+  afterRun k L =
+      let r = run gaugeLimits s (callWord ws k 1) (L .memory) in
+      record { memory = r .memory; words = L .words; output = L .output; part = L .part; answers = noted (L .answers) k (ofRan (r .answer)) }
+
+  abbrev afterReady : ℕ → Lent → Lent
+  afterReady k L =
+      let r = readyCall gaugeLimits s (L .words) (L .memory) in
+      record { memory = L .memory; words = r .words; output = L .output; part = L .part; answers = noted (L .answers) k (ofReadiness (r .answer)) }
+
+  abbrev afterWindow : ℕ → Lent → Lent
+  afterWindow k L =
+      let r = window gaugeLimits s (callWord ws k 1) (callWord ws k 2) (L .memory .waiting) (L .memory .received) in
+      record {
+        memory = L .memory;
+        words = L .words;
+        output = L .output;
+        part = copied (r .part) (L .part);
+        answers = noted (L .answers) k (wordsOf (r .refusal) []);
+      }
+
+  abbrev afterResult : ℕ → Lent → Lent
+  afterResult k L =
+      let r = result gaugeLimits s (L .output) (L .memory) in
+      record { memory = L .memory; words = L .words; output = r .output; part = L .part; answers = noted (L .answers) k (ofAnswer (r .answer)) }
+
+  abbrev pub turn : ℕ → Lent → Lent
+  turn k L = byKind (kindOf ws k) (afterStep k L) (afterRun k L) (afterReady k L) (afterWindow k L) (afterResult k L)
+
+  -- ---- n calls from the k-th on: what they leave, and which they are
+
+  unfoldable pub playFrom : ℕ → ℕ → Lent → Lent
+  playFrom k zero L = L
+  playFrom k (suc n) L = playFrom (suc k) n (turn k L)
+
+  unfoldable pub callsFrom : ℕ → ℕ → Lent → List Call
+  callsFrom k zero L = []
+  callsFrom k (suc n) L = callAt k L ∷ callsFrom (suc k) n (turn k L)
+
+  turn-memory : (k : ℕ) (L : Lent) → turn k L .memory ≡ leaves gaugeLimits s (L .memory) (callAt k L)
+  turn-memory k L = go (eqb (kindOf ws k) 0) (eqb (kindOf ws k) 1) (eqb (kindOf ws k) 2) (eqb (kindOf ws k) 3)
+    where
+      go : (a b c d : Bool)
+          → (cond a (afterStep k L) (cond b (afterRun k L) (cond c (afterReady k L) (cond d (afterWindow k L) (afterResult k L))))) .memory
+          ≡ leaves gaugeLimits s (L .memory)
+          (cond a (CallStep (callWord ws k 1) (callWord ws k 2) (callWord ws k 3)) (cond b (CallRun (callWord ws k 1)) (cond c (CallReady (L .words))
+          (cond d (CallWindow (callWord ws k 1) (callWord ws k 2)) (CallResult (L .output))))))
+      go true b c d = refl
+      go false true c d = refl
+      go false false true d = refl
+      go false false false true = refl
+      go false false false false = refl
+
+  play-memory : (k n : ℕ) (L : Lent) → playFrom k n L .memory ≡ memoryAfter gaugeLimits s (L .memory) (callsFrom k n L)
+  unfolding playFrom callsFrom memoryAfter
+  play-memory k zero L = refl
+  play-memory k (suc n) L =
+      play-memory (suc k) n (turn k L)
+      ∙ ap (λ (M : Memory). memoryAfter gaugeLimits s M (callsFrom (suc k) n (turn k L))) (turn-memory k L)
+
+  -- a turn of the loop over n calls
+  pub play-next : (n k : ℕ) (L : Lent) → k < n → playFrom k (n - k) L ≡ playFrom (k + 1) (n - (k + 1)) (turn k L)
+  unfolding playFrom
+  play-next n k L h =
       let e : n - k ≡ suc (n - (k + 1)) = omega arith in
       let f : suc k ≡ k + 1 = omega arith in
-      rw e (ap (λ (j : ℕ). memoryAfter gaugeLimits s (leaves gaugeLimits s M (callAt ws (4 * k))) (callsFrom ws j (n - (k + 1)))) f)
+      rw e (ap (λ (j : ℕ). playFrom j (n - (k + 1)) (turn k L)) f)
 
-  pub left-none : (k : ℕ) (M : Memory) → n ≤ k → left k M ≡ M
-  unfolding memoryAfter numbersFrom
-  left-none k M h = let e : n - k ≡ 0 = omega arith in rw e refl
+  pub play-all : (n : ℕ) (L : Lent) → playFrom 0 n L ≡ playFrom 0 (n - 0) L
+  play-all n L = let e : n ≡ n - 0 = omega arith in ap (λ (m : ℕ). playFrom 0 m L) e
 
-  pub left-all : (M : Memory) → left 0 M ≡ memoryAfter gaugeLimits s M (callsFrom ws 0 n)
-  left-all M = let e : n - 0 ≡ n = omega arith in ap (λ (m : ℕ). memoryAfter gaugeLimits s M (callsFrom ws 0 m)) e
+  pub play-none : (n k : ℕ) (L : Lent) → n ≤ k → playFrom k (n - k) L ≡ L
+  unfolding playFrom
+  play-none n k L h = let e : n - k ≡ 0 = omega arith in rw e refl
 
--- ---- demand 3
+-- ---- Start, and then the calls, if it has not declined
 
--- after Start, which has not declined, and any list of calls
-pub promised : (s values : List ℕ) (M₀ : Memory) (ws : List ℕ) {r : Answer} {M : Memory} → r ≡ start gaugeLimits s values M₀ .answer
-    → M ≡ memoryAfter gaugeLimits s (start gaugeLimits s values M₀ .memory) (callsOf ws) → r ≡ Done
-    → Holds (descriptionOf s) values M (grantedBy gaugeLimits s (start gaugeLimits s values M₀ .memory) (callsOf ws))
-promised s values M₀ ws a e d =
-    subst (λ (N : Memory). Holds (descriptionOf s) values N (grantedBy gaugeLimits s (start gaugeLimits s values M₀ .memory) (callsOf ws))) (sym e)
-    (guarantee gaugeLimits s values M₀ (sym a ∙ d) .holds (callsOf ws))
+module _ (s values ws : List ℕ) where
+  abbrev pub started : Lent → Lent
+  started L =
+      record {
+        memory = start gaugeLimits s values (L .memory) .memory;
+        words = L .words;
+        output = L .output;
+        part = L .part;
+        answers = L .answers;
+      }
+
+  abbrev pub played : Lent → Lent
+  played L = cond (eqb (answerNumber (start gaugeLimits s values (L .memory) .answer)) 0) (playFrom s ws 0 (length ws / 4) (started L)) (started L)
+
+  abbrev pub callsMade : Lent → List Call
+  callsMade L = callsFrom s ws 0 (length ws / 4) (started L)
+
+  pub played-on : (L : Lent) {r : Answer} {k : ℕ} {L₁ L' : Lent} → r ≡ start gaugeLimits s values (L .memory) .answer → k ≡ answerNumber r → k ≡ 0
+      → L₁ ≡ started L → L' ≡ playFrom s ws 0 (length ws / 4) L₁ → L' ≡ played L
+  played-on L a b z e p =
+      rw (eq-eqb (answerNumber (start gaugeLimits s values (L .memory) .answer)) 0 (ap answerNumber (sym a) ∙ sym b ∙ z))
+      (p ∙ ap (playFrom s ws 0 (length ws / 4)) e)
+
+  pub played-off : (L : Lent) {r : Answer} {k : ℕ} {L' : Lent} → r ≡ start gaugeLimits s values (L .memory) .answer → k ≡ answerNumber r
+      → (k ≡ 0 → ⊥) → L' ≡ started L → L' ≡ played L
+  played-off L a b z e =
+      rw (ne-eqb (answerNumber (start gaugeLimits s values (L .memory) .answer)) 0 (λ f. z (b ∙ ap answerNumber a ∙ f))) e
+
+  -- demand 3 of what is left
+  pub promised : (L : Lent) {r : Answer} {L' : Lent} → r ≡ start gaugeLimits s values (L .memory) .answer → L' ≡ played L → r ≡ Done
+      → Demand3 gaugeLimits s values (L .memory)
+      × (L' .memory ≡ memoryAfter gaugeLimits s (start gaugeLimits s values (L .memory) .memory) (callsMade L))
+  promised L {r} {L'} a e d = (
+    guarantee gaugeLimits s values (L .memory) (sym a ∙ d),
+    ap (λ (L : Lent). L .memory) e ∙ ap (λ (A : Answer). (cond (eqb (answerNumber A) 0) (playFrom s ws 0 (length ws / 4) (started L)) (started L)) .memory) (sym a ∙ d)
+        ∙ play-memory s ws 0 (length ws / 4) (started L),
+  )

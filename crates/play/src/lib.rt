@@ -1,65 +1,193 @@
-// Demand 3 for the code: Start and then any list of calls, played on lent memory, leave what `guarantee` speaks of. A call stands in four words: 0 Step
-// with kind, number and stream; 1 Run with a number of steps; 2 Ready; 3 Window with pipe and side; any other Result.
+// Demand 3 for the code: Start and then any list of calls, played on lent memory, with every answer noted. What they leave is what `meaning` says, and demand 3
+// holds of it. A call stands in four words: 0 Step with kind, number and stream; 1 Run with a number of steps; 2 Ready; 3 Window with pipe and side; any other
+// Result. Its answer is noted in three words (`answer_words`), and the part that Window hands back is copied.
 //
-// In specs/, Play says which calls words stand for, and what holds after them.
+// In specs/, Play says which calls words stand for, what they leave of all that is lent, and that demand 3 holds of it.
 ghost use mathlib.Core.Path.{_≡_};
-ghost use Prim.Native.Nat.{_+_, _*_, _≤_};
+ghost use mathlib.Core.List.{[]};
+ghost use Prim.Native.Nat.{_+_, _*_, _/_, _≤_, min};
 ghost use lib.ListN.{length};
 ghost use Rattle.meaning.specs.declared.Answer.the-variants.{Done};
 ghost use Rattle.meaning.specs.Limits.{gaugeLimits};
-ghost use Rattle.meaning.specs.Description.{descriptionOf};
 ghost use Rattle.meaning.specs.Rules.{memoryOf};
-ghost use Rattle.meaning.specs.Calls.{start};
-ghost use Rattle.meaning.specs.Demands.{leaves, memoryAfter, grantedBy, Holds};
-ghost use Rattle.play.specs.Play.{callAt, callsOf};
+ghost use Rattle.meaning.specs.Calls.{start, step, run, readyCall, window, result};
+ghost use Rattle.meaning.specs.Demand3.{memoryAfter, Demand3};
+ghost use Rattle.answer_words.specs.Words.{wordsOf, ofAnswer, ofRan, ofReadiness, noted};
+ghost use Rattle.play.specs.Play.{callWord, copied, lentOf, turn, playFrom, played, callsMade};
+use answer_words::Words;
 use meaning::Answer;
 
-// The call at word `at`.
-fn play_call(
+// ---- the calls one by one, each with its answer noted as the k-th
+
+fn play_step(
     s: &[u8],
     calls: &[u32],
-    at: usize,
-    words: &mut [u64],
-    output: &mut [u32],
+    k: usize,
+    answers: &mut [u32],
     waiting: &[u32],
     received: &mut [u32],
     state: &mut [u32],
 )
-    requires { ⌜ at + 4 ≤ length (now calls) ⌝ }
-    ensures { λ r. ⌜ memoryOf (now (waiting .entry)) (now (received .exit)) (now (state .exit))
-        ≡ leaves gaugeLimits (now (s .entry)) (memoryOf (now (waiting .entry)) (now (received .entry)) (now (state .entry))) (callAt (now (calls .entry)) at) ⌝ }
+    requires { ⌜ 4 * k + 4 ≤ length (now calls) ⌝ }
+    ensures { λ r. ⌜ (memoryOf (now (waiting .entry)) (now (received .exit)) (now (state .exit))
+        ≡ step gaugeLimits (now (s .entry)) (callWord (now (calls .entry)) k 1) (callWord (now (calls .entry)) k 2) (callWord (now (calls .entry)) k 3)
+        (memoryOf (now (waiting .entry)) (now (received .entry)) (now (state .entry))) .memory)
+        × (now (answers .exit) ≡ noted (now (answers .entry)) k (ofAnswer (step gaugeLimits (now (s .entry)) (callWord (now (calls .entry)) k 1)
+        (callWord (now (calls .entry)) k 2) (callWord (now (calls .entry)) k 3)
+        (memoryOf (now (waiting .entry)) (now (received .entry)) (now (state .entry))) .answer))) ⌝ }
 {
-    match calls[at] {
+    let answer = step::step(
+        s,
+        calls[4 * k + 1],
+        calls[4 * k + 2],
+        calls[4 * k + 3],
+        waiting,
+        received,
+        state,
+    );
+    let words = answer_words::of_answer(answer);
+    answer_words::note(answers, k, words);
+}
+
+fn play_run(
+    s: &[u8],
+    calls: &[u32],
+    k: usize,
+    answers: &mut [u32],
+    waiting: &[u32],
+    received: &mut [u32],
+    state: &mut [u32],
+)
+    requires { ⌜ 4 * k + 4 ≤ length (now calls) ⌝ }
+    ensures { λ r. ⌜ (memoryOf (now (waiting .entry)) (now (received .exit)) (now (state .exit))
+        ≡ run gaugeLimits (now (s .entry)) (callWord (now (calls .entry)) k 1) (memoryOf (now (waiting .entry)) (now (received .entry)) (now (state .entry))) .memory)
+        × (now (answers .exit) ≡ noted (now (answers .entry)) k (ofRan (run gaugeLimits (now (s .entry)) (callWord (now (calls .entry)) k 1)
+        (memoryOf (now (waiting .entry)) (now (received .entry)) (now (state .entry))) .answer))) ⌝ }
+{
+    let answer = run::run(s, calls[4 * k + 1], waiting, received, state);
+    let words = answer_words::of_ran(answer);
+    answer_words::note(answers, k, words);
+}
+
+fn play_ready(
+    s: &[u8],
+    k: usize,
+    words: &mut [u64],
+    answers: &mut [u32],
+    waiting: &[u32],
+    received: &[u32],
+    state: &[u32],
+)
+    ensures { λ r. ⌜ (now (words .exit) ≡ readyCall gaugeLimits (now (s .entry)) (now (words .entry))
+        (memoryOf (now (waiting .entry)) (now (received .entry)) (now (state .entry))) .words)
+        × (now (answers .exit) ≡ noted (now (answers .entry)) k (ofReadiness (readyCall gaugeLimits (now (s .entry)) (now (words .entry))
+        (memoryOf (now (waiting .entry)) (now (received .entry)) (now (state .entry))) .answer))) ⌝ }
+{
+    let answer = ready::ready(s, words, waiting, received, state);
+    let noted = answer_words::of_readiness(answer);
+    answer_words::note(answers, k, noted);
+}
+
+fn least(a: usize, b: usize) -> usize
+    ensures { λ r. ⌜ r ≡ min a b ⌝ }
+{
+    if a < b { a } else { b }
+}
+
+// The values go over the first places of a list, as far as there is room.
+fn copy(values: &[u32], to: &mut [u32])
+    ensures { λ r. ⌜ now (to .exit) ≡ copied (now (values .entry)) (now (to .entry)) ⌝ }
+{
+    let n = least(values.len(), to.len());
+    let mut i = 0;
+    while i < n {
+        to[i] = values[i];
+        i += 1;
+    }
+}
+
+fn play_window<'a>(
+    s: &[u8],
+    calls: &[u32],
+    k: usize,
+    part: &mut [u32],
+    answers: &mut [u32],
+    waiting: &'a [u32],
+    received: &'a [u32],
+)
+    requires { ⌜ 4 * k + 4 ≤ length (now calls) ⌝ }
+    ensures { λ r. ⌜ (now (part .exit) ≡ copied (window gaugeLimits (now (s .entry)) (callWord (now (calls .entry)) k 1) (callWord (now (calls .entry)) k 2)
+        (now (waiting .entry)) (now (received .entry)) .part) (now (part .entry)))
+        × (now (answers .exit) ≡ noted (now (answers .entry)) k (wordsOf (window gaugeLimits (now (s .entry)) (callWord (now (calls .entry)) k 1)
+        (callWord (now (calls .entry)) k 2) (now (waiting .entry)) (now (received .entry)) .refusal) [])) ⌝ }
+{
+    let pipe = calls[4 * k + 1];
+    let side = calls[4 * k + 2];
+    let mut number: u32 = 0;
+    let seen = window::window(s, pipe, side, waiting, received, &mut number);
+    copy(seen, part);
+    let words = Words {
+        number: number,
+        first: 0,
+        second: 0,
+    };
+    answer_words::note(answers, k, words);
+}
+
+fn play_result(
+    s: &[u8],
+    k: usize,
+    output: &mut [u32],
+    answers: &mut [u32],
+    waiting: &[u32],
+    received: &[u32],
+    state: &[u32],
+)
+    ensures { λ r. ⌜ (now (output .exit) ≡ result gaugeLimits (now (s .entry)) (now (output .entry))
+        (memoryOf (now (waiting .entry)) (now (received .entry)) (now (state .entry))) .output)
+        × (now (answers .exit) ≡ noted (now (answers .entry)) k (ofAnswer (result gaugeLimits (now (s .entry)) (now (output .entry))
+        (memoryOf (now (waiting .entry)) (now (received .entry)) (now (state .entry))) .answer))) ⌝ }
+{
+    let answer = result::result(s, output, waiting, received, state);
+    let words = answer_words::of_answer(answer);
+    answer_words::note(answers, k, words);
+}
+
+// ---- all of them
+
+// The k-th call.
+fn play_call(
+    s: &[u8],
+    calls: &[u32],
+    k: usize,
+    words: &mut [u64],
+    output: &mut [u32],
+    part: &mut [u32],
+    answers: &mut [u32],
+    waiting: &[u32],
+    received: &mut [u32],
+    state: &mut [u32],
+)
+    requires { ⌜ 4 * k + 4 ≤ length (now calls) ⌝ }
+    ensures { λ r. ⌜ lentOf (now (waiting .entry)) (now (received .exit)) (now (state .exit)) (now (words .exit)) (now (output .exit)) (now (part .exit)) (now (answers .exit))
+        ≡ turn (now (s .entry)) (now (calls .entry)) k (lentOf (now (waiting .entry)) (now (received .entry)) (now (state .entry)) (now (words .entry))
+        (now (output .entry)) (now (part .entry)) (now (answers .entry))) ⌝ }
+{
+    match calls[4 * k] {
         0 => {
-            step::step(
-                s,
-                calls[at + 1],
-                calls[at + 2],
-                calls[at + 3],
-                waiting,
-                received,
-                state,
-            );
+            play_step(s, calls, k, answers, waiting, received, state);
         }
         1 => {
-            run::run(s, calls[at + 1], waiting, received, state);
+            play_run(s, calls, k, answers, waiting, received, state);
         }
         2 => {
-            ready::ready(s, words, waiting, received, state);
+            play_ready(s, k, words, answers, waiting, received, state);
         }
         3 => {
-            let mut number: u32 = 0;
-            window::window(
-                s,
-                calls[at + 1],
-                calls[at + 2],
-                waiting,
-                received,
-                &mut number,
-            );
+            play_window(s, calls, k, part, answers, waiting, received);
         }
         _ => {
-            result::result(s, output, waiting, received, state);
+            play_result(s, k, output, answers, waiting, received, state);
         }
     }
 }
@@ -70,41 +198,72 @@ fn play_calls(
     calls: &[u32],
     words: &mut [u64],
     output: &mut [u32],
+    part: &mut [u32],
+    answers: &mut [u32],
     waiting: &[u32],
     received: &mut [u32],
     state: &mut [u32],
 )
-    ensures { λ r. ⌜ memoryOf (now (waiting .entry)) (now (received .exit)) (now (state .exit))
-        ≡ memoryAfter gaugeLimits (now (s .entry)) (memoryOf (now (waiting .entry)) (now (received .entry)) (now (state .entry))) (callsOf (now (calls .entry))) ⌝ }
+    ensures { λ r. ⌜ lentOf (now (waiting .entry)) (now (received .exit)) (now (state .exit)) (now (words .exit)) (now (output .exit)) (now (part .exit)) (now (answers .exit))
+        ≡ playFrom (now (s .entry)) (now (calls .entry)) 0 (length (now (calls .entry)) / 4) (lentOf (now (waiting .entry)) (now (received .entry)) (now (state .entry))
+        (now (words .entry)) (now (output .entry)) (now (part .entry)) (now (answers .entry))) ⌝ }
 {
     let n = calls.len() / 4;
     let mut k = 0;
     while k < n {
-        play_call(s, calls, 4 * k, words, output, waiting, received, state);
+        play_call(
+            s,
+            calls,
+            k,
+            words,
+            output,
+            part,
+            answers,
+            waiting,
+            received,
+            state,
+        );
         k += 1;
     }
 }
 
-// Start, then the calls in turn. The contract is demand 3: what holds of the memory that is left, if Start has not declined.
+// Start, then, if it has not declined, the calls in turn. The contract says what is left of all that is lent, and demand 3.
 pub fn play(
     s: &[u8],
     values: &[u32],
     calls: &[u32],
     words: &mut [u64],
     output: &mut [u32],
+    part: &mut [u32],
+    answers: &mut [u32],
     waiting: &mut [u32],
     received: &mut [u32],
     state: &mut [u32],
 ) -> Answer
     ensures { λ r. ⌜ (r ≡ start gaugeLimits (now (s .entry)) (now (values .entry)) (memoryOf (now (waiting .entry)) (now (received .entry)) (now (state .entry))) .answer)
+        × (lentOf (now (waiting .exit)) (now (received .exit)) (now (state .exit)) (now (words .exit)) (now (output .exit)) (now (part .exit)) (now (answers .exit))
+        ≡ played (now (s .entry)) (now (values .entry)) (now (calls .entry)) (lentOf (now (waiting .entry)) (now (received .entry)) (now (state .entry))
+        (now (words .entry)) (now (output .entry)) (now (part .entry)) (now (answers .entry))))
+        × (r ≡ Done → Demand3 gaugeLimits (now (s .entry)) (now (values .entry)) (memoryOf (now (waiting .entry)) (now (received .entry)) (now (state .entry)))
         × (memoryOf (now (waiting .exit)) (now (received .exit)) (now (state .exit))
         ≡ memoryAfter gaugeLimits (now (s .entry)) (start gaugeLimits (now (s .entry)) (now (values .entry))
-        (memoryOf (now (waiting .entry)) (now (received .entry)) (now (state .entry))) .memory) (callsOf (now (calls .entry))))
-        × (r ≡ Done → Holds (descriptionOf (now (s .entry))) (now (values .entry)) (memoryOf (now (waiting .exit)) (now (received .exit)) (now (state .exit)))
-        (grantedBy gaugeLimits (now (s .entry)) (start gaugeLimits (now (s .entry)) (now (values .entry))
-        (memoryOf (now (waiting .entry)) (now (received .entry)) (now (state .entry))) .memory) (callsOf (now (calls .entry))))) ⌝ }
+        (memoryOf (now (waiting .entry)) (now (received .entry)) (now (state .entry))) .memory)
+        (callsMade (now (s .entry)) (now (values .entry)) (now (calls .entry)) (lentOf (now (waiting .entry)) (now (received .entry)) (now (state .entry))
+        (now (words .entry)) (now (output .entry)) (now (part .entry)) (now (answers .entry)))))) ⌝ }
 {
     let answer = start::start(s, values, waiting, received, state);
-    play_calls(s, calls, words, output, waiting, received, state);
+    if answer_words::number_of(answer) == 0 {
+        play_calls(
+            s,
+            calls,
+            words,
+            output,
+            part,
+            answers,
+            waiting,
+            received,
+            state,
+        );
+    }
     answer
 }

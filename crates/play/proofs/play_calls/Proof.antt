@@ -3,47 +3,51 @@ use mathlib.Core.Path.{_≡_, refl, sym, _∙_, ap}
 use Prim.Native.Nat.{_-_, _≤_}
 use native.Mathlib.Omega.{arith}
 use lib.ListN.{length}
+use denote.Ref.{now}
 use borrow.Author.Needs.{needs}
-use Rattle.meaning.specs.Rules.{memoryOf}
-use Rattle.play.specs.Play.{left, left-next, left-none, left-all}
+use Rattle.play.specs.Play.{lentOf, playFrom, play-all, play-next, play-none}
 use Rattle.play.proofs.play_calls.Statement.{statement}
 use Rattle.play.proofs.play_calls.Tie as tie
 
 abbrev Inv-loop : tie.InvT-loop
-Inv-loop s calls words₀ output₀ waiting received₀ state₀ n k₀ words output received state k =
-    (k ≤ n) × (length words ≡ length words₀) × (length output ≡ length output₀) × (length received ≡ length received₀) × (length state ≡ length state₀)
-    × (left s calls n 0 (memoryOf waiting received₀ state₀) ≡ left s calls n k (memoryOf waiting received state))
+Inv-loop s calls words₀ output₀ part₀ answers₀ waiting received₀ state₀ n k₀ words output part answers received state k =
+    (k ≤ n) × (length words ≡ length words₀) × (length output ≡ length output₀) × (length part ≡ length part₀) × (length answers ≡ length answers₀)
+    × (length received ≡ length received₀) × (length state ≡ length state₀)
+    × (playFrom s calls 0 n (lentOf waiting received₀ state₀ words₀ output₀ part₀ answers₀)
+    ≡ playFrom s calls k (n - k) (lentOf waiting received state words output part answers))
 
 abbrev μ-loop : tie.MeasureT-loop
-μ-loop s calls words₀ output₀ waiting received₀ state₀ n k₀ words output received state k = n - k
+μ-loop s calls words₀ output₀ part₀ answers₀ waiting received₀ state₀ n k₀ words output part answers received state k =
+    n - k
 
 loop-holds : tie.Need-loop-holds Inv-loop μ-loop
-loop-holds c = (omega arith, refl, refl, refl, refl, refl)
-
-mul-play-call : tie.Need-mul-play-call Inv-loop μ-loop
-mul-play-call c = search needs
+loop-holds c = let a = c .before .before .before .before .before .before .before .before .before .args in (omega arith, refl, refl, refl, refl, refl, refl, play-all (now (a .s)) (now (a .calls)) _ _)
 
 play-call-requires : tie.Need-play-call-requires Inv-loop μ-loop
-play-call-requires c κs = omega (arith, c .before .before .before .before .loop-test .taken)
+play-call-requires c κs = omega (arith, c .before .before .before .before .before .before .loop-test .taken)
 
 add-k : tie.Need-add-k Inv-loop μ-loop
 add-k c = search needs
 
 loop-less : tie.Need-loop-less Inv-loop μ-loop
-loop-less c = omega (arith, c .before .before .before .before .before .before .before .before .before .before .before .before .before .loop-test .taken)
+loop-less c = omega (arith, c .before .before .before .before .before .before .before .before .before .before .before .before .before .before .before .before .before .before .before .loop-test .taken)
 
 loop-again : tie.Need-loop-again Inv-loop μ-loop
 loop-again c =
-    let q = c .before .before .before .before .before .before .before .before .before .before .before .before .before .before in
-    let a = c .before .before .before .before .before .before .before .before .before .before .before .before .before .before .before .before .before .before .before .before .before .before .args in
-    let i = q .loop .inv in
-    let next = left-next (a .s .now) (a .calls .now) _ (q .loop .k) (memoryOf (a .waiting .now) (q .loop .received) (q .loop .state)) (c .before .before .before .before .before .before .before .before .before .before .before .before .before .loop-test .taken) in (
-      omega (arith, c .before .before .before .before .before .before .before .before .before .before .before .before .before .loop-test .taken),
-      omega (arith, i .1, c .before .before .before .before .before .before .before .words .given),
-      omega (arith, i .2, c .before .before .before .before .before .output .given),
-      omega (arith, i .3, c .before .before .before .received .given),
-      omega (arith, i .4, c .before .state .given),
-      i .5 ∙ next ∙ ap (left (a .s .now) (a .calls .now) _ _) (sym (c .before .before .before .before .before .before .before .before .play-call .ensures)),
+    let h = c .before .before .before .before .before .before .before .before .before .before .before .before .before .before .before .before .before .before .before .loop-test .taken in
+    let q = c .before .before .before .before .before .before .before .before .before .before .before .before .before .before .before .before .before .before .before .before .loop in
+    let a = c .before .before .before .before .before .before .before .before .before .before .before .before .before .before .before .before .before .before .before .before .before .before .before .before .before .before .before .before .before .before .args in
+    let i = q .inv in
+    let p = c .before .before .before .before .before .before .before .before .before .before .before .before .play-call .ensures in
+    let L = lentOf (now (a .waiting)) (q .received) (q .state) (q .words) (q .output) (q .part) (q .answers) in (
+      omega (arith, h),
+      omega (arith, i .1, c .before .before .before .before .before .before .before .before .before .before .before .words .given),
+      omega (arith, i .2, c .before .before .before .before .before .before .before .before .before .output .given),
+      omega (arith, i .3, c .before .before .before .before .before .before .before .part .given),
+      omega (arith, i .4, c .before .before .before .before .before .answers .given),
+      omega (arith, i .5, c .before .before .before .received .given),
+      omega (arith, i .6, c .before .state .given),
+      i .7 ∙ play-next (now (a .s)) (now (a .calls)) _ (q .k) L h ∙ ap (playFrom (now (a .s)) (now (a .calls)) _ _) (sym p),
     )
 
 same-length : tie.Need-same-length Inv-loop μ-loop
@@ -58,12 +62,18 @@ same-length-3 c = search needs
 same-length-4 : tie.Need-same-length-4 Inv-loop μ-loop
 same-length-4 c = search needs
 
+same-length-5 : tie.Need-same-length-5 Inv-loop μ-loop
+same-length-5 c = search needs
+
+same-length-6 : tie.Need-same-length-6 Inv-loop μ-loop
+same-length-6 c = search needs
+
 returns : tie.Need-returns Inv-loop μ-loop
 returns c =
-    let a = c .before .before .before .before .before .before .before .before .before .args in
     let q = c .before .loop in
-    sym (sym (left-all (a .s .now) (a .calls .now) _ (memoryOf (a .waiting .now) (a .received .now) (a .state .now))) ∙ q .inv .5
-    ∙ left-none (a .s .now) (a .calls .now) _ (q .k) (memoryOf (a .waiting .now) (q .received) (q .state)) (c .loop-test .left))
+    let a = c .before .before .before .before .before .before .before .before .before .before .before .args in
+    let L = lentOf (now (a .waiting)) (q .received) (q .state) (q .words) (q .output) (q .part) (q .answers) in
+    sym (q .inv .7 ∙ play-none (now (a .s)) (now (a .calls)) _ (q .k) L (c .loop-test .left))
 
 pub play-calls-spec : {M : Type 1} → statement M
 play-calls-spec =
@@ -72,7 +82,6 @@ play-calls-spec =
     Inv-loop
     μ-loop
     loop-holds
-    mul-play-call
     play-call-requires
     add-k
     loop-less
@@ -81,4 +90,6 @@ play-calls-spec =
     same-length-2
     same-length-3
     same-length-4
+    same-length-5
+    same-length-6
     returns)

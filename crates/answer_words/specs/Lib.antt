@@ -1,0 +1,2 @@
+-- The words of answers; src/lib.rt has more.
+pub mod Words
