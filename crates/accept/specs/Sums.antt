@@ -16,9 +16,10 @@ use Rattle.meaning.specs.Lists.{filter, total}
 use Rattle.meaning.specs.Space.{space, processes}
 use Rattle.meaning.specs.Streams.{elements}
 use Rattle.meaning.specs.Pipes.{entries, pipe, pipeElements}
+use Rattle.meaning.specs.Points.{Inside}
 use Rattle.geometry.specs.Sorting.{fewer}
 use Rattle.geometry.specs.Places.{rank-yes, rank-no}
-use Rattle.geometry.specs.Boxes.{Inside, inside-points}
+use Rattle.geometry.specs.Boxes.{inside-points}
 use Rattle.geometry.specs.Pipes.{Accepted, in-pipe}
 use Rattle.geometry.specs.Positions.{pipe-distinct}
 use Rattle.geometry.specs.Elements.{entries-entry, pipes-total}

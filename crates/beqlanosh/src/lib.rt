@@ -72,7 +72,7 @@ pub extern "C" fn beqlanosh_plain_run(bytes: &[u8], values: &[u32], output: &mut
         × (now (output .exit) ≡ plainRun gaugeLimits (now (bytes .entry)) (now (values .entry)) (now (output .entry)) .output) ⌝ }
 {
     let answer = plain::plain_run(bytes, values, output);
-    listing::number_of(answer)
+    answer_words::number_of(answer)
 }
 
 // ---- the calls on a state
@@ -93,7 +93,7 @@ pub extern "C" fn beqlanosh_start(
         (memoryOf (now (waiting .entry)) (now (received .entry)) (now (state .entry))) .memory) ⌝ }
 {
     let answer = start::start(bytes, values, waiting, received, state);
-    listing::number_of(answer)
+    answer_words::number_of(answer)
 }
 
 // STEP: the step named, if it is ready.
@@ -114,7 +114,7 @@ pub extern "C" fn beqlanosh_step(
         (memoryOf (now (waiting .entry)) (now (received .entry)) (now (state .entry))) .memory) ⌝ }
 {
     let answer = step::step(bytes, kind, number, stream, waiting, received, state);
-    listing::number_of(answer)
+    answer_words::number_of(answer)
 }
 
 // 1 if so, 0 if not.
@@ -216,5 +216,5 @@ pub extern "C" fn beqlanosh_result(
         (memoryOf (now (waiting .entry)) (now (received .entry)) (now (state .entry))) .output) ⌝ }
 {
     let answer = result::result(bytes, output, waiting, received, state);
-    listing::number_of(answer)
+    answer_words::number_of(answer)
 }

@@ -254,9 +254,7 @@ fn accept_line(s: &[u8]) -> Extents
     }
 }
 
-fn table_call(s: &[u8], lent: usize, seen: usize)
-    requires { ⌜ lent ≤ 1024 ⌝ }
-{
+fn table_call(s: &[u8], lent: usize, seen: usize) {
     let listed = rows::table(s, lent);
     let answer = listed.answer;
     let rows = listed.rows;

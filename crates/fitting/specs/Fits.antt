@@ -7,15 +7,14 @@ use native.Mathlib.Omega.{arith}
 use borrow.Author.Tests.{lt-ltb}
 use lib.Dec.{ltb}
 use lib.ListN.{length}
-use Rattle.integers.specs.Vectors.{image}
 use Rattle.integers.specs.declared.V2.{V2}
 use Rattle.meaning.specs.declared.Nest.{Nest}
 use Rattle.meaning.specs.declared.Stream.{Stream}
 use Rattle.meaning.specs.declared.Description.{Description}
 use Rattle.meaning.specs.Limits.{gaugeLimits}
 use Rattle.meaning.specs.Lists.{position}
-use Rattle.meaning.specs.Space.{eq2, first, computing}
-use Rattle.meaning.specs.Pipes.{pipeElements, soak}
+use Rattle.meaning.specs.Space.{computing}
+use Rattle.meaning.specs.Pipes.{uses, pipeElements, soak}
 use Rattle.meaning.specs.Description.{descriptionOf, streamsOf}
 use Rattle.meaning.specs.Array.{rowSoak, Array, arrayOf, processCount, streamCount, pipeNumber, elementsOn, stopAt, onPipe}
 use Rattle.meaning.specs.State.{wordCount}
@@ -53,7 +52,7 @@ soak-most : (n : Nest) (t : Stream) (y : V2) → rowSoak n t y ≤ length (pipeE
 soak-most n t y = go (computing n y)
   where
     go : (b : Bool) → cond b (soak n t y) (length (pipeElements n t y)) ≤ length (pipeElements n t y)
-    go true = position-most (λ v. eq2 v (image (t .map) (first n y))) (pipeElements n t y)
+    go true = position-most (uses n t y) (pipeElements n t y)
     go false = omega arith
 
 module _ (s : List ℕ) (ok : refusalOf gaugeLimits s ≡ 0) where

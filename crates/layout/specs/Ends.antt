@@ -16,7 +16,7 @@ use Rattle.meaning.specs.declared.Nest.{Nest}
 use Rattle.meaning.specs.Lists.{bestOr}
 use Rattle.meaning.specs.Loops.{instances as instancesOf, stepOf}
 use Rattle.meaning.specs.Space.{Box, points, space, processes, sentTo, countOf, sooner, later, firstOf, lastOf, count, first, last}
-use Rattle.geometry.specs.Instances.{Directed}
+use Rattle.meaning.specs.Points.{Directed}
 use Rattle.numbering.specs.Numbers.{numbersOf}
 use Rattle.tables.specs.Sweep.{Listed, countIn}
 use Rattle.tables.specs.Ends.{endIn}

@@ -12,7 +12,7 @@ use Rattle.integers.specs.Vectors.{zero2}
 use Rattle.integers.specs.declared.V2.{V2}
 use Rattle.meaning.specs.Loops.{size}
 use Rattle.meaning.specs.Space.{Box, points}
-use Rattle.geometry.specs.Boxes.{Inside}
+use Rattle.meaning.specs.Points.{Inside}
 use Rattle.geometry.specs.RowOrder.{points-length, row-at}
 use Rattle.numbering.specs.Ranges.{size-some, Apart}
 use Rattle.numbering.specs.Extents.{Spanning}

@@ -16,8 +16,7 @@ use Rattle.integers.specs.Vectors.{zero2, shift2, same2}
 use Rattle.integers.specs.declared.V2.{V2}
 use Rattle.meaning.specs.Space.{Box}
 use Rattle.meaning.specs.Pipes.{reach}
-use Rattle.geometry.specs.Instances.{Between}
-use Rattle.geometry.specs.Boxes.{Inside}
+use Rattle.meaning.specs.Points.{Between, Inside}
 use Rattle.geometry.specs.Reach.{reach-in, reach-le}
 use Rattle.vectors.specs.Within.{Within2}
 use Rattle.numbering.specs.Ranges.{Apart, between-apart}

@@ -5,7 +5,7 @@
 //   Words     rows of the table as words
 //   Lent      what Table leaves in lent words
 ghost use mathlib.Core.Path.{_≡_};
-ghost use Prim.Native.Nat.{_+_, _*_, _/_, _≤_, min};
+ghost use Prim.Native.Nat.{_+_, _*_, _≤_};
 ghost use lib.ListN.{length};
 ghost use lib.Seq.{paste};
 ghost use mir.Syntax.{w32};
@@ -14,24 +14,12 @@ ghost use Rattle.meaning.specs.Limits.{gaugeLimits};
 ghost use Rattle.meaning.specs.Space.{processes};
 ghost use Rattle.meaning.specs.Description.{descriptionOf};
 ghost use Rattle.meaning.specs.Accept.{refusalOf};
-ghost use Rattle.meaning.specs.Answers.{answerNumber};
 ghost use Rattle.listing.specs.Words.{laid, bits3, rowWords, wordsOf};
 ghost use Rattle.listing.specs.Lent.{tableNumber, tableWords};
 use integers::V3;
-use meaning::Answer;
 use meaning::Row;
 
 // ---- numbers
-
-// The number by which a call declines, 0 if it does not.
-pub fn number_of(answer: Answer) -> u32
-    ensures { λ r. ⌜ r ≡ answerNumber answer ⌝ }
-{
-    match answer {
-        Answer::Done => 0,
-        Answer::Refused(number) => number,
-    }
-}
 
 // The 32 bits of a signed number.
 fn bits_of(z: i32) -> u32
@@ -112,14 +100,6 @@ fn put_rows(rows: [Row; 1024], count: usize, words: &mut [u32])
     }
 }
 
-// How many rows fit into so many words, up to as many as there can be processes.
-fn room_in(words: usize) -> usize
-    ensures { λ r. ⌜ r ≡ min (words / 21) 1024 ⌝ }
-{
-    let room = words / 21;
-    if room < 1024 { room } else { 1024 }
-}
-
 fn process_count(s: &[u8]) -> usize
     requires { ⌜ refusalOf gaugeLimits (now s) ≡ 0 ⌝ }
     ensures { λ r. ⌜ r ≡ length (processes (descriptionOf (now (s .entry)) .nest)) ⌝ }
@@ -134,10 +114,9 @@ pub fn table_words(bytes: &[u8], words: &mut [u32]) -> u32
     ensures { λ r. ⌜ (r ≡ tableNumber (now (bytes .entry)) (length (now (words .entry))))
         × (now (words .exit) ≡ laid (tableWords (now (bytes .entry)) (length (now (words .entry)))) (now (words .entry))) ⌝ }
 {
-    let room = room_in(words.len());
-    let listed = rows::table(bytes, room);
+    let listed = rows::table(bytes, words.len() / 21);
     let answer = listed.answer;
-    let number = number_of(answer);
+    let number = answer_words::number_of(answer);
     if number == 0 {
         let rows = listed.rows;
         put_rows(rows, process_count(bytes), words);

@@ -16,9 +16,10 @@ use Rattle.integers.specs.declared.Matrix.{Matrix}
 use Rattle.meaning.specs.declared.Nest.{Nest}
 use Rattle.meaning.specs.Loops.{instances}
 use Rattle.meaning.specs.Space.{Box, widen, widenAll, around, boxOf}
+use Rattle.meaning.specs.Points.{Between, Within as InBounds, Inside}
 use Rattle.geometry.specs.Places.{getD-in}
-use Rattle.geometry.specs.Instances.{Between, in-within, Within as InBounds}
-use Rattle.geometry.specs.Boxes.{Inside, box-has, box-least}
+use Rattle.geometry.specs.Instances.{in-within}
+use Rattle.geometry.specs.Boxes.{box-has, box-least}
 use Rattle.vectors.specs.Within.{Within, Within2, Rows}
 use Rattle.numbering.specs.declared.Extent.{Extent}
 use Rattle.numbering.specs.Ranges.{Bounded, Apart, point-small}

@@ -18,8 +18,9 @@ use Rattle.integers.specs.Vectors.{zero3}
 use Rattle.integers.specs.declared.V3.{V3}
 use Rattle.meaning.specs.declared.Nest.{Nest}
 use Rattle.meaning.specs.Loops.{size, loop, instances}
+use Rattle.meaning.specs.Points.{Direction, Directed, Between, Within as InBounds}
 use Rattle.geometry.specs.Places.{getD-in}
-use Rattle.geometry.specs.Instances.{Direction, Directed, Between, in-within, Within as InBounds}
+use Rattle.geometry.specs.Instances.{in-within}
 use Rattle.vectors.specs.Within.{Within, Rows}
 use Rattle.numbering.specs.declared.Loop.{Loop}
 

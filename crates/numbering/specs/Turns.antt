@@ -14,9 +14,10 @@ use Rattle.integers.specs.declared.V3.{V3}
 use Rattle.meaning.specs.declared.Nest.{Nest}
 use Rattle.meaning.specs.Lists.{each}
 use Rattle.meaning.specs.Loops.{walk, size, loop, instances}
+use Rattle.meaning.specs.Points.{Direction, Direction.onward, Direction.back}
 use Rattle.geometry.specs.Members.{map-at, each-length, each-at, total-same}
 use Rattle.geometry.specs.Numbers.{zero-on}
-use Rattle.geometry.specs.Instances.{Direction, Direction.onward, Direction.back, next}
+use Rattle.geometry.specs.Instances.{next}
 use Rattle.numbering.specs.declared.Loop.{Loop}
 use Rattle.numbering.specs.declared.Turns.{Turns}
 use Rattle.numbering.specs.Ranges.{Bounded, turns, values, outerOf, middleOf, innerOf, size-some, size-most}

@@ -16,7 +16,7 @@ ghost use Rattle.integers.specs.Differences.{up};
 ghost use Rattle.integers.specs.Vectors.{zero3, image};
 ghost use Rattle.meaning.specs.Loops.{instances};
 ghost use Rattle.meaning.specs.Space.{points, rowIndex, minZ, maxZ, widen, boxOf};
-ghost use Rattle.geometry.specs.Boxes.{Inside};
+ghost use Rattle.meaning.specs.Points.{Inside};
 ghost use Rattle.vectors.specs.Within.{Within, Rows};
 ghost use Rattle.numbering.specs.Ranges.{Bounded, Ranged, Apart, turns, values, outerOf, middleOf, innerOf};
 ghost use Rattle.numbering.specs.Turns.{Turned, turnsOf};

@@ -16,7 +16,7 @@ use Rattle.meaning.specs.Streams.{move}
 use Rattle.meaning.specs.Pipes.{reach, pipe, before, isEntry, isPipe}
 use Rattle.geometry.specs.Numbers.{zero-shift}
 use Rattle.geometry.specs.RowOrder.{row-number}
-use Rattle.geometry.specs.Elements.{entry-is}
+use Rattle.geometry.specs.Elements.{entry-is, entry-before}
 use Rattle.geometry.specs.Positions.{pipe-length}
 use Rattle.geometry.specs.Arrays.{one-number}
 use Rattle.layout.specs.Ends.{processOf}
@@ -51,11 +51,18 @@ module _ {f : Flow} {ends lanes : List ℕ} {p : ℕ} (h : Near f ends lanes p) 
       ∙ ap (λ (k : ℕ). rowIndex (space (f .nest)) (shift2 y (negℤ (pos k)) (move (f .nest) (f .stream)))) e
       ∙ ap (rowIndex (space (f .nest))) (zero-shift y (move (f .nest) (f .stream))) ∙ row-number (space (f .nest)) p zero2 (h .lt)
 
+  -- the test of the code: nobody stands before it, or somebody does
+  pub none-before : {e : ℕ} → e ≡ getD lanes p 0 → e ≡ p → eqb (before (f .nest) (f .stream) y) 0 ≡ true
+  none-before r e = eq-eqb (before (f .nest) (f .stream) y) 0 (own (sym r ∙ e))
+
+  pub one-before : {e : ℕ} → e ≡ getD lanes p 0 → (e ≡ p → ⊥) → eqb (before (f .nest) (f .stream) y) 0 ≡ false
+  one-before r g = ne-eqb (before (f .nest) (f .stream) y) 0 (λ z. g (r ∙ back z))
+
   pub entry-test : {e : ℕ} → e ≡ getD lanes p 0 → e ≡ p → isEntry (f .nest) (f .stream) y ≡ true
-  entry-test r e = eq-eqb (before (f .nest) (f .stream) y) 0 (own (sym r ∙ e))
+  entry-test r e = entry-before (good h) (inside h) ∙ none-before r e
 
   pub no-entry : {e : ℕ} → e ≡ getD lanes p 0 → (e ≡ p → ⊥) → isEntry (f .nest) (f .stream) y ≡ false
-  no-entry r g = ne-eqb (before (f .nest) (f .stream) y) 0 (λ z. g (r ∙ back z))
+  no-entry r g = entry-before (good h) (inside h) ∙ one-before r g
 
   pub pipe-test : {k : ℕ} → k ≡ getD lanes (2048 + getD lanes p 0) 0 → not (eqb k 0) ≡ isPipe (f .nest) (f .stream) y
   pipe-test e = ap (λ (k : ℕ). not (eqb k 0)) (e ∙ held-there h) ∙ sym (some-filter (computing (f .nest)) (pipe (f .nest) (f .stream) y))
@@ -64,4 +71,4 @@ module _ {f : Flow} {ends lanes : List ℕ} {p : ℕ} (h : Near f ends lanes p) 
   pub entry-length : {k : ℕ} → isEntry (f .nest) (f .stream) y ≡ true → k ≡ reach (space (f .nest)) (move (f .nest) (f .stream)) y
       → k + 2 ≡ suc (length (pipe (f .nest) (f .stream) y))
   entry-length e r =
-      omega (arith, pipe-length (good h) y, eqb-true (before (f .nest) (f .stream) y) 0 e)
+      omega (arith, pipe-length (good h) y, eqb-true (before (f .nest) (f .stream) y) 0 (sym (entry-before (good h) (inside h)) ∙ e))

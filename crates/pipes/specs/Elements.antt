@@ -16,15 +16,17 @@ use Rattle.meaning.specs.Lists.{filter, any}
 use Rattle.meaning.specs.Loops.{instances}
 use Rattle.meaning.specs.Space.{Box, boxOf, space, processes, count, first, last, computing}
 use Rattle.meaning.specs.Streams.{stationary, pass}
-use Rattle.meaning.specs.Pipes.{reach, pipe, pipeElements, ahead, soak, drain}
+use Rattle.meaning.specs.Pipes.{reach, pipe, pipeElements, soak, drain}
 use Rattle.meaning.specs.Array.{rowSoak}
+use Rattle.meaning.specs.Points.{Inside}
 use Rattle.geometry.specs.Numbers.{yes-cond, neg-not}
-use Rattle.geometry.specs.Places.{getD-in}
-use Rattle.geometry.specs.Boxes.{Inside, box-has, points-inside}
+use Rattle.geometry.specs.Places.{ahead, getD-in}
+use Rattle.geometry.specs.Boxes.{box-has, points-inside}
 use Rattle.geometry.specs.Segments.{last-at}
 use Rattle.geometry.specs.Processes.{RunAt, computing-count, computes as run-first}
-use Rattle.geometry.specs.Pipes.{Accepted, OnePipe, flip-pipe, join-pipe, passes, same-elements, no-pipe, still-length, still-total}
-use Rattle.geometry.specs.Moving.{index-is, length-is, drain-is}
+use Rattle.geometry.specs.Pipes.{Accepted, OnePipe, flip-pipe, join-pipe, passes, same-elements, no-pipe, still-length}
+use Rattle.geometry.specs.Moving.{index-is, length-is}
+use Rattle.geometry.specs.Soaks.{soak-first, still-total, drain-is}
 use Rattle.geometry.specs.Elements.{entryOf, entry-pipe, entry-is}
 use Rattle.geometry.specs.RowOrder.{row-lt}
 use Rattle.geometry.specs.Arrays.{one-number}
@@ -146,7 +148,7 @@ module _ {f : Flow} {ends : List ℕ} {p : ℕ} (a : At f ends p) where
     index-moving {x} b h k = reach-against x h k ∙ sym (index-is accepted on-way b)
 
     pub soak-moving : {e : V2} {r : ℕ} → e ≡ image (s .map) (first n y) → r ≡ reach (boxed (f .elements)) (f .against) e → r ≡ soak n s y
-    soak-moving h k = index-moving runs h k
+    soak-moving h k = index-moving runs h k ∙ sym (soak-first accepted runs)
 
     pub drain-moving : {e : V2} {r : ℕ} → e ≡ image (s .map) (last n y) → r ≡ reach (boxed (f .elements)) (f .pass) e → r ≡ drain n s y
     drain-moving h k = reach-on (last n y) h k ∙ sym (drain-is accepted on-way runs)

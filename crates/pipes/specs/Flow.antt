@@ -17,9 +17,10 @@ use Rattle.meaning.specs.Loops.{instances}
 use Rattle.meaning.specs.Space.{Box, points, rowIndex, boxOf, space, processes}
 use Rattle.meaning.specs.Streams.{stationary, move, pass}
 use Rattle.meaning.specs.Pipes.{reach, backward}
+use Rattle.meaning.specs.Points.{Inside}
 use Rattle.geometry.specs.Numbers.{shift-neg, neg-not}
 use Rattle.geometry.specs.Places.{getD-in}
-use Rattle.geometry.specs.Boxes.{Inside, points-inside}
+use Rattle.geometry.specs.Boxes.{points-inside}
 use Rattle.geometry.specs.RowOrder.{row-lt}
 use Rattle.geometry.specs.Pipes.{Accepted}
 use Rattle.geometry.specs.Elements.{entryOf, entry-is}

@@ -16,14 +16,17 @@ use Rattle.meaning.specs.declared.Stream.{Stream}
 use Rattle.meaning.specs.Lists.{filter, position}
 use Rattle.meaning.specs.Space.{eq2, rowIndex, space, processes, computing}
 use Rattle.meaning.specs.Streams.{stationary, move}
-use Rattle.meaning.specs.Pipes.{lineIn, pipe, backward, ahead, soak}
+use Rattle.meaning.specs.Pipes.{lineIn, pipe, backward, soak}
+use Rattle.meaning.specs.Points.{Inside, RowOrder as Row}
+use Rattle.meaning.specs.Sorted.{Sorted, Sorted.more, Distinct}
 use Rattle.geometry.specs.Members.{in-filter, filter-in, in-reverse, reverse-in}
 use Rattle.geometry.specs.Numbers.{yes-cond, no-cond, and-left, and-right, eq2-eq, eq-eq2}
-use Rattle.geometry.specs.Sorting.{Sorted, Sorted.more, Distinct, sorted-filter, sorted-reverse, sorted-unique}
-use Rattle.geometry.specs.Places.{getD-in, ahead-lt, rank, rank-zero, rank-yes, rank-no, ahead-filter}
-use Rattle.geometry.specs.Boxes.{Inside, Row, row-irr, row-asym, row-distinct, inside-points, points-inside, points-sorted}
+use Rattle.geometry.specs.Sorting.{sorted-filter, sorted-reverse, sorted-unique}
+use Rattle.geometry.specs.Places.{ahead, getD-in, position-past, ahead-lt, rank, rank-zero, rank-yes, rank-no, ahead-filter}
+use Rattle.geometry.specs.Boxes.{row-irr, row-asym, row-distinct, inside-points, points-inside, points-sorted}
 use Rattle.geometry.specs.BoxLines.{Way, Way.on, Way.back, way, march-on, march-back}
-use Rattle.geometry.specs.Pipes.{Accepted, OnePipe, flip-pipe, join-pipe, pipe-in, in-pipe, soak-rank}
+use Rattle.geometry.specs.Pipes.{Accepted, OnePipe, flip-pipe, join-pipe, pipe-in, in-pipe}
+use Rattle.geometry.specs.Soaks.{soak-rank}
 use Rattle.geometry.specs.Elements.{entryOf, entry-pipe, entry-is, one-entry}
 use Rattle.geometry.specs.Arrays.{one-number}
 use Rattle.layout.specs.Ends.{processOf}
@@ -39,15 +42,9 @@ ahead-same : (y x : V2) (l : List V2) → x ≡ y → ahead y (x ∷ l) ≡ 0
 unfolding position
 ahead-same y x l e = yes-cond (eq2 x y) 0 (suc (ahead y l)) (eq-eq2 x y e)
 
--- y is not among the first
-ahead-past : (y : V2) (l m : List V2) → ((x : V2) → In x l → x ≡ y → ⊥) → ahead y (reverseAux l m) ≡ length l + ahead y m
-ahead-past y [] m f = omega arith
-ahead-past y (x ∷ l) m f =
-    ahead-past y l (x ∷ m) (λ z i. f z (there i)) ∙ omega (arith, ahead-other y x m (f x (here refl)))
-
 ahead-back : (y : V2) {l : List V2} (m : List V2) → Distinct l → In y l → ahead y (reverseAux l m) + suc (ahead y l) ≡ length l
 ahead-back y m (more {x} {l} f s) (here e) =
-    let a = ahead-past y l (x ∷ m) (λ z i q. f z i (sym e ∙ sym q)) in
+    let a = position-past (λ p. eq2 p y) l (x ∷ m) (λ z i t. f z i (sym e ∙ sym (eq2-eq z y t))) in
     omega (arith, a, ahead-same y x m (sym e), ahead-same y x l (sym e))
 ahead-back y m (more {x} {l} f s) (there i) =
     omega (arith, ahead-back y (x ∷ m) s i, ahead-other y x l (f y i))

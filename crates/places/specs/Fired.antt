@@ -16,14 +16,15 @@ use Rattle.meaning.specs.declared.Description.{Description}
 use Rattle.meaning.specs.Loops.{instances, placeOf}
 use Rattle.meaning.specs.Space.{points, rowIndex, boxOf, space, processes, first}
 use Rattle.meaning.specs.Streams.{elements}
-use Rattle.meaning.specs.Pipes.{pipeElements, ahead, soak}
-use Rattle.geometry.specs.Places.{getD-in, ahead-lt}
+use Rattle.meaning.specs.Pipes.{pipeElements, soak}
+use Rattle.geometry.specs.Places.{ahead, getD-in, ahead-lt}
 use Rattle.geometry.specs.Instances.{in-within}
-use Rattle.geometry.specs.Boxes.{Inside, box-has}
+use Rattle.geometry.specs.Boxes.{box-has}
 use Rattle.geometry.specs.RowOrder.{row-at, row-lt}
 use Rattle.geometry.specs.Segments.{first-at}
 use Rattle.geometry.specs.Processes.{RunAt, is-computing}
 use Rattle.geometry.specs.Pipes.{Accepted, still-element, touched-in}
+use Rattle.geometry.specs.Soaks.{soak-first}
 use Rattle.numbering.specs.declared.Extent.{Extent}
 use Rattle.numbering.specs.Extents.{boxed, Numbered, Spanning, box-spanning, image-inside}
 use Rattle.layout.specs.Ends.{processOf, Ends}
@@ -33,6 +34,7 @@ use Rattle.pipes.specs.Flow.{Laid, Flows, Seen}
 use Rattle.pipes.specs.Elements.{At, Near, good, entry-lt, held-le, total-still, still-of}
 use Rattle.meaning.specs.Description.{streamsOf, noStream}
 use Rattle.meaning.specs.Body.{streamStart}
+use Rattle.meaning.specs.Points.{Inside}
 use Rattle.accept.specs.Shares.{Described}
 use Rattle.parts.specs.Starts.{startAt, start-most}
 use Rattle.places.specs.Spread.{spread, spread-like}
@@ -96,7 +98,8 @@ module _ {f : Flow} {ends lanes : List ℕ} {k p : ℕ} (h : Fired f ends lanes 
   index-still e {r} g =
       let t = still-of (h .near) e in
       let same = still-element accepted t x (first n (processOf n p)) (point ∙ sym (first-at (accepted .layout .dirs) run-here .to)) in
-      let q : r ≡ ahead (touchedBy n s k) (pipeElements n s (processOf n p)) = g ∙ ap (λ (v : V2). ahead v (pipeElements n s (processOf n p))) same in
+      let q : r ≡ ahead (touchedBy n s k) (pipeElements n s (processOf n p)) =
+      g ∙ soak-first accepted run-here ∙ ap (λ (v : V2). ahead v (pipeElements n s (processOf n p))) same in
       (index-here q, omega (arith, q, ahead-lt (touchedBy n s k) (touched-in accepted run-here), total-still (h .near) e, held-le (h .near)))
 
 -- ---- a stream

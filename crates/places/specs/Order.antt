@@ -20,14 +20,15 @@ use Rattle.meaning.specs.Lists.{filter, position, total}
 use Rattle.meaning.specs.Loops.{instances, placeOf}
 use Rattle.meaning.specs.Space.{rowIndex, boxOf, space, processes}
 use Rattle.meaning.specs.Streams.{elements}
-use Rattle.meaning.specs.Pipes.{pipeElements, ahead}
+use Rattle.meaning.specs.Pipes.{pipeElements}
 use Rattle.meaning.specs.Description.{descriptionOf, streamsOf, noStream}
 use Rattle.meaning.specs.Body.{streamStart}
 use Rattle.meaning.specs.Array.{arrayOf, pipeOrder, partStart}
 use Rattle.meaning.specs.Accept.{refusalOf}
 use Rattle.meaning.specs.Calls.{lengthOf}
-use Rattle.geometry.specs.Places.{getD-in, found}
-use Rattle.geometry.specs.Instances.{Within, within-in, in-within}
+use Rattle.meaning.specs.Points.{Within}
+use Rattle.geometry.specs.Places.{ahead, getD-in, found}
+use Rattle.geometry.specs.Instances.{within-in, in-within}
 use Rattle.geometry.specs.Boxes.{points-inside, box-has}
 use Rattle.geometry.specs.RowOrder.{row-lt, row-number}
 use Rattle.geometry.specs.Elements.{partOf}

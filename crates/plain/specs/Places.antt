@@ -22,7 +22,7 @@ use Rattle.meaning.specs.Streams.{elements}
 use Rattle.meaning.specs.Description.{streamsOf, noStream}
 use Rattle.meaning.specs.Body.{streamStart, elementCount, touchedFrom, touchedBy}
 use Rattle.meaning.specs.Calls.{lengthOf}
-use Rattle.geometry.specs.Boxes.{Inside}
+use Rattle.meaning.specs.Points.{Inside}
 use Rattle.geometry.specs.RowOrder.{row-lt}
 use Rattle.vectors.specs.Within.{Rows}
 use Rattle.numbering.specs.declared.Extent.{Extent}

@@ -19,13 +19,13 @@ use Rattle.meaning.specs.declared.Description.{Description}
 use Rattle.meaning.specs.Lists.{filter, total}
 use Rattle.meaning.specs.Space.{rowIndex, space, processes}
 use Rattle.meaning.specs.Streams.{hop, elements}
-use Rattle.meaning.specs.Pipes.{entries, pipeElements, ahead}
+use Rattle.meaning.specs.Pipes.{entries, pipeElements}
 use Rattle.meaning.specs.Description.{streamsOf, noStream}
 use Rattle.meaning.specs.Body.{streamStart}
 use Rattle.meaning.specs.Array.{Array, arrayOf, pipeNumber, partStart}
 use Rattle.geometry.specs.Members.{filter-in}
 use Rattle.geometry.specs.Sorting.{sorted-filter}
-use Rattle.geometry.specs.Places.{getD-in, ahead-getD, ahead-filter}
+use Rattle.geometry.specs.Places.{ahead, getD-in, ahead-getD, ahead-filter}
 use Rattle.geometry.specs.Boxes.{row-distinct, points-sorted}
 use Rattle.geometry.specs.Elements.{partOf}
 use Rattle.geometry.specs.Descriptions.{Laid}

@@ -6,14 +6,13 @@ use Prim.Native.Nat.{ℕ, suc, _+_, _≤_, _<_}
 use native.Mathlib.Omega.{arith}
 use lib.Dec.{eqb}
 use lib.ListN.{length}
-use Rattle.integers.specs.Vectors.{image}
 use Rattle.integers.specs.declared.V2.{V2}
 use Rattle.meaning.specs.declared.Nest.{Nest}
 use Rattle.meaning.specs.declared.Stream.{Stream}
 use Rattle.meaning.specs.Lists.{position}
-use Rattle.meaning.specs.Space.{eq2, rowIndex, boxOf, space, processes, count, first, computing}
+use Rattle.meaning.specs.Space.{rowIndex, boxOf, space, processes, count, computing}
 use Rattle.meaning.specs.Streams.{move, elements}
-use Rattle.meaning.specs.Pipes.{reach, before, isPipe, pipeElements, soak}
+use Rattle.meaning.specs.Pipes.{reach, before, isPipe, uses, pipeElements, soak}
 use Rattle.meaning.specs.Array.{rowSoak}
 use Rattle.geometry.specs.Sorting.{fewer}
 use Rattle.geometry.specs.Boxes.{inside-points}
@@ -72,7 +71,7 @@ module _ {g : Strand} (w : Narrow g) {f : Flow} {ends lanes : List ℕ} {p : ℕ
   soak-low = go (computing n y)
     where
       go : (b : Bool) → cond b (soak n s y) (length (pipeElements n s y)) ≤ 4096
-      go true = omega (arith, total-low, position-most (λ q. eq2 q (image (s .map) (first n y))) (pipeElements n s y))
+      go true = omega (arith, total-low, position-most (uses n s y) (pipeElements n s y))
       go false = total-low
 
   count-low : count n y ≤ 4096

@@ -9,7 +9,7 @@ use Rattle.integers.specs.declared.V3.{V3}
 use Rattle.integers.specs.declared.Matrix.{Matrix}
 use Rattle.meaning.specs.declared.Nest.{Nest}
 use Rattle.meaning.specs.declared.Stream.{Stream}
-use Rattle.geometry.specs.Instances.{Directed, Direction.onward, Direction.back, Direction as Way}
+use Rattle.meaning.specs.Points.{Directed, Direction.onward, Direction.back, Direction as Way}
 use Rattle.vectors.specs.Within.{Within, Within2, Rows}
 use Rattle.decode.specs.Ranged.{Abs3, AbsMatrix, Direction, RangedNest, RangedStream}
 use Rattle.numbering.specs.Ranges.{Bounded}

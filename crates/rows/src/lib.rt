@@ -1,7 +1,7 @@
 // The call Table on a local list, handed out by value: whoever calls it here needs no proof by hand.
 ghost use mathlib.Core.Path.{_≡_};
 ghost use mathlib.Core.List.{_++_};
-ghost use Prim.Native.Nat.{_≤_, _-_};
+ghost use Prim.Native.Nat.{_≤_, _-_, min};
 ghost use lib.ListN.{replicate};
 ghost use Rattle.meaning.specs.Limits.{gaugeLimits};
 ghost use Rattle.meaning.specs.Calls.{table};
@@ -43,7 +43,7 @@ fn both(answer: Answer, rows: [Row; 1024]) -> Listed
 }
 
 // The call is lent the first n of 1,024 marked rows.
-pub fn table<'s>(s: &'s [u8], n: usize) -> Listed
+fn lend<'s>(s: &'s [u8], n: usize) -> Listed
     requires { ⌜ n ≤ 1024 ⌝ }
     ensures { λ r. ⌜ (r .answer ≡ table gaugeLimits (now (s .entry)) (replicate n marked) .answer)
         × (r .rows ≡ table gaugeLimits (now (s .entry)) (replicate n marked) .rows ++ replicate (1024 - n) marked) ⌝ }
@@ -52,4 +52,19 @@ pub fn table<'s>(s: &'s [u8], n: usize) -> Listed
     let mut rows = [m; 1024];
     let answer = table::table(s, &mut rows[..n]);
     both(answer, rows)
+}
+
+// As many rows as are asked for, up to as many as there are.
+fn room(n: usize) -> usize
+    ensures { λ r. ⌜ r ≡ min n 1024 ⌝ }
+{
+    if n < 1024 { n } else { 1024 }
+}
+
+// The call is lent n marked rows, or 1,024 if that is fewer: there are never more processes.
+pub fn table<'s>(s: &'s [u8], n: usize) -> Listed
+    ensures { λ r. ⌜ (r .answer ≡ table gaugeLimits (now (s .entry)) (replicate (min n 1024) marked) .answer)
+        × (r .rows ≡ table gaugeLimits (now (s .entry)) (replicate (min n 1024) marked) .rows ++ replicate (1024 - min n 1024) marked) ⌝ }
+{
+    lend(s, room(n))
 }

@@ -21,8 +21,8 @@ use Rattle.meaning.specs.Description.{streamsOf}
 use Rattle.meaning.specs.Array.{Stop, Array, arrayOf, stopsOn, pipeThrough, placeOn}
 use Rattle.meaning.specs.State.{Taken, Given, Place, Sent, Received, End}
 use Rattle.meaning.specs.Rules.{processOn, streamOn, putIn, takenOut, linkPlace}
+use Rattle.meaning.specs.Points.{Inside}
 use Rattle.geometry.specs.Numbers.{neg-not, shift-turn}
-use Rattle.geometry.specs.Boxes.{Inside}
 use Rattle.geometry.specs.RowOrder.{row-at, row-lt}
 use Rattle.geometry.specs.Reach.{reach-in}
 use Rattle.geometry.specs.Pipes.{Accepted}

@@ -17,14 +17,14 @@ use Rattle.meaning.specs.Lists.{position}
 use Rattle.meaning.specs.Loops.{placeOf}
 use Rattle.meaning.specs.Space.{rowIndex, boxOf, space, processes, computing}
 use Rattle.meaning.specs.Streams.{elements}
-use Rattle.meaning.specs.Pipes.{isPipe, pipeElements, ahead}
+use Rattle.meaning.specs.Pipes.{isPipe, pipeElements}
 use Rattle.meaning.specs.Description.{streamsOf}
 use Rattle.meaning.specs.Body.{streamStart, elementCount}
 use Rattle.meaning.specs.Array.{Pipe, Array, arrayOf, pipeNumber, noPipe, pipeAt, elementsOn, pipeOrder, partStart, pipeThrough, listLength}
+use Rattle.meaning.specs.Points.{Within, Inside}
 use Rattle.geometry.specs.Members.{yes-any, map-at, each-length, each-part}
-use Rattle.geometry.specs.Places.{getD-ahead, ahead-lt, distinct-at, position-is}
-use Rattle.geometry.specs.Instances.{Within}
-use Rattle.geometry.specs.Boxes.{Inside, box-has}
+use Rattle.geometry.specs.Places.{ahead, getD-ahead, ahead-lt, distinct-at, position-is}
+use Rattle.geometry.specs.Boxes.{box-has}
 use Rattle.geometry.specs.RowOrder.{row-number}
 use Rattle.geometry.specs.Processes.{RunAt, is-computing}
 use Rattle.geometry.specs.Pipes.{Accepted, same-elements, pipe-self, touched-in}

@@ -16,18 +16,19 @@ use Rattle.meaning.specs.declared.Stream.{Stream}
 use Rattle.meaning.specs.declared.Description.{Description}
 use Rattle.meaning.specs.Lists.{any, position}
 use Rattle.meaning.specs.Space.{rowIndex, space, processes, computing}
-use Rattle.meaning.specs.Pipes.{pipe, before, isPipe, isEntry, entries, ahead}
+use Rattle.meaning.specs.Pipes.{pipe, before, isPipe, isEntry, entries}
 use Rattle.meaning.specs.Description.{streamsOf}
 use Rattle.meaning.specs.Body.{streamStart}
 use Rattle.meaning.specs.Array.{Stop, Pipe, stopOf, pipeOf, Array, arrayOf, pipeNumber, noPipe, noStop, isStop, pipeThrough, onPipe, placeOn}
+use Rattle.meaning.specs.Points.{Inside}
 use Rattle.geometry.specs.Members.{in-filter, filter-in, any-yes, map-in, map-at}
 use Rattle.geometry.specs.Numbers.{decide, and-left, and-right, both}
-use Rattle.geometry.specs.Places.{getD-in, getD-ahead, ahead-lt, rank, ahead-filter}
-use Rattle.geometry.specs.Boxes.{Inside, row-distinct, inside-points, points-inside, points-sorted}
+use Rattle.geometry.specs.Places.{ahead, getD-in, getD-ahead, ahead-lt, rank, ahead-filter}
+use Rattle.geometry.specs.Boxes.{row-distinct, inside-points, points-inside, points-sorted}
 use Rattle.geometry.specs.RowOrder.{row-at, row-lt, row-number}
 use Rattle.geometry.specs.Pipes.{Accepted, in-pipe, pipe-self, same-pipe}
 use Rattle.geometry.specs.Positions.{before-is, pipe-length}
-use Rattle.geometry.specs.Elements.{entryOf, entry-pipe, entry-is, entries-entry}
+use Rattle.geometry.specs.Elements.{entryOf, entry-pipe, entry-is, is-entry, entries-entry}
 use Rattle.geometry.specs.Descriptions.{Laid}
 use Rattle.geometry.specs.Wiring.{processAt, wired}
 use Rattle.geometry.specs.Arrays.{streamAt, PipeIs, pipe-is, one-number, through, place-on}
@@ -70,7 +71,7 @@ module _ {n : Nest} {s : Stream} (h : Accepted n s) where
       let e = entryOf n s y in
       let b = entry-is h hy in
       in-filter (λ y. isEntry n s y && isPipe n s y) (inside-points (space n) e (b .inside))
-      (both (isEntry n s e) (isPipe n s e) (subst (λ (k : ℕ). T (eqb k 0)) (sym (b .zero)) tt)
+      (both (isEntry n s e) (isPipe n s e) (is-entry h b)
       (subst (λ (l : List V2). T (any (computing n) l)) (sym (line-same hy)) t))
 
   pub entry-line : {e : V2} → In e (entries n s) → T (isPipe n s e)

@@ -22,11 +22,12 @@ use Rattle.meaning.specs.Loops.{instances, stepOf}
 use Rattle.meaning.specs.Space.{eq2, points, rowIndex, boxOf, sentTo, countOf, sooner, later, firstOf, lastOf}
 use Rattle.meaning.specs.Streams.{elements, touched}
 use Rattle.meaning.specs.Accept.{refused17}
+use Rattle.meaning.specs.Points.{Directed, Inside}
 use Rattle.geometry.specs.Members.{map-at}
 use Rattle.geometry.specs.Numbers.{eq2-eq, eq-eq2}
 use Rattle.geometry.specs.Places.{getD-in}
-use Rattle.geometry.specs.Instances.{Directed, in-within}
-use Rattle.geometry.specs.Boxes.{Inside, box-has}
+use Rattle.geometry.specs.Instances.{in-within}
+use Rattle.geometry.specs.Boxes.{box-has}
 use Rattle.geometry.specs.RowOrder.{row-at, row-lt, row-number}
 use Rattle.numbering.specs.Numbers.{numbersOf}
 use Rattle.tables.specs.Sweep.{visits, countIn, Listed}

@@ -139,17 +139,21 @@ pub fn untouched(numbers: &[u32], instances: u32, elements: u32) -> bool
     requires { ⌜ instances ≤ length (now numbers) ⌝ }
     ensures { λ r. ⌜ r ≡ lacks (take instances (now (numbers .entry))) (upTo elements) ⌝ }
 {
+    let mut found = false;
     let mut e: u32 = 0;
     'elements: while e < elements {
         let mut k: u32 = 0;
-        while k < instances {
+        loop {
+            if k == instances {
+                found = true;
+                break 'elements;
+            }
             if numbers[k as usize] == e {
-                e += 1;
-                continue 'elements;
+                break;
             }
             k += 1;
         }
-        return true;
+        e += 1;
     }
-    false
+    found
 }

@@ -18,7 +18,7 @@ use Rattle.meaning.specs.Space.{eq2, Box, points, rowIndex, space, processes, s
 use Rattle.meaning.specs.Streams.{stationary, move}
 use Rattle.meaning.specs.Pipes.{reach, before, isPipe, pipeElements}
 use Rattle.meaning.specs.Array.{rowSoak}
-use Rattle.geometry.specs.Boxes.{Inside}
+use Rattle.meaning.specs.Points.{Inside}
 use Rattle.geometry.specs.Reach.{reach-in}
 use Rattle.geometry.specs.RowOrder.{row-lt}
 use Rattle.stations.specs.Ends.{backOf, onOf, exitOf, back-inside}

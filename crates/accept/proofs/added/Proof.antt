@@ -4,6 +4,7 @@ use mathlib.Core.Path.{sym, _∙_, ap}
 use Prim.Native.Nat.{_+_}
 use native.Mathlib.Omega.{arith}
 use Rattle.accept.specs.declared.Sums.{Sums}
+use Rattle.layout.specs.Ends.{processOf}
 use Rattle.parts.specs.Starts.{entering-entry}
 use Rattle.accept.specs.Sums.{sums-yes, sums-no, steps-fit, pipes-fit}
 use Rattle.accept.proofs.added.Statement.{statement}
@@ -16,7 +17,10 @@ add-t8 : tie.Need-add-t8
 add-t8 c = let s = c .before .before .before .before .before in omega (arith, ap (λ (r : Sums). r .pipes) (s .pre .1), pipes-fit _ _ (s .args .p) (s .pre .0 .lt) (s .pre .2))
 
 pipe-steps-requires : tie.Need-pipe-steps-requires
-pipe-steps-requires c κs = let s = c .before .before .before .before .before in (s .pre .0, entering-entry _ _ _ (sym (c .before .before .is-entry .ensures) ∙ c .before .if1 .taken))
+pipe-steps-requires c κs =
+    let s = c .before .before .before .before .before in
+    let n = s .args .f .nest in
+    (s .pre .0, entering-entry n (s .args .f .stream) (processOf n (s .args .p)) (sym (c .before .before .is-entry .ensures) ∙ c .before .if1 .taken))
 
 add-t10 : tie.Need-add-t10
 add-t10 c =

@@ -1,14 +1,11 @@
 -- `listing::table_words` meets its contract. Assumes nothing.
-use mathlib.Core.Path.{sym, _∙_}
+use mathlib.Core.Path.{refl, sym, _∙_}
 use lib.ListN.{length}
 use denote.Ref.{now}
 use Rattle.listing.specs.Lent.{room-number, table-accepts, table-fits, table-left, table-declined}
 use borrow.Author.Needs.{needs}
 use Rattle.listing.proofs.table_words.Statement.{statement}
 use Rattle.listing.proofs.table_words.Tie as tie
-
-room-in-requires : tie.Need-room-in-requires
-room-in-requires c κs = search needs
 
 table-requires : tie.Need-table-requires
 table-requires c κs = search needs
@@ -20,17 +17,17 @@ process-count-requires : tie.Need-process-count-requires
 process-count-requires c κs =
     let i = c .before in
     let t = i .before .before in
-    let a = t .before .before .before .before .args in
+    let a = t .before .before .before .args in
     table-accepts (now (a .bytes)) (length (now (a .words)))
-    (sym (room-number _ _ (t .before .room-in .ensures) (t .table .ensures .0) (i .before .number-of .ensures)) ∙ i .if1 .taken)
+    (sym (room-number (now (a .bytes)) (length (now (a .words))) refl (t .table .ensures .0) (i .before .number-of .ensures)) ∙ i .if1 .taken)
 
 put-rows-requires : tie.Need-put-rows-requires
 put-rows-requires c κs =
     let i = c .before .before .before in
     let t = i .before .before in
-    let a = t .before .before .before .before .args in
+    let a = t .before .before .before .args in
     table-fits (now (a .bytes)) (length (now (a .words)))
-    (sym (room-number _ _ (t .before .room-in .ensures) (t .table .ensures .0) (i .before .number-of .ensures)) ∙ i .if1 .taken) (c .before .process-count .ensures)
+    (sym (room-number (now (a .bytes)) (length (now (a .words))) refl (t .table .ensures .0) (i .before .number-of .ensures)) ∙ i .if1 .taken) (c .before .process-count .ensures)
 
 same-length : tie.Need-same-length
 same-length c = search needs
@@ -41,27 +38,26 @@ returns c =
     let p = w .before .before in
     let i = p .before .before in
     let t = i .before .before in
-    let a = t .before .before .before .before .args in
+    let a = t .before .before .before .args in
     let s = now (a .bytes) in
     let n = length (now (a .words)) in
-    let r = t .before .room-in .ensures in
+    let r = refl in
     let e = sym (i .if1 .taken) ∙ room-number s n r (t .table .ensures .0) (i .before .number-of .ensures) in
     (e, table-left s n (sym e) (now (a .words)) r (t .table .ensures .1) (p .process-count .ensures) (w .put-rows .ensures))
 
 returns-2 : tie.Need-returns-2
 returns-2 c =
     let t = c .before .before in
-    let a = t .before .before .before .before .args in
+    let a = t .before .before .before .args in
     let s = now (a .bytes) in
     let n = length (now (a .words)) in
-    let e = room-number s n (t .before .room-in .ensures) (t .table .ensures .0) (c .before .number-of .ensures) in
+    let e = room-number s n refl (t .table .ensures .0) (c .before .number-of .ensures) in
     (e, table-declined s n (now (a .words)) (λ z. c .if1 .left (e ∙ z)))
 
 pub table-words-spec : {M : Type 1} → statement M
 table-words-spec =
     tie.close
     (tie.spec
-    room-in-requires
     table-requires
     number-of-requires
     process-count-requires

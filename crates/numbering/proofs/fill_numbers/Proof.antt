@@ -9,7 +9,7 @@ use Rattle.integers.specs.Vectors.{zero3, image}
 use Rattle.integers.specs.declared.V2.{V2}
 use Rattle.meaning.specs.Loops.{instances}
 use Rattle.meaning.specs.Space.{Box, rowIndex, boxOf}
-use Rattle.geometry.specs.Boxes.{Inside}
+use Rattle.meaning.specs.Points.{Inside}
 use Rattle.numbering.specs.Extents.{Spanning, box-spanning, image-inside}
 use Rattle.numbering.specs.Numbers.{filled}
 use Rattle.numbering.proofs.fill_numbers.Statement.{statement}

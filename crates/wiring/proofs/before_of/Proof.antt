@@ -2,7 +2,7 @@
 use borrow.Author.Needs.{needs}
 use mathlib.Core.Path.{refl, _∙_, ap}
 use Prim.Native.Nat.{ℕ, _+_, _*_}
-use Rattle.parts.specs.Entries.{entry-test, no-entry}
+use Rattle.parts.specs.Entries.{none-before, one-before}
 use Rattle.wiring.specs.Strands.{some-before}
 use Rattle.wiring.proofs.before_of.Statement.{statement}
 use Rattle.wiring.proofs.before_of.Tie as tie
@@ -15,7 +15,7 @@ cast-number-back c = search needs
 
 number-back-requires : tie.Need-number-back-requires
 number-back-requires c κs =
-    let p = c .before .before .before .before .pre .0 in (p .seen .flows, p .lt, some-before (no-entry p (c .before .entry-at .ensures .0) (c .if1 .left)))
+    let p = c .before .before .before .before .pre .0 in (p .seen .flows, p .lt, some-before (one-before p (c .before .entry-at .ensures .0) (c .if1 .left)))
 
 seat-at-requires : tie.Need-seat-at-requires
 seat-at-requires c κs = search needs
@@ -24,13 +24,13 @@ add-result : tie.Need-add-result
 add-result c = search needs
 
 returns : tie.Need-returns
-returns c = let p = c .before .before .before .before .pre .0 in rw (entry-test p (c .before .entry-at .ensures .0) (c .if1 .taken)) refl
+returns c = let p = c .before .before .before .before .pre .0 in rw (none-before p (c .before .entry-at .ensures .0) (c .if1 .taken)) refl
 
 returns-2 : tie.Need-returns-2
 returns-2 c =
     let s = c .before .before .before .before .before .before in
     let g = s .args .g in
-    rw (no-entry (s .pre .0) (c .before .before .before .entry-at .ensures .0) (c .before .before .if1 .left))
+    rw (one-before (s .pre .0) (c .before .before .before .entry-at .ensures .0) (c .before .before .if1 .left))
     (ap (λ (a : ℕ). a + 1) (c .seat-at .ensures .0 ∙ ap (λ (k : ℕ). k * g .stride + g .offset) (c .before .number-back .ensures .0)))
 
 pub before-of-spec : {M : Type 1} → statement M
