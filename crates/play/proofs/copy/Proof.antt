@@ -8,9 +8,6 @@ use borrow.Author.Needs.{needs}
 use Rattle.integers.specs.Fill.{fillBy, fill-zero, fill-step, fill-done}
 use Rattle.play.proofs.copy.Statement.{statement}
 use Rattle.play.proofs.copy.Tie as tie
-use Rattle.play.proofs.copy.Reads as reads
-use Rattle.play.proofs.copy.Lts as lts
-use Rattle.play.proofs.least.Reads as least-reads
 
 abbrev Inv-loop : tie.InvT-loop
 Inv-loop values to₀ n i₀ to i = (i ≤ n) × (length to ≡ length to₀) × (to ≡ fillBy (λ i. getD values i 0) i to₀)
