@@ -223,6 +223,8 @@ fn worked_cases() -> Vec<Description> {
     vec![
         two([1, -1], [2, 1]),
         two([2, 1], [3, 1]),
+        one(4),
+        one(5),
         one(7),
         one(8),
         designs::polynomial_one(0),

@@ -15,11 +15,11 @@ pub struct Limits {
 }
 
 impl Limits {
-    /// The limits that document 01 names.
+    /// The limits that document 01 names, and request 2.8's for the hop.
     pub const NAMED: Limits = Limits {
         instances: 4096,
         processes: 1024,
-        hop: 8,
+        hop: 5,
     };
 }
 

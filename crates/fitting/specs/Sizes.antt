@@ -74,7 +74,7 @@ module _ (s : List ℕ) (ok : refusalOf gaugeLimits s ≡ 0) where
   pub pipes-most : sizeOf d .pipes ≤ 6144
   pipes-most = room .pipes
 
-  pub words-few : wordCount A ≤ 136192
+  pub words-few : wordCount A ≤ 99328
   words-few = omega (arith, word-count d, words-most (h .processes) room, room .ends)
 
   -- ---- elements

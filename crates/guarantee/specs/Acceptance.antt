@@ -86,7 +86,7 @@ module _ (l : Limits) (s : List ℕ) where
 
   -- ---- all conditions are met: one by one, and as document 01 has them
 
-  meets-of : ((c : Condition) → In c (conditions (sizesOf s .streams)) → Asks l s c) → Meets l s
+  pub meets-of : ((c : Condition) → In c (conditions (sizesOf s .streams)) → Asks l s c) → Meets l s
   meets-of f =
       record {
         begins = f _ (here refl);
@@ -116,7 +116,7 @@ module _ (l : Limits) (s : List ℕ) where
             touched = g (Touched i) (there (there (there (there (there (there (here refl)))))));
           }
 
-  of-meets : Meets l s → (c : Condition) → In c (conditions (sizesOf s .streams)) → Asks l s c
+  pub of-meets : Meets l s → (c : Condition) → In c (conditions (sizesOf s .streams)) → Asks l s c
   of-meets m c i = go i
     where
       by : (b : Condition) → Asks l s b → c ≡ b → Asks l s c

@@ -1,4 +1,4 @@
--- Document 01's cases marked P: one table, proved together by computing the definitions on the designs' bytes.
+-- Document 01's cases marked P, as the requests leave them: one table, proved together by computing the definitions on the designs' bytes.
 use mathlib.Core.Path.{_≡_, refl}
 use mathlib.Core.List.{List, [], _∷_, map}
 use Prim.Native.Nat.{ℕ}
@@ -7,7 +7,7 @@ use lib.IntN.{ℤ, pos, negsuc}
 use Rattle.integers.specs.Bytes.{bitsAt, wordAt}
 use Rattle.lattice.specs.Gcd.{gcdOf, euclid}
 use Rattle.meaning.specs.declared.Row.{Row}
-use Rattle.meaning.specs.Limits.{gaugeLimits}
+use Rattle.meaning.specs.Limits.{gaugeLimits, formerLimits}
 use Rattle.meaning.specs.Lists.{filter, any, every, position, best, bestOr, total, each, numbersFrom}
 use Rattle.meaning.specs.Tests.{refusal}
 use Rattle.meaning.specs.Loops.{walk, instances, lineOf, increment}
@@ -79,10 +79,15 @@ cases =
     ∷ (number (acceptNumber (accept gaugeLimits (sized (pos 0) 63 63))) is number 7)
     ∷ (number (acceptNumber (accept gaugeLimits (sized (pos 0) 63 64))) is number 6)
     ∷ (number (acceptNumber (accept gaugeLimits (sized (pos 1) 63 64))) is number 6)
-    -- design one with c's map i−j and step 7i+j gives c hop 8; step 8i+j is 14
-    ∷ (number (hop (nest (crossing 7)) (stream (crossing 7) 2)) is number 8)
-    ∷ (number (acceptNumber (accept gaugeLimits (crossing 7))) is number 0)
+    -- design one with c's map i−j and step 4i+j gives c hop 5 (request 2.8); steps 5i+j and 8i+j are 14
+    ∷ (number (hop (nest (crossing 4)) (stream (crossing 4) 2)) is number 5)
+    ∷ (number (acceptNumber (accept gaugeLimits (crossing 4))) is number 0)
+    ∷ (number (acceptNumber (accept gaugeLimits (crossing 5))) is number 14)
     ∷ (number (acceptNumber (accept gaugeLimits (crossing 8))) is number 14)
+    -- step 7i+j gives hop 8: accepted before request 2.8, and now 14; 8i+j was 14 then too
+    ∷ (number (acceptNumber (accept formerLimits (crossing 7))) is number 0)
+    ∷ (number (acceptNumber (accept gaugeLimits (crossing 7))) is number 14)
+    ∷ (number (acceptNumber (accept formerLimits (crossing 8))) is number 14)
     -- design one with bounds 0..0 takes 13 steps
     ∷ (number (getD (acceptValues (accept gaugeLimits (sized (pos 1) 0 0))) 5 0) is number 13)
     -- and the same c by the network, which takes longest to compute

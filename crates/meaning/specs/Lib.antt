@@ -1,4 +1,4 @@
--- What document 01 means; src/lib.rt lists the files.
+-- What document 01 and the requests of document 02 mean; src/lib.rt lists the files.
 pub mod Limits
 pub mod Lists
 pub mod Tests
@@ -20,6 +20,7 @@ pub mod Calls
 pub mod Demand1
 pub mod Demand2
 pub mod Demand3
+pub mod FivePlaces
 pub mod Designs
 pub mod Comparison
 pub mod Singles

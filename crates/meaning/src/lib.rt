@@ -1,6 +1,6 @@
-// The types of document 01's calls. What they mean is in specs/, one definition for each word of document 01, in its order:
+// The types of the calls. What they mean is in specs/, one definition for each word of document 01, in its order, as the requests of document 02 leave it:
 //
-//   Limits            those of refusals 6, 10 and 14
+//   Limits            those of refusals 6, 10 and 14, and the former ones
 //   Lists, Tests      small helpers: lists filtered and searched, refusals tried in order
 //   Loops             instances, their written order, step, place, increment
 //   Space             boxes, row order, the process space; count, first and last
@@ -17,6 +17,7 @@
 //   Demand1           what all calls have in common: numbers and values of answers, nothing changed, nothing written beyond
 //   Demand2           what Table leaves, every pass of the loops by one processor, what Plain run leaves
 //   Demand3           lists of calls, and what holds after every one of them
+//   FivePlaces        request 2.8: what the lower limit of refusal 14 changes, and what it leaves
 //   Designs, Cases    document 01's designs as bytes, and its cases marked P, computed as one table (Comparison)
 //   Singles, Runs     cases beside them that hold the rules: tables, single steps and declined calls; states stopped in the middle, other orders
 //
@@ -117,13 +118,13 @@ pub enum Readiness {
     Refused(u32),
 }
 
-// The limits of document 01, those of the gauges.
+// The limits of the gauges.
 pub fn gauge() -> Limits
     ensures { λ r. ⌜ r ≡ gaugeLimits ⌝ }
 {
     Limits {
         instances: 4096,
         processes: 1024,
-        hop: 8,
+        hop: 5,
     }
 }

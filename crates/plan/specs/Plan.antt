@@ -114,7 +114,7 @@ sums-zero d =
 pub record Started (d : Description) (stride count : ℕ) (ends : List ℕ) : Type 0 where
   pub described : Described d
   pub laid : Laid d
-  pub narrow : stride ≤ 73
+  pub narrow : stride ≤ 55
   pub strides : stride ≡ strideOf d
   pub counted : count ≡ length (processes (d .nest))
   pub of-ends : Ends (d .nest) ends
@@ -154,7 +154,7 @@ module _ (d : Description) (h : Described d) where
   stride-next i l e ek es =
       omega (arith, es, ek ∙ ap (hop nest) (stream-of i l e), next (seatSize nest) i l)
 
-  pub stride-all : {i sum : ℕ} → i ≡ d .sizes .streams → sum ≡ 1 + total (seatSize nest) (take i (streamsOf d)) → (sum ≡ strideOf d) × (sum ≤ 73)
+  pub stride-all : {i sum : ℕ} → i ≡ d .sizes .streams → sum ≡ 1 + total (seatSize nest) (take i (streamsOf d)) → (sum ≡ strideOf d) × (sum ≤ 55)
   stride-all {i} e es = (
     es ∙ ap (λ (k : ℕ). 1 + total (seatSize nest) (take k (streamsOf d))) (e ∙ sym (h .in-use))
         ∙ ap (λ (l : List Stream). 1 + total (seatSize nest) l) (take-length (streamsOf d)),

@@ -34,9 +34,9 @@ use Rattle.plan.specs.Marks.{mark, marks, marks-step, marks-length}
 
 -- small enough for a further stream
 pub record Slack (t : Sums) : Type 0 where
-  pub words : t .words ≤ 72
+  pub words : t .words ≤ 54
   pub pipes : t .pipes ≤ 6144
-  pub ends : t .ends ≤ 61440
+  pub ends : t .ends ≤ 43008
 
 abbrev pub join : Sums → ℕ → ℕ → Sums
 join t hop pipes = record { words = t .words + (4 + hop); pipes = t .pipes + pipes; ends = t .ends + pipes * (2 + hop) }
@@ -44,8 +44,8 @@ join t hop pipes = record { words = t .words + (4 + hop); pipes = t .pipes + pip
 abbrev pub strandFrom : ℕ → ℕ → ℕ → Sums → Strand
 strandFrom hop processes stride t = record { hop = hop; stride = stride; offset = 1 + t .words; tail = processes * stride + t .ends }
 
-pub strand-most : {p w : ℕ} → p ≤ 1024 → w ≤ 73 → p * w ≤ 74752
-strand-most h k = mul-le-mul {n₂ = 1024} {m₂ = 73} h k
+pub strand-most : {p w : ℕ} → p ≤ 1024 → w ≤ 55 → p * w ≤ 56320
+strand-most h k = mul-le-mul {n₂ = 1024} {m₂ = 55} h k
 
 -- ---- the rows
 

@@ -39,7 +39,7 @@ position-most f (x ∷ l) = go (f x) (position-most f l)
     go true e = omega arith
     go false e = omega arith
 
-wide : {a : ℕ} → a ≤ 200000 → a < 4294967296
+wide : {a : ℕ} → a ≤ 106498 → a < 4294967296
 wide h = omega arith
 
 module _ {g : Strand} (w : Narrow g) {f : Flow} {ends lanes : List ℕ} {p : ℕ} (h : Near f ends lanes p)
@@ -53,10 +53,10 @@ module _ {g : Strand} (w : Narrow g) {f : Flow} {ends lanes : List ℕ} {p : ℕ
   abbrev y : V2
   y = processOf n p
 
-  seat-low : (q : ℕ) → q < length (processes n) → seatIndex g q ≤ 74825
+  seat-low : (q : ℕ) → q < length (processes n) → seatIndex g q ≤ 56375
   seat-low q l = omega (arith, seat-most {p = q} {w = g .stride} (omega (arith, few h)) (w .stride), w .offset)
 
-  sent-low : (j : ℕ) → j ≤ 1024 → endIndex g j ≤ 146432
+  sent-low : (j : ℕ) → j ≤ 1024 → endIndex g j ≤ 106496
   sent-low j l = omega (arith, ends-most {j = j} {h = g .hop} l (w .hop), w .tail)
 
   total-low : length (pipeElements n s y) ≤ 4096
@@ -77,33 +77,33 @@ module _ {g : Strand} (w : Narrow g) {f : Flow} {ends lanes : List ℕ} {p : ℕ
   count-low : count n y ≤ 4096
   count-low = omega (arith, count-fits h, h .seen .of-ends .counts p (h .lt))
 
-  module _ (sent : ℕ) (l : sent ≤ 146432) where
-    before-low : beforeFrom n s g sent p ≤ 200000
+  module _ (sent : ℕ) (l : sent ≤ 106496) where
+    before-low : beforeFrom n s g sent p ≤ 106498
     before-low = go (eqb (before n s y) 0) refl
       where
-        go : (b : Bool) → eqb (before n s y) 0 ≡ b → cond b sent (seatIndex g (rowIndex (space n) (backOf n s y)) + 1) ≤ 200000
+        go : (b : Bool) → eqb (before n s y) 0 ≡ b → cond b sent (seatIndex g (rowIndex (space n) (backOf n s y)) + 1) ≤ 106498
         go true e = omega arith
         go false e =
             omega (arith, seat-low (rowIndex (space n) (backOf n s y)) (row-lt (space n) (backOf n s y) (back-inside (good h) (inside h) (some-before e))))
 
-    next-low : eqb (reach (space n) (move n s) y) 0 ≡ false → seatIndex g (rowIndex (space n) (onOf n s y)) ≤ 74825
+    next-low : eqb (reach (space n) (move n s) y) 0 ≡ false → seatIndex g (rowIndex (space n) (onOf n s y)) ≤ 56375
     next-low e = seat-low (rowIndex (space n) (onOf n s y)) (row-lt (space n) (onOf n s y) (on-inside (good h) (inside h) (some-before e)))
 
-    after-low : afterFrom n s g sent p ≤ 200000
+    after-low : afterFrom n s g sent p ≤ 106498
     after-low = go (eqb (reach (space n) (move n s) y) 0) refl
       where
-        go : (b : Bool) → eqb (reach (space n) (move n s) y) 0 ≡ b → cond b (sent + 1) (seatIndex g (rowIndex (space n) (onOf n s y))) ≤ 200000
+        go : (b : Bool) → eqb (reach (space n) (move n s) y) 0 ≡ b → cond b (sent + 1) (seatIndex g (rowIndex (space n) (onOf n s y))) ≤ 106498
         go true e = omega arith
         go false e = omega (arith, next-low e)
 
-    room-low : roomFrom n s g sent p ≤ 200000
+    room-low : roomFrom n s g sent p ≤ 106498
     room-low = go (eqb (reach (space n) (move n s) y) 0) refl
       where
-        go : (b : Bool) → eqb (reach (space n) (move n s) y) 0 ≡ b → cond b (sent + 2) (seatIndex g (rowIndex (space n) (onOf n s y)) + 4) ≤ 200000
+        go : (b : Bool) → eqb (reach (space n) (move n s) y) 0 ≡ b → cond b (sent + 2) (seatIndex g (rowIndex (space n) (onOf n s y)) + 4) ≤ 106498
         go true e = omega arith
         go false e = omega (arith, next-low e)
 
-  own-low : endIndex g (pipeOf n s p) ≤ 146432
+  own-low : endIndex g (pipeOf n s p) ≤ 106496
   own-low = sent-low (pipeOf n s p) (omega (arith, entered-le n s (entryNumber n s p), few h))
 
   seat-wide : SeatWide (seatFrom n s g p)

@@ -38,7 +38,7 @@ struct Sums {
 
 // With a further stream, of which the links have `hop` places.
 fn joined(t: Sums, hop: u32, pipes: u32) -> Sums
-    requires { ⌜ (Slack t) × (hop ≤ 8) × (pipes ≤ 1024) ⌝ }
+    requires { ⌜ (Slack t) × (hop ≤ 5) × (pipes ≤ 1024) ⌝ }
     ensures { λ r. ⌜ r ≡ join t hop pipes ⌝ }
 {
     Sums {
@@ -49,7 +49,7 @@ fn joined(t: Sums, hop: u32, pipes: u32) -> Sums
 }
 
 fn strand_of(n: Nest, s: Stream, processes: u32, stride: u32, t: Sums) -> Strand
-    requires { ⌜ (Sharing n s) × (processes ≤ 1024) × (stride ≤ 73) × (Slack t) ⌝ }
+    requires { ⌜ (Sharing n s) × (processes ≤ 1024) × (stride ≤ 55) × (Slack t) ⌝ }
     ensures { λ r. ⌜ (r ≡ strandFrom (hop n s) processes stride t) × (Narrow r) ⌝ }
 {
     Strand {
@@ -63,7 +63,7 @@ fn strand_of(n: Nest, s: Stream, processes: u32, stride: u32, t: Sums) -> Strand
 // The words of a process.
 fn stride_of(d: Description) -> u32
     requires { ⌜ Described d ⌝ }
-    ensures { λ r. ⌜ (r ≡ strideOf d) × (r ≤ 73) ⌝ }
+    ensures { λ r. ⌜ (r ≡ strideOf d) × (r ≤ 55) ⌝ }
 {
     let n = d.nest;
     let m = d.sizes.streams;

@@ -297,7 +297,7 @@ fn play_whole(s: &[u8], values: &[u32], bytes: u64) -> u64 {
     let l = accept_line(s);
     let mut waiting = [0u32; 32768];
     let mut received = [0u32; 32768];
-    let mut state = [0u32; 140000];
+    let mut state = [0u32; 100000];
     start_line(s, values, l, &mut waiting, &mut received, &mut state);
     play_calls(s, l, bytes, &waiting, &mut received, &mut state)
 }

@@ -85,7 +85,7 @@ fn run_opened(
     let mut ends = [0u32; 3072];
     layout::fill_processes(n, &mut ends);
     let g = steps::program_of(d);
-    let mut watch = [0u32; 136193];
+    let mut watch = [0u32; 99329];
     watch::fill_watch(book, z, &mut watch);
     let mut flags = [0u32; 33824];
     watch::fill_flags(book, state, z, &mut flags);

@@ -26,8 +26,8 @@ use book::Size;
 
 // The index of the neighbour's word that a step looks at, 136,192 where there is none: by its name, and by its rank.
 fn foreign_named(book: &[u32], z: Size, kind: u32, number: usize, stream: usize) -> usize
-    requires { ⌜ (RowsFit 136192 (now book) z) × (Inside z kind number stream) ⌝ }
-    ensures { λ i. ⌜ (i ≡ foreignNamed (now (book .entry)) kind number stream) × (i ≤ 136192) ⌝ }
+    requires { ⌜ (RowsFit 99328 (now book) z) × (Inside z kind number stream) ⌝ }
+    ensures { λ i. ⌜ (i ≡ foreignNamed (now (book .entry)) kind number stream) × (i ≤ 99328) ⌝ }
 {
     match kind {
         0 => {
@@ -36,12 +36,12 @@ fn foreign_named(book: &[u32], z: Size, kind: u32, number: usize, stream: usize)
         }
         1 => {
             let k = book::seat(book, number, stream);
-            if 0 < k.hop { k.before } else { 136192 }
+            if 0 < k.hop { k.before } else { 99328 }
         }
-        2 => 136192,
+        2 => 99328,
         3 => {
             let k = book::seat(book, number, stream);
-            if 0 < k.hop { k.after } else { 136192 }
+            if 0 < k.hop { k.after } else { 99328 }
         }
         _ => {
             let e = book::end(book, number);
@@ -51,8 +51,8 @@ fn foreign_named(book: &[u32], z: Size, kind: u32, number: usize, stream: usize)
 }
 
 fn foreign_of(book: &[u32], z: Size, r: usize) -> usize
-    requires { ⌜ (RowsFit 136192 (now book) z) × (Sized z) × (r < rankCount z) ⌝ }
-    ensures { λ i. ⌜ (i ≡ foreignBy (now (book .entry)) z r) × (i ≤ 136192) ⌝ }
+    requires { ⌜ (RowsFit 99328 (now book) z) × (Sized z) × (r < rankCount z) ⌝ }
+    ensures { λ i. ⌜ (i ≡ foreignBy (now (book .entry)) z r) × (i ≤ 99328) ⌝ }
 {
     let n = ranks::name_of(z, r);
     foreign_named(book, z, n.kind, n.number, n.stream)
@@ -60,7 +60,7 @@ fn foreign_of(book: &[u32], z: Size, r: usize) -> usize
 
 // Of each word, one more than the rank of the step that looks at it.
 pub fn fill_watch(book: &[u32], z: Size, watch: &mut [u32])
-    requires { ⌜ (RowsFit 136192 (now book) z) × (Sized z) × (Apart (now book) z) × (now watch ≡ replicate 136193 0) ⌝ }
+    requires { ⌜ (RowsFit 99328 (now book) z) × (Sized z) × (Apart (now book) z) × (now watch ≡ replicate 99329 0) ⌝ }
     ensures { λ _. ⌜ Watched (now (book .entry)) z (now (watch .exit)) ⌝ }
 {
     let n = ranks::count(z);
@@ -74,8 +74,8 @@ pub fn fill_watch(book: &[u32], z: Size, watch: &mut [u32])
 
 // The index of the word that a step counts up: by its name, and by its rank.
 fn counter_named(book: &[u32], z: Size, kind: u32, number: usize, stream: usize) -> usize
-    requires { ⌜ (RowsFit 136192 (now book) z) × (Inside z kind number stream) ⌝ }
-    ensures { λ i. ⌜ (i ≡ counterNamed (now (book .entry)) kind number stream) × (i < 136192) ⌝ }
+    requires { ⌜ (RowsFit 99328 (now book) z) × (Inside z kind number stream) ⌝ }
+    ensures { λ i. ⌜ (i ≡ counterNamed (now (book .entry)) kind number stream) × (i < 99328) ⌝ }
 {
     match kind {
         0 => {
@@ -102,8 +102,8 @@ fn counter_named(book: &[u32], z: Size, kind: u32, number: usize, stream: usize)
 }
 
 fn counter_of(book: &[u32], z: Size, r: usize) -> usize
-    requires { ⌜ (RowsFit 136192 (now book) z) × (Sized z) × (r < rankCount z) ⌝ }
-    ensures { λ i. ⌜ (i ≡ counterBy (now (book .entry)) z r) × (i < 136192) ⌝ }
+    requires { ⌜ (RowsFit 99328 (now book) z) × (Sized z) × (r < rankCount z) ⌝ }
+    ensures { λ i. ⌜ (i ≡ counterBy (now (book .entry)) z r) × (i < 99328) ⌝ }
 {
     let n = ranks::name_of(z, r);
     counter_named(book, z, n.kind, n.number, n.stream)
@@ -193,7 +193,7 @@ fn retest_own(book: &[u32], state: &[u32], z: Size, r: usize, flags: &mut [u32])
 
 // The flags after the step of rank r was done.
 pub fn refresh(book: &[u32], watch: &[u32], state: &[u32], z: Size, r: usize, flags: &mut [u32])
-    requires { ⌜ (RowsFit (length (now state)) (now book) z) × (RowsFit 136192 (now book) z) × (Sized z) × (Watched (now book) z (now watch))
+    requires { ⌜ (RowsFit (length (now state)) (now book) z) × (RowsFit 99328 (now book) z) × (Sized z) × (Watched (now book) z (now watch))
         × (r < rankCount z) × (length (now flags) ≡ 33824) ⌝ }
     ensures { λ _. ⌜ (length (now (flags .exit)) ≡ 33824) × ((old : List ℕ) → Local (now (book .entry)) z (now (watch .entry)) old (now (state .entry)) r
         → Kept (flagAt (now (book .entry)) old z) (now (flags .entry)) → Kept (flagAt (now (book .entry)) (now (state .entry)) z) (now (flags .exit))) ⌝ }

@@ -39,16 +39,16 @@ use Rattle.wiring.specs.declared.Strand.{Strand}
 
 -- small numbers
 pub record Narrow (g : Strand) : Type 0 where
-  pub hop : g .hop ≤ 8
-  pub stride : g .stride ≤ 73
-  pub offset : g .offset ≤ 73
-  pub tail : g .tail ≤ 136192
+  pub hop : g .hop ≤ 5
+  pub stride : g .stride ≤ 55
+  pub offset : g .offset ≤ 55
+  pub tail : g .tail ≤ 99328
 
-pub seat-most : {p w : ℕ} → p < 1024 → w ≤ 73 → p * w ≤ 74752
-seat-most h k = mul-le-mul {n₂ = 1024} {m₂ = 73} (omega arith) k
+pub seat-most : {p w : ℕ} → p < 1024 → w ≤ 55 → p * w ≤ 56320
+seat-most h k = mul-le-mul {n₂ = 1024} {m₂ = 55} (omega arith) k
 
-pub ends-most : {j h : ℕ} → j ≤ 1024 → h ≤ 8 → j * (2 + h) ≤ 10240
-ends-most h k = mul-le-mul {n₂ = 1024} {m₂ = 10} h (omega arith)
+pub ends-most : {j h : ℕ} → j ≤ 1024 → h ≤ 5 → j * (2 + h) ≤ 7168
+ends-most h k = mul-le-mul {n₂ = 1024} {m₂ = 7} h (omega arith)
 
 -- ---- points on a line
 

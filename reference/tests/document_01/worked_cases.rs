@@ -89,10 +89,12 @@ fn bounds_at_the_limit_of_6() {
 fn hop_at_the_limit_of_14() {
     let mut description = polynomial_one(2);
     description.maps[2] = vec![vec![1, -1]];
-    description.step = vec![7, 1];
-    assert_eq!(array(&description).streams[2].hop, 8);
-    description.step = vec![8, 1];
-    assert_eq!(refusal(&description), Some(14));
+    description.step = vec![4, 1];
+    assert_eq!(array(&description).streams[2].hop, 5);
+    for factor in [5, 8] {
+        description.step = vec![factor, 1];
+        assert_eq!(refusal(&description), Some(14));
+    }
 }
 
 #[test]

@@ -6,8 +6,8 @@ use native.Mathlib.Omega.{arith}
 use Rattle.accept.proofs.joined.Statement.{statement}
 use Rattle.accept.proofs.joined.Tie as tie
 
-most : {a h : ℕ} → a ≤ 1024 → h ≤ 8 → a * (2 + h) ≤ 10240
-most p q = mul-le-mul {n₂ = 1024} {m₂ = 10} p (omega arith)
+most : {a h : ℕ} → a ≤ 1024 → h ≤ 5 → a * (2 + h) ≤ 7168
+most p q = mul-le-mul {n₂ = 1024} {m₂ = 7} p (omega arith)
 
 add-t3 : tie.Need-add-t3
 add-t3 c = search needs

@@ -53,7 +53,7 @@ loop-again c =
 
 same-length : tie.Need-same-length Inv-loop μ-loop
 same-length c =
-    c .before .loop .inv .1 .words ∙ sym (ap length (c .before .before .before .before .before .pre .3) ∙ length-replicate {A = ℕ} 136193 0)
+    c .before .loop .inv .1 .words ∙ sym (ap length (c .before .before .before .before .before .pre .3) ∙ length-replicate {A = ℕ} 99329 0)
 
 returns : tie.Need-returns Inv-loop μ-loop
 returns c =

@@ -1,0 +1,84 @@
+-- One description under two limits: where the conditions agree, Accept answers the same, and so does every call. Assumes nothing.
+use mathlib.Core.Path.{_≡_, refl, sym, _∙_, ap, subst}
+use mathlib.Core.Bool.{Bool, true, false, cond}
+use mathlib.Core.List.{List, _∷_, List·Memᴰ as In, List·Memᴰ·head as here, Memᴰ·append-left, Memᴰ·append-right}
+use Prim.Native.Nat.{ℕ}
+use lib.Dec.{eqb}
+use Rattle.meaning.specs.declared.Limits.{Limits}
+use Rattle.meaning.specs.declared.Acceptance.{Acceptance}
+use Rattle.meaning.specs.declared.Acceptance.the-variants.{Accepted, Refused}
+use Rattle.meaning.specs.Description.{sizesOf, descriptionOf}
+use Rattle.meaning.specs.Accept.{refusalOf, accept, figures}
+use Rattle.meaning.specs.Answers.{acceptNumber}
+use Rattle.meaning.specs.Calls.{table, start, step, run, readyCall, window, result, plainRun}
+use Rattle.meaning.specs.Conditions.{Meets, Condition, Asks, conditions, FirstFails}
+use Rattle.meaning.specs.FivePlaces.{AnsweredAlike}
+use Rattle.guarantee.specs.Acceptance.{meets-of, of-meets, accepted-exactly, refused-exactly}
+use Rattle.guarantee.specs.Demand1.{demand-one}
+
+-- ---- Accept's answer, with the conditions that it stands for
+
+pub data Answered (l : Limits) (s : List ℕ) : Type 0 where
+  meets : Meets l s → Answered l s
+  fails : (k : ℕ) → FirstFails l s k → Answered l s
+
+pub answered : (l : Limits) (s : List ℕ) → Answered l s
+unfolding accept
+answered l s = go (eqb (refusalOf l s) 0) (accepted-exactly l s .0) (λ k. refused-exactly l s k .0)
+  where
+    says : Bool → Acceptance
+    says b = cond b (Accepted (figures (descriptionOf s))) (Refused (refusalOf l s))
+
+    go : (b : Bool) → (says b ≡ Accepted (figures (descriptionOf s)) → Meets l s) → ((k : ℕ) → says b ≡ Refused k → FirstFails l s k) → Answered l s
+    go true m f = meets (m refl)
+    go false m f = fails (refusalOf l s) (f (refusalOf l s) refl)
+
+-- ---- conditions that agree
+
+abbrev Listed : List ℕ → Condition → Type 0
+Listed s c = In c (conditions (sizesOf s .streams))
+
+module _ {l k : Limits} {s : List ℕ} (on : (c : Condition) → Listed s c → Asks l s c → Asks k s c) where
+  pub meets-on : Meets l s → Meets k s
+  meets-on m = meets-of k s (λ c i. on c i (of-meets l s m c i))
+
+  -- the same condition is the first to fail, if it fails under the other limits too
+  pub first-on : {n : ℕ} (f : FirstFails l s n) → (Listed s (f .failed) → Asks k s (f .failed) → ⊥) → FirstFails k s n
+  first-on f also =
+      record {
+        passed = f .passed;
+        failed = f .failed;
+        rest = f .rest;
+        order = f .order;
+        number = f .number;
+        holds = λ c i. on c (subst (In c) (sym (f .order)) (Memᴰ·append-left (f .failed ∷ f .rest) i)) (f .holds c i);
+        fails = also (subst (In (f .failed)) (sym (f .order)) (Memᴰ·append-right (f .passed) (here refl)));
+      }
+
+pub same-answer : {l k : Limits} {s : List ℕ} → ((c : Condition) → Listed s c → Asks l s c → Asks k s c)
+    → ((c : Condition) → Listed s c → Asks k s c → Asks l s c) → accept l s ≡ accept k s
+same-answer {l} {k} {s} on back = go (answered l s)
+  where
+    go : Answered l s → accept l s ≡ accept k s
+    go (meets m) = accepted-exactly l s .1 m ∙ sym (accepted-exactly k s .1 (meets-on on m))
+    go (fails n f) = refused-exactly l s n .1 f ∙ sym (refused-exactly k s n .1 (first-on on f (λ i a. f .fails (back (f .failed) i a))))
+
+-- ---- one answer of Accept: every call answers and leaves the same
+
+pub alike : (l k : Limits) (s : List ℕ) → accept l s ≡ accept k s → AnsweredAlike l k s
+unfolding table start step run readyCall window result plainRun
+alike l k s e =
+    record {
+      accept = e;
+      table = λ rows. (rw r, rw r);
+      start = λ values M. (rw r, rw r);
+      step = λ kind number stream M. (rw r, rw r);
+      run = λ n M. (rw r, rw r);
+      ready = λ words M. (rw r, rw r);
+      window = λ pipe side waiting received. (rw r, rw r);
+      result = λ output M. (rw r, rw r);
+      plain = λ values output. (rw r, rw r);
+    }
+  where
+    r : refusalOf l s ≡ refusalOf k s
+    r = sym (demand-one l s .numbers .accept) ∙ ap acceptNumber e ∙ demand-one k s .numbers .accept

@@ -1,0 +1,3 @@
+-- What the requests claim of the calls; src/lib.rt lists the theorems.
+pub mod Answered
+pub mod FivePlaces

@@ -1,0 +1,10 @@
+// What the requests of document 02 claim of the calls beside the demands. Theory only: nothing here runs.
+//
+//   2.8   FivePlaces: `five-places`: what has no moving hop from 6 to 8 is answered as before by every call; what has one is refused by 14 or by what
+//         comes before it; no answer of Accept becomes another one than 14
+//
+// Beneath it: Answered (`answered`: Accept's answer with the conditions that it stands for; `same-answer`: conditions that agree give one answer; `alike`:
+// then every call answers and leaves the same).
+pub fn one() -> usize {
+    1
+}
