@@ -2,7 +2,6 @@
 use mathlib.Core.Path.{_≡_, refl, sym, _∙_, ap, ap₂, subst}
 use mathlib.Core.List.{List, [], _∷_}
 use Prim.Native.Nat.{ℕ, suc, _+_, _*_, _≤_, _<_}
-use native.Mathlib.Nat.{mul-le-mul}
 use native.Mathlib.Numerals.{add-one}
 use native.Mathlib.Omega.{arith}
 use borrow.Author.Tests.{ne-eqb}
@@ -13,7 +12,7 @@ use Rattle.meaning.specs.declared.Stream.{Stream}
 use Rattle.meaning.specs.declared.Description.{Description}
 use Rattle.meaning.specs.declared.Figures.{Figures}
 use Rattle.meaning.specs.declared.Acceptance.the-variants.{Accepted, Refused}
-use Rattle.meaning.specs.Limits.{gaugeLimits}
+use Rattle.meaning.specs.Limits.{gaugeLimits, processWordsMost, endWordsMost}
 use Rattle.meaning.specs.Lists.{total}
 use Rattle.meaning.specs.Loops.{instances}
 use Rattle.meaning.specs.Space.{processes}
@@ -25,6 +24,7 @@ use Rattle.meaning.specs.Accept.{refusalOf, figures, accept}
 use Rattle.numbering.specs.Ranges.{Bounded}
 use Rattle.refusals.specs.Accepted.{accepted-within}
 use Rattle.refusals.specs.InRange.{nest-bounded}
+use Rattle.refusals.specs.StateWords.{end-words}
 use Rattle.elements.specs.Counts.{Few, total-next, total-most}
 use Rattle.elements.specs.Few.{accepted-few}
 use Rattle.pipes.specs.declared.Flow.{Flow}
@@ -48,14 +48,14 @@ abbrev pub shareOf : Nest → Stream → Share
 shareOf n s = record { hop = hop n s; pipes = length (entries n s); steps = total (stepsOn n s) (entries n s) }
 
 pub record Small (s : Share) : Type 0 where
-  pub hop : s .hop ≤ 5
+  pub hop : s .hop ≤ gaugeLimits .hop
   pub pipes : s .pipes ≤ 1024
   pub steps : s .steps ≤ 8396800
 
 -- a stream whose sums are small
 pub record Sharing (n : Nest) (s : Stream) : Type 0 where
   pub laid : Laid n s
-  pub hop : hop n s ≤ 5
+  pub hop : hop n s ≤ gaugeLimits .hop
   pub elements : length (elements n s) ≤ 4096
 
 pub sharing-under : {n : Nest} {s : Stream} → Sharing n s → Under n s
@@ -82,9 +82,9 @@ join t s =
 
 -- small enough for a further stream
 pub record Room (t : Totals) : Type 0 where
-  pub words : t .words ≤ 54
+  pub words : 1 + t .words ≤ processWordsMost
   pub pipes : t .pipes ≤ 6144
-  pub ends : t .ends ≤ 43008
+  pub ends : t .ends ≤ 6 * endWordsMost
   pub steps : t .steps ≤ 50380800
 
 -- the sums over the first streams
@@ -168,9 +168,9 @@ module _ (d : Description) where
     pub totals-room : (i : ℕ) → i ≤ d .sizes .streams → Room (totalsOf d i)
     totals-room i l =
         record {
-          words = omega (arith, six, most (λ s. 4 + hop (d .nest) s) 9 (λ j k. omega (arith, small j k .hop)));
+          words = omega (arith, six, most (λ s. 4 + hop (d .nest) s) (4 + gaugeLimits .hop) (λ j k. omega (arith, small j k .hop)));
           pipes = omega (arith, six, most (λ s. length (entries (d .nest) s)) 1024 (λ j k. small j k .pipes));
-          ends = omega (arith, six, most (λ s. length (entries (d .nest) s) * (2 + hop (d .nest) s)) 7168 (λ j k. seven (small j k .pipes) (small j k .hop)));
+          ends = omega (arith, six, most (λ s. length (entries (d .nest) s) * (2 + hop (d .nest) s)) endWordsMost (λ j k. end-words (small j k .pipes) (small j k .hop)));
           steps = omega (arith, six, most (λ s. total (stepsOn (d .nest) s) (entries (d .nest) s)) 8396800 (λ j k. small j k .steps));
         }
       where
@@ -179,9 +179,6 @@ module _ (d : Description) where
 
         small : (j : ℕ) → j < i → Small (shareOf (d .nest) (getD (streamsOf d) j noStream))
         small j k = share-small (h .streams j (omega (arith, h .in-use)))
-
-        seven : {a b : ℕ} → a ≤ 1024 → b ≤ 5 → a * (2 + b) ≤ 7168
-        seven p q = mul-le-mul {n₂ = 1024} {m₂ = 7} p (omega arith)
 
         most : (f : Stream → ℕ) (m : ℕ) → ((j : ℕ) → j < i → f (getD (streamsOf d) j noStream) ≤ m) → total f (take i (streamsOf d)) ≤ i * m
         most f m g = total-most f (streamsOf d) i m noStream (omega (arith, h .in-use)) g
@@ -204,10 +201,6 @@ figures-are {d} h {r} {t} e p i l q w s =
     same-figures p i l (q ∙ ap (λ (t : Totals). t .pipes) g)
     (w ∙ ap₂ (λ (p : ℕ) (t : Totals). p * (1 + t .words) + t .ends) p g)
     (s ∙ ap₂ (λ (i : ℕ) (t : Totals). i + t .steps) i g)
-
--- the words of a state are few
-pub words-most : {p : ℕ} {t : Totals} → p ≤ 1024 → Room t → p * (1 + t .words) ≤ 56320
-words-most h r = mul-le-mul {n₂ = 1024} {m₂ = 55} h (omega (arith, r .words))
 
 -- ACCEPT
 pub accepts : (s : List ℕ) {r : Figures} → refusalOf gaugeLimits s ≡ 0 → r ≡ figures (descriptionOf s) → Accepted r ≡ accept gaugeLimits s

@@ -5,7 +5,7 @@ use Prim.Native.Nat.{ℕ, _+_, _≤_, _<_}
 use native.Mathlib.Omega.{arith}
 use lib.ListN.{length}
 use Rattle.meaning.specs.declared.Description.{Description}
-use Rattle.meaning.specs.Limits.{gaugeLimits}
+use Rattle.meaning.specs.Limits.{gaugeLimits, stateWordsMost}
 use Rattle.meaning.specs.Description.{descriptionOf, streamsOf}
 use Rattle.meaning.specs.Array.{Array, Pipe, arrayOf, pipeNumber, noPipe, elementsOn, partStart}
 use Rattle.meaning.specs.State.{wordCount}
@@ -18,7 +18,8 @@ use Rattle.geometry.specs.PipeOrder.{list-length}
 use Rattle.network.specs.Wiring.{Wired, stop-pipe}
 use Rattle.guarantee.specs.Wired.{wired}
 use Rattle.stations.specs.Indices.{process-count, stream-count, word-count}
-use Rattle.accept.specs.Shares.{Room, totalsOver, Described, described, totals-room, totals-all, words-most}
+use Rattle.refusals.specs.StateWords.{process-words}
+use Rattle.accept.specs.Shares.{Room, totalsOver, Described, described, totals-room, totals-all}
 use Rattle.places.specs.Order.{elements-most}
 use Rattle.links.specs.Layout.{Regular, part-ends}
 use Rattle.machine.specs.Rows.{Single}
@@ -74,8 +75,8 @@ module _ (s : List ℕ) (ok : refusalOf gaugeLimits s ≡ 0) where
   pub pipes-most : sizeOf d .pipes ≤ 6144
   pipes-most = room .pipes
 
-  pub words-few : wordCount A ≤ 99328
-  words-few = omega (arith, word-count d, words-most (h .processes) room, room .ends)
+  pub words-few : wordCount A ≤ stateWordsMost
+  words-few = omega (arith, word-count d, process-words (h .processes) (room .words), room .ends)
 
   -- ---- elements
 

@@ -3,7 +3,6 @@
 use mathlib.Core.Path.{_≡_, refl, sym, _∙_, ap, subst}
 use mathlib.Core.Logic.{_⊎_, inl, inr}
 use mathlib.Core.Bool.{not}
-use mathlib.Core.List.{List, List·Memᴰ as In}
 use Prim.Native.Nat.{ℕ, suc, _+_, _-_, _≤_, _<_}
 use native.Mathlib.Omega.{arith}
 use lib.Dec.{T}
@@ -88,45 +87,31 @@ module _ {n : Nest} {s : Stream} (h : Accepted n s) where
             ap (λ (v : V3). ahead (image (s .map) v) (pipeElements n s y)) (w .end),
           )
 
+  -- the element of an instance of y stands in the pipe's list, and y uses it
+  standing : {y : V2} {x : V3} → RunAt n y x
+      → (ahead (image (s .map) x) (pipeElements n s y) < length (pipeElements n s y))
+      × T (uses n s y (getD (pipeElements n s y) (ahead (image (s .map) x) (pipeElements n s y)) zero2))
+  standing {y} {x} a =
+      let e = image (s .map) x in
+      let i = touched-in h a in
+      (ahead-lt e i, subst (λ (w : V2). T (uses n s y w)) (sym (getD-ahead e zero2 i)) (by-uses (x, a, refl)))
+
   -- so soak is the first one's index, and drain counts what stands after the last one's
   pub soak-first : {y : V2} {x : V3} → RunAt n y x → soak n s y ≡ ahead (image (s .map) (first n y)) (pipeElements n s y)
   soak-first {y} a =
-      position-is (uses n s y) es (ahead e es) zero2 (ahead-lt e i)
-      (subst (λ (w : V2). T (uses n s y w)) (sym (getD-ahead e zero2 i)) (by-uses (first n y, f, refl)))
+      let es = pipeElements n s y in
+      let z = standing (first-at (h .layout .dirs) a) in
+      position-is (uses n s y) es _ zero2 (z .0) (z .1)
       (λ j k t. let u = uses-by t in
-      omega (arith, first-index (u .1), ap (λ (w : V2). ahead w es) (u .2), ahead-getD es j zero2 (elements-distinct h y) (omega (arith, ahead-lt e i))))
-    where
-      e : V2
-      e = image (s .map) (first n y)
-
-      es : List V2
-      es = pipeElements n s y
-
-      f : RunAt n y (first n y)
-      f = first-at (h .layout .dirs) a
-
-      i : In e es
-      i = touched-in h f
+      omega (arith, first-index (u .1), ap (λ (w : V2). ahead w es) (u .2), ahead-getD es j zero2 (elements-distinct h y) (omega (arith, z .0))))
 
   pub drain-last : {y : V2} {x : V3} → RunAt n y x
       → drain n s y ≡ length (pipeElements n s y) - suc (ahead (image (s .map) (last n y)) (pipeElements n s y))
   drain-last {y} a =
-      position-last (uses n s y) es (ahead e es) zero2 (ahead-lt e i)
-      (subst (λ (w : V2). T (uses n s y w)) (sym (getD-ahead e zero2 i)) (by-uses (last n y, l, refl)))
-      (λ j k b t. let u = uses-by t in
-      omega (arith, last-index (u .1), ap (λ (w : V2). ahead w es) (u .2), ahead-getD es j zero2 (elements-distinct h y) b))
-    where
-      e : V2
-      e = image (s .map) (last n y)
-
-      es : List V2
-      es = pipeElements n s y
-
-      l : RunAt n y (last n y)
-      l = last-at (h .layout .dirs) a
-
-      i : In e es
-      i = touched-in h l
+      let es = pipeElements n s y in
+      let z = standing (last-at (h .layout .dirs) a) in
+      position-last (uses n s y) es _ zero2 (z .0) (z .1)
+      (λ j k b t. let u = uses-by t in omega (arith, last-index (u .1), ap (λ (w : V2). ahead w es) (u .2), ahead-getD es j zero2 (elements-distinct h y) b))
 
   -- ---- G6: of a stationary stream
 

@@ -74,7 +74,7 @@ refused12 n s = eqZ (stepOf n (line n s)) (pos 0)
 abbrev pub refused13 : Nest → Stream → Bool
 refused13 n s = not (small (placeOf n (line n s) .a) && small (placeOf n (line n s) .b))
 
--- 14: "moving with a hop over" 5 (request 2.8)
+-- 14: "moving with a hop over" the limit, 5 by request 2.8
 abbrev pub refused14 : Limits → Nest → Stream → Bool
 refused14 l n s = not (stationary n s) && ltb (l .hop) (hop n s)
 

@@ -7,7 +7,7 @@ use lib.IntN.{ℤ, pos, negsuc}
 use Rattle.integers.specs.Bytes.{bitsAt, wordAt}
 use Rattle.lattice.specs.Gcd.{gcdOf, euclid}
 use Rattle.meaning.specs.declared.Row.{Row}
-use Rattle.meaning.specs.Limits.{gaugeLimits, formerLimits}
+use Rattle.meaning.specs.Limits.{gaugeLimits, formerLimits, stateWordsMost}
 use Rattle.meaning.specs.Lists.{filter, any, every, position, best, bestOr, total, each, numbersFrom}
 use Rattle.meaning.specs.Tests.{refusal}
 use Rattle.meaning.specs.Loops.{walk, instances, lineOf, increment}
@@ -88,6 +88,8 @@ cases =
     ∷ (number (acceptNumber (accept formerLimits (crossing 7))) is number 0)
     ∷ (number (acceptNumber (accept gaugeLimits (crossing 7))) is number 14)
     ∷ (number (acceptNumber (accept formerLimits (crossing 8))) is number 14)
+    -- so a state has at most 99,328 words
+    ∷ (number stateWordsMost is number 99328)
     -- design one with bounds 0..0 takes 13 steps
     ∷ (number (getD (acceptValues (accept gaugeLimits (sized (pos 1) 0 0))) 5 0) is number 13)
     -- and the same c by the network, which takes longest to compute

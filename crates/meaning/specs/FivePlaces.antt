@@ -1,4 +1,4 @@
--- Request 2.8, "five places are enough": what the lower limit of refusal 14 changes in the calls, and what it leaves (`five-places` of guarantee).
+-- Request 2.8, "five places are enough": what the lower limit of refusal 14 changes in the calls, and what it leaves (`five-places` of requests).
 use mathlib.Core.Path.{_≡_}
 use mathlib.Core.Logic.{_⊎_}
 use mathlib.Core.List.{List, _∷_, List·Memᴰ as In}

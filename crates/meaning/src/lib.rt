@@ -1,6 +1,6 @@
 // The types of the calls. What they mean is in specs/, one definition for each word of document 01, in its order, as the requests of document 02 leave it:
 //
-//   Limits            those of refusals 6, 10 and 14, and the former ones
+//   Limits            those of refusals 6, 10 and 14, the former ones, and how many words they allow a state
 //   Lists, Tests      small helpers: lists filtered and searched, refusals tried in order
 //   Loops             instances, their written order, step, place, increment
 //   Space             boxes, row order, the process space; count, first and last

@@ -16,6 +16,7 @@ use Rattle.integers.specs.declared.V2.{V2}
 use Rattle.meaning.specs.declared.Nest.{Nest}
 use Rattle.meaning.specs.declared.Stream.{Stream}
 use Rattle.meaning.specs.declared.Description.{Description}
+use Rattle.meaning.specs.Limits.{processWordsMost}
 use Rattle.meaning.specs.Lists.{filter, total}
 use Rattle.meaning.specs.Space.{rowIndex, space, processes}
 use Rattle.meaning.specs.Streams.{hop, elements}
@@ -114,7 +115,7 @@ sums-zero d =
 pub record Started (d : Description) (stride count : ℕ) (ends : List ℕ) : Type 0 where
   pub described : Described d
   pub laid : Laid d
-  pub narrow : stride ≤ 55
+  pub narrow : stride ≤ processWordsMost
   pub strides : stride ≡ strideOf d
   pub counted : count ≡ length (processes (d .nest))
   pub of-ends : Ends (d .nest) ends
@@ -154,7 +155,7 @@ module _ (d : Description) (h : Described d) where
   stride-next i l e ek es =
       omega (arith, es, ek ∙ ap (hop nest) (stream-of i l e), next (seatSize nest) i l)
 
-  pub stride-all : {i sum : ℕ} → i ≡ d .sizes .streams → sum ≡ 1 + total (seatSize nest) (take i (streamsOf d)) → (sum ≡ strideOf d) × (sum ≤ 55)
+  pub stride-all : {i sum : ℕ} → i ≡ d .sizes .streams → sum ≡ 1 + total (seatSize nest) (take i (streamsOf d)) → (sum ≡ strideOf d) × (sum ≤ processWordsMost)
   stride-all {i} e es = (
     es ∙ ap (λ (k : ℕ). 1 + total (seatSize nest) (take k (streamsOf d))) (e ∙ sym (h .in-use))
         ∙ ap (λ (l : List Stream). 1 + total (seatSize nest) l) (take-length (streamsOf d)),

@@ -3,7 +3,6 @@ use mathlib.Core.Path.{_≡_, sym, _∙_, ap, ap₂, subst₂}
 use mathlib.Core.Bool.{Bool, true, false, cond}
 use mathlib.Core.List.{List}
 use Prim.Native.Nat.{ℕ, _+_, _*_, _≤_, _<_}
-use native.Mathlib.Nat.{mul-le-mul}
 use native.Mathlib.Omega.{arith}
 use lib.ListN.{length, getD, take, length-take}
 use lib.Seq.{take-length}
@@ -11,6 +10,7 @@ use Rattle.integers.specs.Fill.{fillBy, fill-length, fill-at}
 use Rattle.integers.specs.declared.V2.{V2}
 use Rattle.meaning.specs.declared.Nest.{Nest}
 use Rattle.meaning.specs.declared.Stream.{Stream}
+use Rattle.meaning.specs.Limits.{processWordsMost, endWordsMost}
 use Rattle.meaning.specs.Lists.{filter}
 use Rattle.meaning.specs.Space.{processes}
 use Rattle.meaning.specs.Streams.{elements}
@@ -34,18 +34,15 @@ use Rattle.plan.specs.Marks.{mark, marks, marks-step, marks-length}
 
 -- small enough for a further stream
 pub record Slack (t : Sums) : Type 0 where
-  pub words : t .words ≤ 54
+  pub words : 1 + t .words ≤ processWordsMost
   pub pipes : t .pipes ≤ 6144
-  pub ends : t .ends ≤ 43008
+  pub ends : t .ends ≤ 6 * endWordsMost
 
 abbrev pub join : Sums → ℕ → ℕ → Sums
 join t hop pipes = record { words = t .words + (4 + hop); pipes = t .pipes + pipes; ends = t .ends + pipes * (2 + hop) }
 
 abbrev pub strandFrom : ℕ → ℕ → ℕ → Sums → Strand
 strandFrom hop processes stride t = record { hop = hop; stride = stride; offset = 1 + t .words; tail = processes * stride + t .ends }
-
-pub strand-most : {p w : ℕ} → p ≤ 1024 → w ≤ 55 → p * w ≤ 56320
-strand-most h k = mul-le-mul {n₂ = 1024} {m₂ = 55} h k
 
 -- ---- the rows
 

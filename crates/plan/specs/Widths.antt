@@ -9,6 +9,7 @@ use lib.ListN.{length}
 use Rattle.integers.specs.declared.V2.{V2}
 use Rattle.meaning.specs.declared.Nest.{Nest}
 use Rattle.meaning.specs.declared.Stream.{Stream}
+use Rattle.meaning.specs.Limits.{endWordsMost, stateWordsMost}
 use Rattle.meaning.specs.Lists.{position}
 use Rattle.meaning.specs.Space.{rowIndex, boxOf, space, processes, count, computing}
 use Rattle.meaning.specs.Streams.{move, elements}
@@ -27,7 +28,8 @@ use Rattle.pipes.specs.Held.{entryNumber}
 use Rattle.pipes.specs.Elements.{Near, good, inside, few}
 use Rattle.parts.specs.Starts.{entered-le}
 use Rattle.wiring.specs.declared.Strand.{Strand}
-use Rattle.wiring.specs.Strands.{Narrow, seat-most, ends-most, seatIndex, endIndex, beforeFrom, afterFrom, roomFrom, pipeOf, seatFrom, offFrom, rowFrom, endFrom, some-before, count-fits}
+use Rattle.refusals.specs.StateWords.{process-words, end-words}
+use Rattle.wiring.specs.Strands.{Narrow, seatIndex, endIndex, beforeFrom, afterFrom, roomFrom, pipeOf, seatFrom, offFrom, rowFrom, endFrom, some-before, count-fits}
 use Rattle.book.specs.Book.{SeatWide, EndWide}
 
 position-most : {A : Type 0} (f : A → Bool) (l : List A) → position f l ≤ length l
@@ -39,7 +41,7 @@ position-most f (x ∷ l) = go (f x) (position-most f l)
     go true e = omega arith
     go false e = omega arith
 
-wide : {a : ℕ} → a ≤ 106498 → a < 4294967296
+wide : {a : ℕ} → a ≤ stateWordsMost + endWordsMost + 2 → a < 4294967296
 wide h = omega arith
 
 module _ {g : Strand} (w : Narrow g) {f : Flow} {ends lanes : List ℕ} {p : ℕ} (h : Near f ends lanes p)
@@ -53,11 +55,11 @@ module _ {g : Strand} (w : Narrow g) {f : Flow} {ends lanes : List ℕ} {p : ℕ
   abbrev y : V2
   y = processOf n p
 
-  seat-low : (q : ℕ) → q < length (processes n) → seatIndex g q ≤ 56375
-  seat-low q l = omega (arith, seat-most {p = q} {w = g .stride} (omega (arith, few h)) (w .stride), w .offset)
+  seat-low : (q : ℕ) → q < length (processes n) → seatIndex g q ≤ stateWordsMost
+  seat-low q l = omega (arith, process-words {p = q} {w = g .stride} (omega (arith, few h)) (w .stride), w .offset)
 
-  sent-low : (j : ℕ) → j ≤ 1024 → endIndex g j ≤ 106496
-  sent-low j l = omega (arith, ends-most {j = j} {h = g .hop} l (w .hop), w .tail)
+  sent-low : (j : ℕ) → j ≤ 1024 → endIndex g j ≤ stateWordsMost + endWordsMost
+  sent-low j l = omega (arith, end-words {j = j} {h = g .hop} l (w .hop), w .tail)
 
   total-low : length (pipeElements n s y) ≤ 4096
   total-low =
@@ -77,33 +79,33 @@ module _ {g : Strand} (w : Narrow g) {f : Flow} {ends lanes : List ℕ} {p : ℕ
   count-low : count n y ≤ 4096
   count-low = omega (arith, count-fits h, h .seen .of-ends .counts p (h .lt))
 
-  module _ (sent : ℕ) (l : sent ≤ 106496) where
-    before-low : beforeFrom n s g sent p ≤ 106498
+  module _ (sent : ℕ) (l : sent ≤ stateWordsMost + endWordsMost) where
+    before-low : beforeFrom n s g sent p ≤ stateWordsMost + endWordsMost + 2
     before-low = go (eqb (before n s y) 0) refl
       where
-        go : (b : Bool) → eqb (before n s y) 0 ≡ b → cond b sent (seatIndex g (rowIndex (space n) (backOf n s y)) + 1) ≤ 106498
+        go : (b : Bool) → eqb (before n s y) 0 ≡ b → cond b sent (seatIndex g (rowIndex (space n) (backOf n s y)) + 1) ≤ stateWordsMost + endWordsMost + 2
         go true e = omega arith
         go false e =
             omega (arith, seat-low (rowIndex (space n) (backOf n s y)) (row-lt (space n) (backOf n s y) (back-inside (good h) (inside h) (some-before e))))
 
-    next-low : eqb (reach (space n) (move n s) y) 0 ≡ false → seatIndex g (rowIndex (space n) (onOf n s y)) ≤ 56375
+    next-low : eqb (reach (space n) (move n s) y) 0 ≡ false → seatIndex g (rowIndex (space n) (onOf n s y)) ≤ stateWordsMost
     next-low e = seat-low (rowIndex (space n) (onOf n s y)) (row-lt (space n) (onOf n s y) (on-inside (good h) (inside h) (some-before e)))
 
-    after-low : afterFrom n s g sent p ≤ 106498
+    after-low : afterFrom n s g sent p ≤ stateWordsMost + endWordsMost + 2
     after-low = go (eqb (reach (space n) (move n s) y) 0) refl
       where
-        go : (b : Bool) → eqb (reach (space n) (move n s) y) 0 ≡ b → cond b (sent + 1) (seatIndex g (rowIndex (space n) (onOf n s y))) ≤ 106498
+        go : (b : Bool) → eqb (reach (space n) (move n s) y) 0 ≡ b → cond b (sent + 1) (seatIndex g (rowIndex (space n) (onOf n s y))) ≤ stateWordsMost + endWordsMost + 2
         go true e = omega arith
         go false e = omega (arith, next-low e)
 
-    room-low : roomFrom n s g sent p ≤ 106498
+    room-low : roomFrom n s g sent p ≤ stateWordsMost + endWordsMost + 2
     room-low = go (eqb (reach (space n) (move n s) y) 0) refl
       where
-        go : (b : Bool) → eqb (reach (space n) (move n s) y) 0 ≡ b → cond b (sent + 2) (seatIndex g (rowIndex (space n) (onOf n s y)) + 4) ≤ 106498
+        go : (b : Bool) → eqb (reach (space n) (move n s) y) 0 ≡ b → cond b (sent + 2) (seatIndex g (rowIndex (space n) (onOf n s y)) + 4) ≤ stateWordsMost + endWordsMost + 2
         go true e = omega arith
         go false e = omega (arith, next-low e)
 
-  own-low : endIndex g (pipeOf n s p) ≤ 106496
+  own-low : endIndex g (pipeOf n s p) ≤ stateWordsMost + endWordsMost
   own-low = sent-low (pipeOf n s p) (omega (arith, entered-le n s (entryNumber n s p), few h))
 
   seat-wide : SeatWide (seatFrom n s g p)

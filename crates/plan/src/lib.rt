@@ -10,6 +10,7 @@
 ghost use mathlib.Core.Path.{_≡_};
 ghost use Prim.Native.Nat.{_≤_};
 ghost use lib.ListN.{length};
+ghost use Rattle.meaning.specs.Limits.{gaugeLimits, processWordsMost};
 ghost use Rattle.meaning.specs.Streams.{hop};
 ghost use Rattle.meaning.specs.Pipes.{entries};
 ghost use Rattle.meaning.specs.Array.{arrayOf};
@@ -38,7 +39,7 @@ struct Sums {
 
 // With a further stream, of which the links have `hop` places.
 fn joined(t: Sums, hop: u32, pipes: u32) -> Sums
-    requires { ⌜ (Slack t) × (hop ≤ 5) × (pipes ≤ 1024) ⌝ }
+    requires { ⌜ (Slack t) × (hop ≤ gaugeLimits .hop) × (pipes ≤ 1024) ⌝ }
     ensures { λ r. ⌜ r ≡ join t hop pipes ⌝ }
 {
     Sums {
@@ -49,7 +50,7 @@ fn joined(t: Sums, hop: u32, pipes: u32) -> Sums
 }
 
 fn strand_of(n: Nest, s: Stream, processes: u32, stride: u32, t: Sums) -> Strand
-    requires { ⌜ (Sharing n s) × (processes ≤ 1024) × (stride ≤ 55) × (Slack t) ⌝ }
+    requires { ⌜ (Sharing n s) × (processes ≤ 1024) × (stride ≤ processWordsMost) × (Slack t) ⌝ }
     ensures { λ r. ⌜ (r ≡ strandFrom (hop n s) processes stride t) × (Narrow r) ⌝ }
 {
     Strand {
@@ -63,7 +64,7 @@ fn strand_of(n: Nest, s: Stream, processes: u32, stride: u32, t: Sums) -> Strand
 // The words of a process.
 fn stride_of(d: Description) -> u32
     requires { ⌜ Described d ⌝ }
-    ensures { λ r. ⌜ (r ≡ strideOf d) × (r ≤ 55) ⌝ }
+    ensures { λ r. ⌜ (r ≡ strideOf d) × (r ≤ processWordsMost) ⌝ }
 {
     let n = d.nest;
     let m = d.sizes.streams;

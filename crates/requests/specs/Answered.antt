@@ -35,33 +35,37 @@ answered l s = go (eqb (refusalOf l s) 0) (accepted-exactly l s .0) (λ k. refus
 
 -- ---- conditions that agree
 
-abbrev Listed : List ℕ → Condition → Type 0
+abbrev pub Listed : List ℕ → Condition → Type 0
 Listed s c = In c (conditions (sizesOf s .streams))
 
 module _ {l k : Limits} {s : List ℕ} (on : (c : Condition) → Listed s c → Asks l s c → Asks k s c) where
-  pub meets-on : Meets l s → Meets k s
-  meets-on m = meets-of k s (λ c i. on c i (of-meets l s m c i))
+  -- what meets all conditions meets the other limits' too
+  pub both-accept : Meets l s → accept l s ≡ accept k s
+  both-accept m = accepted-exactly l s .1 m ∙ sym (accepted-exactly k s .1 (meets-of k s (λ c i. on c i (of-meets l s m c i))))
 
   -- the same condition is the first to fail, if it fails under the other limits too
-  pub first-on : {n : ℕ} (f : FirstFails l s n) → (Listed s (f .failed) → Asks k s (f .failed) → ⊥) → FirstFails k s n
-  first-on f also =
-      record {
-        passed = f .passed;
-        failed = f .failed;
-        rest = f .rest;
-        order = f .order;
-        number = f .number;
-        holds = λ c i. on c (subst (In c) (sym (f .order)) (Memᴰ·append-left (f .failed ∷ f .rest) i)) (f .holds c i);
-        fails = also (subst (In (f .failed)) (sym (f .order)) (Memᴰ·append-right (f .passed) (here refl)));
-      }
+  pub both-refuse : {n : ℕ} (f : FirstFails l s n) → (Listed s (f .failed) → Asks k s (f .failed) → ⊥) → accept l s ≡ accept k s
+  both-refuse {n} f also = refused-exactly l s n .1 f ∙ sym (refused-exactly k s n .1 first)
+    where
+      first : FirstFails k s n
+      first =
+          record {
+            passed = f .passed;
+            failed = f .failed;
+            rest = f .rest;
+            order = f .order;
+            number = f .number;
+            holds = λ c i. on c (subst (In c) (sym (f .order)) (Memᴰ·append-left (f .failed ∷ f .rest) i)) (f .holds c i);
+            fails = also (subst (In (f .failed)) (sym (f .order)) (Memᴰ·append-right (f .passed) (here refl)));
+          }
 
 pub same-answer : {l k : Limits} {s : List ℕ} → ((c : Condition) → Listed s c → Asks l s c → Asks k s c)
     → ((c : Condition) → Listed s c → Asks k s c → Asks l s c) → accept l s ≡ accept k s
 same-answer {l} {k} {s} on back = go (answered l s)
   where
     go : Answered l s → accept l s ≡ accept k s
-    go (meets m) = accepted-exactly l s .1 m ∙ sym (accepted-exactly k s .1 (meets-on on m))
-    go (fails n f) = refused-exactly l s n .1 f ∙ sym (refused-exactly k s n .1 (first-on on f (λ i a. f .fails (back (f .failed) i a))))
+    go (meets m) = both-accept on m
+    go (fails n f) = both-refuse on f (λ i a. f .fails (back (f .failed) i a))
 
 -- ---- one answer of Accept: every call answers and leaves the same
 

@@ -18,10 +18,10 @@ use Rattle.meaning.specs.Points.{Between}
 use Rattle.meaning.specs.Description.{sizesOf, descriptionOf}
 use Rattle.meaning.specs.Accept.{accept}
 use Rattle.meaning.specs.Conditions.{Condition, Condition.Begins, Condition.Sizes-fit, Condition.Long, Condition.Words-fit, Condition.Bounds-fit, Condition.Instances, Condition.Place-rank, Condition.Increment, Condition.Small-increment, Condition.Processes, Condition.Rank, Condition.Line, Condition.Move, Condition.Hop, Condition.Order, Condition.Loading, Condition.Touched, Asks, numberOf, ofStream, conditions}
-use Rattle.meaning.specs.FivePlaces.{LongHop, RefusedByThen, FivePlaces, FivePlacesAreEnough}
+use Rattle.meaning.specs.FivePlaces.{LongHop, RefusedByThen, FivePlacesAreEnough}
 use Rattle.geometry.specs.Members.{in-each, each-in, in-numbers, numbers-in}
-use Rattle.guarantee.specs.Acceptance.{accepted-exactly, refused-exactly}
-use Rattle.requests.specs.Answered.{Answered, Answered.meets, Answered.fails, answered, meets-on, first-on, same-answer, alike}
+use Rattle.guarantee.specs.Acceptance.{refused-exactly}
+use Rattle.requests.specs.Answered.{Answered, Answered.meets, Answered.fails, answered, Listed, both-accept, both-refuse, same-answer, alike}
 
 -- ---- hops are listed for the streams in use
 
@@ -95,8 +95,8 @@ module _ (s : List ℕ) where
   compared (Touched i) = stays refl
 
   -- what was asked before is asked still, and of hops more
-  widened : (c : Condition) → Asks gaugeLimits s c → Asks formerLimits s c
-  widened c a = go (compared c)
+  widened : (c : Condition) → Listed s c → Asks gaugeLimits s c → Asks formerLimits s c
+  widened c k a = go (compared c)
     where
       go : Stays c → Asks formerLimits s c
       go (stays e) = subst (λ (A : Type 0). A) e a
@@ -106,7 +106,7 @@ module _ (s : List ℕ) where
           longer h u l m = le-in (omega (arith, le-out (h u l m)))
 
   -- a hop that was short enough and is none from 6 to 8 is short enough
-  narrowed : ((i : ℕ) → i < sizesOf s .streams → LongHop (descriptionOf s) i → ⊥) → (c : Condition) → In c (conditions (sizesOf s .streams))
+  narrowed : ((i : ℕ) → i < sizesOf s .streams → LongHop (descriptionOf s) i → ⊥) → (c : Condition) → Listed s c
       → Asks formerLimits s c → Asks gaugeLimits s c
   narrowed none c k a = go (compared c)
     where
@@ -115,7 +115,7 @@ module _ (s : List ℕ) where
       go (hop i e) = subst (Asks gaugeLimits s) (sym e) (short (subst (Asks formerLimits s) e a))
         where
           inside : i < sizesOf s .streams
-          inside = listed-hop (sizesOf s .streams) (subst (λ (b : Condition). In b (conditions (sizesOf s .streams))) e k)
+          inside = listed-hop (sizesOf s .streams) (subst (Listed s) e k)
 
           short : Asks formerLimits s (Hop i) → Asks gaugeLimits s (Hop i)
           short h u l m =
@@ -147,25 +147,19 @@ module _ (s : List ℕ) where
   only-fourteen : (accept gaugeLimits s ≡ accept formerLimits s) ⊎ (accept gaugeLimits s ≡ Refused 14)
   only-fourteen = go (answered gaugeLimits s)
     where
-      on : (c : Condition) → In c (conditions (sizesOf s .streams)) → Asks gaugeLimits s c → Asks formerLimits s c
-      on c i a = widened c a
-
       go : Answered gaugeLimits s → (accept gaugeLimits s ≡ accept formerLimits s) ⊎ (accept gaugeLimits s ≡ Refused 14)
-      go (meets m) = inl (accepted-exactly gaugeLimits s .1 m ∙ sym (accepted-exactly formerLimits s .1 (meets-on on m)))
+      go (meets m) = inl (both-accept widened m)
       go (fails k f) = by (compared (f .failed))
         where
-          now : accept gaugeLimits s ≡ Refused k
-          now = refused-exactly gaugeLimits s k .1 f
-
           by : Stays (f .failed) → (accept gaugeLimits s ≡ accept formerLimits s) ⊎ (accept gaugeLimits s ≡ Refused 14)
-          by (stays e) = inl (now ∙ sym (refused-exactly formerLimits s k .1 (first-on on f (λ i a. f .fails (subst (λ (A : Type 0). A) (sym e) a)))))
-          by (hop i e) = inr (now ∙ ap Refused (sym (f .number) ∙ ap numberOf e))
+          by (stays e) = inl (both-refuse widened f (λ i a. f .fails (subst (λ (A : Type 0). A) (sym e) a)))
+          by (hop i e) = inr (refused-exactly gaugeLimits s k .1 f ∙ ap Refused (sym (f .number) ∙ ap numberOf e))
 
 -- REQUEST 2.8
 pub five-places : FivePlacesAreEnough
 five-places s =
     record {
-      as-before = λ none. alike gaugeLimits formerLimits s (same-answer (λ c i a. widened s c a) (narrowed s none));
+      as-before = λ none. alike gaugeLimits formerLimits s (same-answer (widened s) (narrowed s none));
       refused = refused s;
       only-fourteen = only-fourteen s;
     }

@@ -10,7 +10,7 @@ use Rattle.meaning.specs.Loops.{increment}
 use Rattle.meaning.specs.Lists.{position, numbers}
 use Rattle.meaning.specs.Description.{descriptionOf}
 use Rattle.meaning.specs.Array.{Array, arrayOf}
-use Rattle.meaning.specs.Limits.{gaugeLimits}
+use Rattle.meaning.specs.Limits.{gaugeLimits, stateWordsMost}
 use Rattle.meaning.specs.Rules.{Memory, ready, apply}
 use Rattle.guarantee.specs.Wired.{wired}
 use Rattle.book.specs.declared.Size.{Size}
@@ -35,15 +35,15 @@ use Rattle.run.specs.Going.{long}
 use Rattle.run.specs.Runs.{Started, Partly, sized, inside, some-rank, can-rank, lowest-at, rank-ready, opened-next, words-next, partly-next}
 
 -- the rows of a book lie in the table of words
-pub rows-in-table : {s : List ℕ} {M : Memory} {b : List ℕ} {z : Size} → Opened s M b z → RowsFit 99328 b z
+pub rows-in-table : {s : List ℕ} {M : Memory} {b : List ℕ} {z : Size} → Opened s M b z → RowsFit stateWordsMost b z
 rows-in-table {s} {b = b} {z} o =
     let g = grounds s (o .accepted) in
-    subst (RowsFit 99328 b) (sym (o .stood .size))
-    (g .rows b 99328 (o .stood .planned) (omega (arith, word-count (descriptionOf s), words-few s (o .accepted))))
+    subst (RowsFit stateWordsMost b) (sym (o .stood .size))
+    (g .rows b stateWordsMost (o .stood .planned) (omega (arith, word-count (descriptionOf s), words-few s (o .accepted))))
 
 -- what the tables are filled by
 module _ {s : List ℕ} {M : Memory} {b : List ℕ} {z : Size} (o : Opened s M b z) where
-  pub table-asks : (RowsFit 99328 b z) × (Sized z) × (Apart b z) × (replicate {A = ℕ} 99329 0 ≡ replicate 99329 0)
+  pub table-asks : (RowsFit stateWordsMost b z) × (Sized z) × (Apart b z) × (replicate {A = ℕ} (1 + stateWordsMost) 0 ≡ replicate (1 + stateWordsMost) 0)
   table-asks =
       let g = grounds s (o .accepted) in
       let f = fits g (o .stood) in (
@@ -109,7 +109,7 @@ module _ {s : List ℕ} {g : Program} {b ends watch : List ℕ} {z : Size} {M₀
     next = subst (λ (N : Memory). Opened s N b z) (sym (m ∙ acted)) (opened-next (h .ready) r (rank-in .1) can)
 
     -- what the flags ask
-    pub renews : (RowsFit (length (M' .state)) b z) × (RowsFit 99328 b z) × (Sized z) × (Watched b z watch) × (r < rankCount z) × (length flags ≡ 33824)
+    pub renews : (RowsFit (length (M' .state)) b z) × (RowsFit stateWordsMost b z) × (Sized z) × (Watched b z watch) × (r < rankCount z) × (length flags ≡ 33824)
     renews = (fits ground (next .stood), rows-in-table next, rank-in .0, st .watched, rank-in .1, h .ready .kept .words)
 
     nearby : Local b z watch (M .state) (M' .state) r

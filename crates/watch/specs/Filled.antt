@@ -8,13 +8,14 @@ use lib.Dec.{eqb, ltb}
 use lib.ListN.{length, getD, set, replicate, length-set, length-replicate, getD-replicate, List·getD-eq-default}
 use lib.Seq.{getD-set-same, getD-set-other}
 use borrow.Author.Tests.{eqb-true, eqb-false, ltb-true, ltb-false}
+use Rattle.meaning.specs.Limits.{stateWordsMost}
 use Rattle.book.specs.declared.Size.{Size}
 use Rattle.ranks.specs.Ranks.{rankCount}
 use Rattle.watch.specs.Watch.{none, foreignBy, Apart, Watched}
 
 -- the ranks below k are in it
 pub record Filled (b : List ℕ) (z : Size) (k : ℕ) (w : List ℕ) : Type 0 where
-  pub words : length w ≡ 99329
+  pub words : length w ≡ 1 + stateWordsMost
   pub ranks : (i : ℕ) → getD w i 0 ≤ k
   pub watches : (r : ℕ) → r < k → foreignBy b z r < none → getD w (foreignBy b z r) 0 ≡ suc r
 
@@ -26,9 +27,9 @@ zeros n i = go (ltb i n) refl
     go false e = List·getD-eq-default (replicate n 0) 0 (omega (arith, length-replicate {A = ℕ} n 0, ltb-false i n e))
 
 module _ (b : List ℕ) (z : Size) where
-  pub filled-none : {w : List ℕ} → w ≡ replicate 99329 0 → Filled b z 0 w
+  pub filled-none : {w : List ℕ} → w ≡ replicate (1 + stateWordsMost) 0 → Filled b z 0 w
   filled-none e =
-      rw e (record { words = length-replicate {A = ℕ} 99329 0; ranks = λ i. omega (arith, zeros 99329 i); watches = λ r h l. absurd (omega arith) })
+      rw e (record { words = length-replicate {A = ℕ} (1 + stateWordsMost) 0; ranks = λ i. omega (arith, zeros (1 + stateWordsMost) i); watches = λ r h l. absurd (omega arith) })
 
   pub filled-next : {k : ℕ} {w : List ℕ} (i v : ℕ) → Apart b z → k < rankCount z → i ≡ foreignBy b z k → i ≤ none → v ≡ k + 1
       → Filled b z k w → Filled b z (k + 1) (set w i v)

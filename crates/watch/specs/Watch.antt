@@ -7,6 +7,7 @@ use native.Mathlib.Omega.{arith}
 use lib.Dec.{ltb}
 use borrow.Author.Tests.{lt-ltb, le-ltb, ltb-true}
 use lib.ListN.{length, getD}
+use Rattle.meaning.specs.Limits.{stateWordsMost}
 use Rattle.book.specs.declared.Size.{Size}
 use Rattle.book.specs.Planned.{seatAt, endAt}
 use Rattle.steps.specs.Steps.{byKind, canBy}
@@ -15,7 +16,7 @@ use Rattle.ranks.specs.Ranks.{rankCount, nameAt, stepAt}
 
 -- no word
 abbrev pub none : ℕ
-none = 99328
+none = stateWordsMost
 
 -- the neighbour's word of a step; a seat off every pipe has no neighbour
 abbrev pub foreignNamed : List ℕ → ℕ → ℕ → ℕ → ℕ
@@ -64,7 +65,7 @@ Apart b z = (r r' : ℕ) → r < rankCount z → r' < rankCount z → foreignBy 
 
 -- the table: of a word, one more than the rank of the step that looks at it
 pub record Watched (b : List ℕ) (z : Size) (w : List ℕ) : Type 0 where
-  pub words : length w ≡ 99329
+  pub words : length w ≡ 1 + stateWordsMost
   pub ranks : (i : ℕ) → getD w i 0 ≤ rankCount z
   pub watches : (r : ℕ) → r < rankCount z → foreignBy b z r < none → getD w (foreignBy b z r) 0 ≡ suc r
 

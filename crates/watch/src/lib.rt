@@ -12,8 +12,9 @@
 ghost use mathlib.Core.Path.{_≡_};
 ghost use mathlib.Core.Bool.{false};
 ghost use mathlib.Core.List.{List};
-ghost use Prim.Native.Nat.{ℕ, _≤_, _<_};
+ghost use Prim.Native.Nat.{ℕ, _+_, _≤_, _<_};
 ghost use lib.ListN.{length, replicate};
+ghost use Rattle.meaning.specs.Limits.{stateWordsMost};
 ghost use Rattle.book.specs.Planned.{RowsFit};
 ghost use Rattle.flags.specs.Flags.{Kept};
 ghost use Rattle.steps.specs.Fits.{Inside};
@@ -26,8 +27,8 @@ use book::Size;
 
 // The index of the neighbour's word that a step looks at, 136,192 where there is none: by its name, and by its rank.
 fn foreign_named(book: &[u32], z: Size, kind: u32, number: usize, stream: usize) -> usize
-    requires { ⌜ (RowsFit 99328 (now book) z) × (Inside z kind number stream) ⌝ }
-    ensures { λ i. ⌜ (i ≡ foreignNamed (now (book .entry)) kind number stream) × (i ≤ 99328) ⌝ }
+    requires { ⌜ (RowsFit stateWordsMost (now book) z) × (Inside z kind number stream) ⌝ }
+    ensures { λ i. ⌜ (i ≡ foreignNamed (now (book .entry)) kind number stream) × (i ≤ stateWordsMost) ⌝ }
 {
     match kind {
         0 => {
@@ -51,8 +52,8 @@ fn foreign_named(book: &[u32], z: Size, kind: u32, number: usize, stream: usize)
 }
 
 fn foreign_of(book: &[u32], z: Size, r: usize) -> usize
-    requires { ⌜ (RowsFit 99328 (now book) z) × (Sized z) × (r < rankCount z) ⌝ }
-    ensures { λ i. ⌜ (i ≡ foreignBy (now (book .entry)) z r) × (i ≤ 99328) ⌝ }
+    requires { ⌜ (RowsFit stateWordsMost (now book) z) × (Sized z) × (r < rankCount z) ⌝ }
+    ensures { λ i. ⌜ (i ≡ foreignBy (now (book .entry)) z r) × (i ≤ stateWordsMost) ⌝ }
 {
     let n = ranks::name_of(z, r);
     foreign_named(book, z, n.kind, n.number, n.stream)
@@ -60,7 +61,7 @@ fn foreign_of(book: &[u32], z: Size, r: usize) -> usize
 
 // Of each word, one more than the rank of the step that looks at it.
 pub fn fill_watch(book: &[u32], z: Size, watch: &mut [u32])
-    requires { ⌜ (RowsFit 99328 (now book) z) × (Sized z) × (Apart (now book) z) × (now watch ≡ replicate 99329 0) ⌝ }
+    requires { ⌜ (RowsFit stateWordsMost (now book) z) × (Sized z) × (Apart (now book) z) × (now watch ≡ replicate (1 + stateWordsMost) 0) ⌝ }
     ensures { λ _. ⌜ Watched (now (book .entry)) z (now (watch .exit)) ⌝ }
 {
     let n = ranks::count(z);
@@ -74,8 +75,8 @@ pub fn fill_watch(book: &[u32], z: Size, watch: &mut [u32])
 
 // The index of the word that a step counts up: by its name, and by its rank.
 fn counter_named(book: &[u32], z: Size, kind: u32, number: usize, stream: usize) -> usize
-    requires { ⌜ (RowsFit 99328 (now book) z) × (Inside z kind number stream) ⌝ }
-    ensures { λ i. ⌜ (i ≡ counterNamed (now (book .entry)) kind number stream) × (i < 99328) ⌝ }
+    requires { ⌜ (RowsFit stateWordsMost (now book) z) × (Inside z kind number stream) ⌝ }
+    ensures { λ i. ⌜ (i ≡ counterNamed (now (book .entry)) kind number stream) × (i < stateWordsMost) ⌝ }
 {
     match kind {
         0 => {
@@ -102,8 +103,8 @@ fn counter_named(book: &[u32], z: Size, kind: u32, number: usize, stream: usize)
 }
 
 fn counter_of(book: &[u32], z: Size, r: usize) -> usize
-    requires { ⌜ (RowsFit 99328 (now book) z) × (Sized z) × (r < rankCount z) ⌝ }
-    ensures { λ i. ⌜ (i ≡ counterBy (now (book .entry)) z r) × (i < 99328) ⌝ }
+    requires { ⌜ (RowsFit stateWordsMost (now book) z) × (Sized z) × (r < rankCount z) ⌝ }
+    ensures { λ i. ⌜ (i ≡ counterBy (now (book .entry)) z r) × (i < stateWordsMost) ⌝ }
 {
     let n = ranks::name_of(z, r);
     counter_named(book, z, n.kind, n.number, n.stream)
@@ -193,7 +194,7 @@ fn retest_own(book: &[u32], state: &[u32], z: Size, r: usize, flags: &mut [u32])
 
 // The flags after the step of rank r was done.
 pub fn refresh(book: &[u32], watch: &[u32], state: &[u32], z: Size, r: usize, flags: &mut [u32])
-    requires { ⌜ (RowsFit (length (now state)) (now book) z) × (RowsFit 99328 (now book) z) × (Sized z) × (Watched (now book) z (now watch))
+    requires { ⌜ (RowsFit (length (now state)) (now book) z) × (RowsFit stateWordsMost (now book) z) × (Sized z) × (Watched (now book) z (now watch))
         × (r < rankCount z) × (length (now flags) ≡ 33824) ⌝ }
     ensures { λ _. ⌜ (length (now (flags .exit)) ≡ 33824) × ((old : List ℕ) → Local (now (book .entry)) z (now (watch .entry)) old (now (state .entry)) r
         → Kept (flagAt (now (book .entry)) old z) (now (flags .entry)) → Kept (flagAt (now (book .entry)) (now (state .entry)) z) (now (flags .exit))) ⌝ }

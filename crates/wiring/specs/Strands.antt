@@ -3,7 +3,6 @@ use mathlib.Core.Path.{_≡_, refl, sym, _∙_, ap, ap₂, subst}
 use mathlib.Core.Bool.{Bool, true, false, not, cond, _&&_}
 use mathlib.Core.List.{List}
 use Prim.Native.Nat.{ℕ, zero, suc, _+_, _*_, _≤_, _<_}
-use native.Mathlib.Nat.{mul-le-mul}
 use native.Mathlib.Omega.{arith}
 use lib.Dec.{eqb}
 use lib.IntN.{pos}
@@ -13,6 +12,7 @@ use Rattle.integers.specs.Vectors.{zero2, neg2, shift2, image}
 use Rattle.integers.specs.declared.V2.{V2}
 use Rattle.meaning.specs.declared.Nest.{Nest}
 use Rattle.meaning.specs.declared.Stream.{Stream}
+use Rattle.meaning.specs.Limits.{gaugeLimits, processWordsMost, stateWordsMost}
 use Rattle.meaning.specs.Loops.{instances}
 use Rattle.meaning.specs.Space.{eq2, Box, points, rowIndex, space, processes, sentTo, count, computing}
 use Rattle.meaning.specs.Streams.{stationary, move}
@@ -39,16 +39,10 @@ use Rattle.wiring.specs.declared.Strand.{Strand}
 
 -- small numbers
 pub record Narrow (g : Strand) : Type 0 where
-  pub hop : g .hop ≤ 5
-  pub stride : g .stride ≤ 55
-  pub offset : g .offset ≤ 55
-  pub tail : g .tail ≤ 99328
-
-pub seat-most : {p w : ℕ} → p < 1024 → w ≤ 55 → p * w ≤ 56320
-seat-most h k = mul-le-mul {n₂ = 1024} {m₂ = 55} (omega arith) k
-
-pub ends-most : {j h : ℕ} → j ≤ 1024 → h ≤ 5 → j * (2 + h) ≤ 7168
-ends-most h k = mul-le-mul {n₂ = 1024} {m₂ = 7} h (omega arith)
+  pub hop : g .hop ≤ gaugeLimits .hop
+  pub stride : g .stride ≤ processWordsMost
+  pub offset : g .offset ≤ processWordsMost
+  pub tail : g .tail ≤ stateWordsMost
 
 -- ---- points on a line
 

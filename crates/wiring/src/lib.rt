@@ -11,6 +11,7 @@ ghost use lib.Dec.{eqb};
 ghost use lib.IntN.{pos};
 ghost use lib.ListN.{length};
 ghost use Rattle.integers.specs.Vectors.{shift2};
+ghost use Rattle.meaning.specs.Limits.{endWordsMost, stateWordsMost};
 ghost use Rattle.meaning.specs.Space.{rowIndex, space, processes};
 ghost use Rattle.meaning.specs.Streams.{move};
 ghost use Rattle.meaning.specs.Pipes.{reach, before};
@@ -41,7 +42,7 @@ struct Link {
 // The index of the words of process p and the stream.
 fn seat_at(g: Strand, p: u32) -> u32
     requires { ⌜ (Narrow g) × (p < 1024) ⌝ }
-    ensures { λ r. ⌜ (r ≡ p * g .stride + g .offset) × (r ≤ 56375) ⌝ }
+    ensures { λ r. ⌜ (r ≡ p * g .stride + g .offset) × (r ≤ stateWordsMost) ⌝ }
 {
     p * g.stride + g.offset
 }
@@ -49,7 +50,7 @@ fn seat_at(g: Strand, p: u32) -> u32
 // The index of the words of the ends of the stream's pipe j.
 fn end_at(g: Strand, j: u32) -> u32
     requires { ⌜ (Narrow g) × (j ≤ 1024) ⌝ }
-    ensures { λ r. ⌜ (r ≡ g .tail + j * (2 + g .hop)) × (r ≤ 106496) ⌝ }
+    ensures { λ r. ⌜ (r ≡ g .tail + j * (2 + g .hop)) × (r ≤ stateWordsMost + endWordsMost) ⌝ }
 {
     g.tail + j * (2 + g.hop)
 }
@@ -98,7 +99,7 @@ fn pipe_number(f: Flow, ends: &[u32], lanes: &[u32], entered: &[u32], p: usize) 
 
 // What was put into the link into process p, where the words of its pipe's ends stand at `sent`.
 fn before_of(f: Flow, g: Strand, ends: &[u32], lanes: &[u32], sent: u32, p: usize) -> u32
-    requires { ⌜ (Near f (now ends) (now lanes) p) × (Narrow g) × (sent ≤ 106496) ⌝ }
+    requires { ⌜ (Near f (now ends) (now lanes) p) × (Narrow g) × (sent ≤ stateWordsMost + endWordsMost) ⌝ }
     ensures { λ r. ⌜ r ≡ beforeFrom (f .nest) (f .stream) g sent p ⌝ }
 {
     if pipes::entry_at(f, ends, lanes, p) == p {
@@ -110,7 +111,7 @@ fn before_of(f: Flow, g: Strand, ends: &[u32], lanes: &[u32], sent: u32, p: usiz
 
 // The link out of process p.
 fn link_of(f: Flow, g: Strand, sent: u32, p: u32) -> Link
-    requires { ⌜ (Flows f) × (p < length (processes (f .nest))) × (Narrow g) × (sent ≤ 106496) ⌝ }
+    requires { ⌜ (Flows f) × (p < length (processes (f .nest))) × (Narrow g) × (sent ≤ stateWordsMost + endWordsMost) ⌝ }
     ensures { λ r. ⌜ (r .after ≡ afterFrom (f .nest) (f .stream) g sent p) × (r .room ≡ roomFrom (f .nest) (f .stream) g sent p) ⌝ }
 {
     let space = f.space;

@@ -4,7 +4,8 @@ use mathlib.Core.Path.{refl, _∙_, ap}
 use native.Mathlib.Omega.{arith}
 use lib.ListN.{length}
 use Rattle.meaning.specs.Space.{Box, points}
-use Rattle.accept.specs.Shares.{figures-are, words-most}
+use Rattle.accept.specs.Shares.{figures-are}
+use Rattle.refusals.specs.StateWords.{process-words}
 use Rattle.accept.proofs.figures_of.Statement.{statement}
 use Rattle.accept.proofs.figures_of.Tie as tie
 
@@ -39,14 +40,14 @@ mul-t16 : tie.Need-mul-t16
 mul-t16 c =
     let s = c .before .before .before .before .before .before .before .before .before .before .before .before in
     let e = c .before .before .before .before .before .before .before .before .size-of .ensures .0 ∙ ap (λ (k : Box). length (points k)) (c .before .before .before .before .before .before .before .before .before .extent-of .ensures .0) in
-    record { fits = omega (arith, words-most {p = c .before .before .before .before .before .before .before .before .size-of .result} (omega (arith, e, s .pre .processes)) (c .before .before .totals-of .ensures .1)) }
+    record { fits = omega (arith, process-words {p = c .before .before .before .before .before .before .before .before .size-of .result} (omega (arith, e, s .pre .processes)) (c .before .before .totals-of .ensures .1 .words)) }
 
 add-t17 : tie.Need-add-t17
 add-t17 c =
     let s = c .before .before .before .before .before .before .before .before .before .before .before .before .before in
     let t = c .before .before .before .totals-of .ensures .1 in
     let e = c .before .before .before .before .before .before .before .before .before .size-of .ensures .0 ∙ ap (λ (k : Box). length (points k)) (c .before .before .before .before .before .before .before .before .before .before .extent-of .ensures .0) in
-    record { fits = omega (arith, words-most {p = c .before .before .before .before .before .before .before .before .before .size-of .result} (omega (arith, e, s .pre .processes)) t, t .ends) }
+    record { fits = omega (arith, process-words {p = c .before .before .before .before .before .before .before .before .before .size-of .result} (omega (arith, e, s .pre .processes)) (t .words), t .ends) }
 
 add-t18 : tie.Need-add-t18
 add-t18 c = search needs

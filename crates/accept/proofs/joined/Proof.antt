@@ -1,13 +1,9 @@
 -- `accept::joined` meets its contract. Assumes nothing.
 use borrow.Author.Needs.{needs}
-use Prim.Native.Nat.{ℕ, _*_, _+_, _≤_}
-use native.Mathlib.Nat.{mul-le-mul}
 use native.Mathlib.Omega.{arith}
+use Rattle.refusals.specs.StateWords.{end-words}
 use Rattle.accept.proofs.joined.Statement.{statement}
 use Rattle.accept.proofs.joined.Tie as tie
-
-most : {a h : ℕ} → a ≤ 1024 → h ≤ 5 → a * (2 + h) ≤ 7168
-most p q = mul-le-mul {n₂ = 1024} {m₂ = 7} p (omega arith)
 
 add-t3 : tie.Need-add-t3
 add-t3 c = search needs
@@ -22,10 +18,10 @@ add-t6 : tie.Need-add-t6
 add-t6 c = search needs
 
 mul-t7 : tie.Need-mul-t7
-mul-t7 c = let p = c .before .before .before .before .before .before .pre in record { fits = omega (arith, most (p .1 .pipes) (p .1 .hop)) }
+mul-t7 c = let p = c .before .before .before .before .before .before .pre in record { fits = omega (arith, end-words (p .1 .pipes) (p .1 .hop)) }
 
 add-t8 : tie.Need-add-t8
-add-t8 c = let p = c .before .before .before .before .before .before .before .pre in record { fits = omega (arith, most (p .1 .pipes) (p .1 .hop), p .0 .ends) }
+add-t8 c = let p = c .before .before .before .before .before .before .before .pre in record { fits = omega (arith, end-words (p .1 .pipes) (p .1 .hop), p .0 .ends) }
 
 add-t9 : tie.Need-add-t9
 add-t9 c = search needs

@@ -1,7 +1,7 @@
 -- `plan::joined` meets its contract. Assumes nothing.
 use borrow.Author.Needs.{needs}
 use native.Mathlib.Omega.{arith}
-use Rattle.wiring.specs.Strands.{ends-most}
+use Rattle.refusals.specs.StateWords.{end-words}
 use Rattle.plan.proofs.joined.Statement.{statement}
 use Rattle.plan.proofs.joined.Tie as tie
 
@@ -18,10 +18,10 @@ add-t7 : tie.Need-add-t7
 add-t7 c = search needs
 
 mul-t8 : tie.Need-mul-t8
-mul-t8 c = let p = c .before .before .pre in record { fits = omega (arith, ends-most (p .2) (p .1)) }
+mul-t8 c = let p = c .before .before .pre in record { fits = omega (arith, end-words (p .2) (p .1)) }
 
 add-t9 : tie.Need-add-t9
-add-t9 c = let p = c .before .before .before .pre in record { fits = omega (arith, ends-most (p .2) (p .1), p .0 .ends) }
+add-t9 c = let p = c .before .before .before .pre in record { fits = omega (arith, end-words (p .2) (p .1), p .0 .ends) }
 
 returns : tie.Need-returns
 returns c = search needs

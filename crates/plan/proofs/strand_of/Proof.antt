@@ -3,7 +3,8 @@ use borrow.Author.Needs.{needs}
 use mathlib.Core.Path.{ap}
 use Prim.Native.Nat.{ℕ}
 use native.Mathlib.Omega.{arith}
-use Rattle.plan.specs.Strung.{strandFrom, strand-most}
+use Rattle.plan.specs.Strung.{strandFrom}
+use Rattle.refusals.specs.StateWords.{process-words}
 use Rattle.plan.proofs.strand_of.Statement.{statement}
 use Rattle.plan.proofs.strand_of.Tie as tie
 
@@ -14,15 +15,15 @@ add-t7 : tie.Need-add-t7
 add-t7 c = search needs
 
 mul-t8 : tie.Need-mul-t8
-mul-t8 c = let p = c .before .before .pre in record { fits = omega (arith, strand-most (p .1) (p .2)) }
+mul-t8 c = let p = c .before .before .pre in record { fits = omega (arith, process-words (p .1) (p .2)) }
 
 add-t9 : tie.Need-add-t9
-add-t9 c = let p = c .before .before .before .pre in record { fits = omega (arith, strand-most (p .1) (p .2), p .3 .ends) }
+add-t9 c = let p = c .before .before .before .pre in record { fits = omega (arith, process-words (p .1) (p .2), p .3 .ends) }
 
 returns : tie.Need-returns
 returns c =
     let s = c .before .before .before in
-    let m = strand-most (s .pre .1) (s .pre .2) in (
+    let m = process-words (s .pre .1) (s .pre .2) in (
       ap (λ (k : ℕ). strandFrom k (s .args .processes) (s .args .stride) (s .args .t)) (c .before .before .hop-of .ensures),
       record {
         hop = omega (arith, c .before .before .hop-of .ensures, s .pre .0 .hop);

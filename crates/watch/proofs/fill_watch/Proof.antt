@@ -1,9 +1,10 @@
 -- `watch::fill_watch` meets its contract: the ranks below r are in the table. Assumes nothing.
 use mathlib.Core.Path.{sym, _∙_, ap}
-use Prim.Native.Nat.{ℕ, _-_, _≤_}
+use Prim.Native.Nat.{ℕ, _+_, _-_, _≤_}
 use native.Mathlib.Omega.{arith}
 use lib.ListN.{length, length-replicate}
 use borrow.Author.Needs.{needs}
+use Rattle.meaning.specs.Limits.{stateWordsMost}
 use Rattle.watch.specs.Filled.{Filled, filled-none, filled-next, filled-all}
 use Rattle.watch.proofs.fill_watch.Statement.{statement}
 use Rattle.watch.proofs.fill_watch.Tie as tie
@@ -53,7 +54,7 @@ loop-again c =
 
 same-length : tie.Need-same-length Inv-loop μ-loop
 same-length c =
-    c .before .loop .inv .1 .words ∙ sym (ap length (c .before .before .before .before .before .pre .3) ∙ length-replicate {A = ℕ} 99329 0)
+    c .before .loop .inv .1 .words ∙ sym (ap length (c .before .before .before .before .before .pre .3) ∙ length-replicate {A = ℕ} (1 + stateWordsMost) 0)
 
 returns : tie.Need-returns Inv-loop μ-loop
 returns c =

@@ -2,7 +2,7 @@
 use borrow.Author.Needs.{needs}
 use mathlib.Core.Path.{refl}
 use native.Mathlib.Omega.{arith}
-use Rattle.wiring.specs.Strands.{ends-most}
+use Rattle.refusals.specs.StateWords.{end-words}
 use Rattle.wiring.proofs.end_at.Statement.{statement}
 use Rattle.wiring.proofs.end_at.Tie as tie
 
@@ -10,13 +10,13 @@ add-result : tie.Need-add-result
 add-result c = search needs
 
 mul-result : tie.Need-mul-result
-mul-result c = let p = c .before .pre in record { fits = omega (arith, ends-most (p .1) (p .0 .hop)) }
+mul-result c = let p = c .before .pre in record { fits = omega (arith, end-words (p .1) (p .0 .hop)) }
 
 add-result-2 : tie.Need-add-result-2
-add-result-2 c = let p = c .before .before .pre in record { fits = omega (arith, ends-most (p .1) (p .0 .hop), p .0 .tail) }
+add-result-2 c = let p = c .before .before .pre in record { fits = omega (arith, end-words (p .1) (p .0 .hop), p .0 .tail) }
 
 returns : tie.Need-returns
-returns c = let p = c .before .before .pre in (refl, omega (arith, ends-most (p .1) (p .0 .hop), p .0 .tail))
+returns c = let p = c .before .before .pre in (refl, omega (arith, end-words (p .1) (p .0 .hop), p .0 .tail))
 
 pub end-at-spec : {M : Type 1} → statement M
 end-at-spec = tie.close (tie.spec add-result mul-result add-result-2 returns)
