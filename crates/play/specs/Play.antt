@@ -15,6 +15,7 @@ use Rattle.meaning.specs.Rules.{Memory, memoryOf}
 use Rattle.meaning.specs.Answers.{answerNumber}
 use Rattle.meaning.specs.Calls.{start, step, run, readyCall, window, result}
 use Rattle.meaning.specs.Demand3.{Call, CallStep, CallRun, CallReady, CallWindow, CallResult, leaves, memoryAfter, Demand3}
+use Rattle.answer_words.specs.declared.Words.{Words}
 use Rattle.answer_words.specs.Words.{wordsOf, ofAnswer, ofRan, ofReadiness, noted}
 use Rattle.guarantee.specs.Guarantee.{guarantee}
 
@@ -43,6 +44,26 @@ copied values to = fillBy (λ i. getD values i 0) (min (length values) (length t
 
 -- ---- a call
 
+-- what a call leaves of the memory and the lists, and its answer in words
+pub record Made : Type 0 where
+  pub memory : Memory
+  pub words : List ℕ
+  pub output : List ℕ
+  pub part : List ℕ
+  pub answer : Words
+
+abbrev pub madeOf : Memory → List ℕ → List ℕ → List ℕ → Words → Made
+madeOf M words output part answer = record { memory = M; words = words; output = output; part = part; answer = answer }
+
+pub same-made : {M M' : Memory} {ws ws' os os' ps ps' : List ℕ} {a a' : Words} → M ≡ M' → ws ≡ ws' → os ≡ os' → ps ≡ ps' → a ≡ a'
+    → madeOf M ws os ps a ≡ madeOf M' ws' os' ps' a'
+same-made a b c d e = λ i. madeOf (a i) (b i) (c i) (d i) (e i)
+
+-- what is lent after a call, with its answer noted as the k-th
+abbrev pub lentAfter : List ℕ → ℕ → Made → Lent
+lentAfter answers k m =
+    record { memory = m .memory; words = m .words; output = m .output; part = m .part; answers = noted answers k (m .answer) }
+
 -- the first word of the k-th call, and its j-th after that
 abbrev pub kindOf : List ℕ → ℕ → ℕ
 kindOf ws k = getD ws (4 * k) 0
@@ -59,40 +80,44 @@ module _ (s ws : List ℕ) where
       byKind (kindOf ws k) (CallStep (callWord ws k 1) (callWord ws k 2) (callWord ws k 3)) (CallRun (callWord ws k 1)) (CallReady (L .words))
       (CallWindow (callWord ws k 1) (callWord ws k 2)) (CallResult (L .output))
 
-  -- what each leaves of what is lent
-  abbrev afterStep : ℕ → Lent → Lent
-  afterStep k L =
-      let r = step gaugeLimits s (callWord ws k 1) (callWord ws k 2) (callWord ws k 3) (L .memory) in
-      record { memory = r .memory; words = L .words; output = L .output; part = L .part; answers = noted (L .answers) k (ofAnswer (r .answer)) }
+  -- what the k-th call makes of the memory and the lists, by its kind
+  module _ (k : ℕ) (M : Memory) (words output part : List ℕ) where
+    abbrev madeStep : Made
+    madeStep =
+        let r = step gaugeLimits s (callWord ws k 1) (callWord ws k 2) (callWord ws k 3) M in
+        madeOf (r .memory) words output part (ofAnswer (r .answer))
 
-  abbrev afterRun : ℕ → Lent → Lent
-  afterRun k L =
-      let r = run gaugeLimits s (callWord ws k 1) (L .memory) in
-      record { memory = r .memory; words = L .words; output = L .output; part = L .part; answers = noted (L .answers) k (ofRan (r .answer)) }
+    abbrev madeRun : Made
+    madeRun = let r = run gaugeLimits s (callWord ws k 1) M in madeOf (r .memory) words output part (ofRan (r .answer))
 
-  abbrev afterReady : ℕ → Lent → Lent
-  afterReady k L =
-      let r = readyCall gaugeLimits s (L .words) (L .memory) in
-      record { memory = L .memory; words = r .words; output = L .output; part = L .part; answers = noted (L .answers) k (ofReadiness (r .answer)) }
+    abbrev madeReady : Made
+    madeReady = let r = readyCall gaugeLimits s words M in madeOf M (r .words) output part (ofReadiness (r .answer))
 
-  abbrev afterWindow : ℕ → Lent → Lent
-  afterWindow k L =
-      let r = window gaugeLimits s (callWord ws k 1) (callWord ws k 2) (L .memory .waiting) (L .memory .received) in
-      record {
-        memory = L .memory;
-        words = L .words;
-        output = L .output;
-        part = copied (r .part) (L .part);
-        answers = noted (L .answers) k (wordsOf (r .refusal) []);
-      }
+    abbrev madeWindow : Made
+    madeWindow =
+        let r = window gaugeLimits s (callWord ws k 1) (callWord ws k 2) (M .waiting) (M .received) in
+        madeOf M words output (copied (r .part) part) (wordsOf (r .refusal) [])
 
-  abbrev afterResult : ℕ → Lent → Lent
-  afterResult k L =
-      let r = result gaugeLimits s (L .output) (L .memory) in
-      record { memory = L .memory; words = L .words; output = r .output; part = L .part; answers = noted (L .answers) k (ofAnswer (r .answer)) }
+    abbrev madeResult : Made
+    madeResult = let r = result gaugeLimits s output M in madeOf M words (r .output) part (ofAnswer (r .answer))
 
+    abbrev pub made : Made
+    made = byKind (kindOf ws k) madeStep madeRun madeReady madeWindow madeResult
+
+    made-memory : (a b c d : Bool)
+        → (cond a madeStep (cond b madeRun (cond c madeReady (cond d madeWindow madeResult)))) .memory
+        ≡ leaves gaugeLimits s M
+        (cond a (CallStep (callWord ws k 1) (callWord ws k 2) (callWord ws k 3)) (cond b (CallRun (callWord ws k 1)) (cond c (CallReady words)
+        (cond d (CallWindow (callWord ws k 1) (callWord ws k 2)) (CallResult output)))))
+    made-memory true b c d = refl
+    made-memory false true c d = refl
+    made-memory false false true d = refl
+    made-memory false false false true = refl
+    made-memory false false false false = refl
+
+  -- what the k-th call leaves of what is lent
   abbrev pub turn : ℕ → Lent → Lent
-  turn k L = byKind (kindOf ws k) (afterStep k L) (afterRun k L) (afterReady k L) (afterWindow k L) (afterResult k L)
+  turn k L = lentAfter (L .answers) k (made k (L .memory) (L .words) (L .output) (L .part))
 
   -- ---- n calls from the k-th on: what they leave, and which they are
 
@@ -105,18 +130,8 @@ module _ (s ws : List ℕ) where
   callsFrom k (suc n) L = callAt k L ∷ callsFrom (suc k) n (turn k L)
 
   turn-memory : (k : ℕ) (L : Lent) → turn k L .memory ≡ leaves gaugeLimits s (L .memory) (callAt k L)
-  turn-memory k L = go (eqb (kindOf ws k) 0) (eqb (kindOf ws k) 1) (eqb (kindOf ws k) 2) (eqb (kindOf ws k) 3)
-    where
-      go : (a b c d : Bool)
-          → (cond a (afterStep k L) (cond b (afterRun k L) (cond c (afterReady k L) (cond d (afterWindow k L) (afterResult k L))))) .memory
-          ≡ leaves gaugeLimits s (L .memory)
-          (cond a (CallStep (callWord ws k 1) (callWord ws k 2) (callWord ws k 3)) (cond b (CallRun (callWord ws k 1)) (cond c (CallReady (L .words))
-          (cond d (CallWindow (callWord ws k 1) (callWord ws k 2)) (CallResult (L .output))))))
-      go true b c d = refl
-      go false true c d = refl
-      go false false true d = refl
-      go false false false true = refl
-      go false false false false = refl
+  turn-memory k L =
+      made-memory k (L .memory) (L .words) (L .output) (L .part) (eqb (kindOf ws k) 0) (eqb (kindOf ws k) 1) (eqb (kindOf ws k) 2) (eqb (kindOf ws k) 3)
 
   play-memory : (k n : ℕ) (L : Lent) → playFrom k n L .memory ≡ memoryAfter gaugeLimits s (L .memory) (callsFrom k n L)
   unfolding playFrom callsFrom memoryAfter

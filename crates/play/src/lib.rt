@@ -10,83 +10,14 @@ ghost use lib.ListN.{length};
 ghost use Rattle.meaning.specs.declared.Answer.the-variants.{Done};
 ghost use Rattle.meaning.specs.Limits.{gaugeLimits};
 ghost use Rattle.meaning.specs.Rules.{memoryOf};
-ghost use Rattle.meaning.specs.Calls.{start, step, run, readyCall, window, result};
+ghost use Rattle.meaning.specs.Calls.{start, window};
 ghost use Rattle.meaning.specs.Demand3.{memoryAfter, Demand3};
-ghost use Rattle.answer_words.specs.Words.{wordsOf, ofAnswer, ofRan, ofReadiness, noted};
-ghost use Rattle.play.specs.Play.{callWord, copied, lentOf, turn, playFrom, played, callsMade};
+ghost use Rattle.answer_words.specs.Words.{wordsOf};
+ghost use Rattle.play.specs.Play.{copied, lentOf, madeOf, made, turn, playFrom, played, callsMade};
 use answer_words::Words;
 use meaning::Answer;
 
-// ---- the calls one by one, each with its answer noted as the k-th
-
-fn play_step(
-    s: &[u8],
-    calls: &[u32],
-    k: usize,
-    answers: &mut [u32],
-    waiting: &[u32],
-    received: &mut [u32],
-    state: &mut [u32],
-)
-    requires { ⌜ 4 * k + 4 ≤ length (now calls) ⌝ }
-    ensures { λ r. ⌜ (memoryOf (now (waiting .entry)) (now (received .exit)) (now (state .exit))
-        ≡ step gaugeLimits (now (s .entry)) (callWord (now (calls .entry)) k 1) (callWord (now (calls .entry)) k 2) (callWord (now (calls .entry)) k 3)
-        (memoryOf (now (waiting .entry)) (now (received .entry)) (now (state .entry))) .memory)
-        × (now (answers .exit) ≡ noted (now (answers .entry)) k (ofAnswer (step gaugeLimits (now (s .entry)) (callWord (now (calls .entry)) k 1)
-        (callWord (now (calls .entry)) k 2) (callWord (now (calls .entry)) k 3)
-        (memoryOf (now (waiting .entry)) (now (received .entry)) (now (state .entry))) .answer))) ⌝ }
-{
-    let answer = step::step(
-        s,
-        calls[4 * k + 1],
-        calls[4 * k + 2],
-        calls[4 * k + 3],
-        waiting,
-        received,
-        state,
-    );
-    let words = answer_words::of_answer(answer);
-    answer_words::note(answers, k, words);
-}
-
-fn play_run(
-    s: &[u8],
-    calls: &[u32],
-    k: usize,
-    answers: &mut [u32],
-    waiting: &[u32],
-    received: &mut [u32],
-    state: &mut [u32],
-)
-    requires { ⌜ 4 * k + 4 ≤ length (now calls) ⌝ }
-    ensures { λ r. ⌜ (memoryOf (now (waiting .entry)) (now (received .exit)) (now (state .exit))
-        ≡ run gaugeLimits (now (s .entry)) (callWord (now (calls .entry)) k 1) (memoryOf (now (waiting .entry)) (now (received .entry)) (now (state .entry))) .memory)
-        × (now (answers .exit) ≡ noted (now (answers .entry)) k (ofRan (run gaugeLimits (now (s .entry)) (callWord (now (calls .entry)) k 1)
-        (memoryOf (now (waiting .entry)) (now (received .entry)) (now (state .entry))) .answer))) ⌝ }
-{
-    let answer = run::run(s, calls[4 * k + 1], waiting, received, state);
-    let words = answer_words::of_ran(answer);
-    answer_words::note(answers, k, words);
-}
-
-fn play_ready(
-    s: &[u8],
-    k: usize,
-    words: &mut [u64],
-    answers: &mut [u32],
-    waiting: &[u32],
-    received: &[u32],
-    state: &[u32],
-)
-    ensures { λ r. ⌜ (now (words .exit) ≡ readyCall gaugeLimits (now (s .entry)) (now (words .entry))
-        (memoryOf (now (waiting .entry)) (now (received .entry)) (now (state .entry))) .words)
-        × (now (answers .exit) ≡ noted (now (answers .entry)) k (ofReadiness (readyCall gaugeLimits (now (s .entry)) (now (words .entry))
-        (memoryOf (now (waiting .entry)) (now (received .entry)) (now (state .entry))) .answer))) ⌝ }
-{
-    let answer = ready::ready(s, words, waiting, received, state);
-    let noted = answer_words::of_readiness(answer);
-    answer_words::note(answers, k, noted);
-}
+// ---- one call
 
 fn least(a: usize, b: usize) -> usize
     ensures { λ r. ⌜ r ≡ min a b ⌝ }
@@ -106,56 +37,70 @@ fn copy(values: &[u32], to: &mut [u32])
     }
 }
 
-fn play_window<'a>(
+// The part that Window hands back is copied; its answer in words.
+fn see<'a>(
     s: &[u8],
-    calls: &[u32],
-    k: usize,
+    pipe: u32,
+    side: u32,
     part: &mut [u32],
-    answers: &mut [u32],
     waiting: &'a [u32],
     received: &'a [u32],
-)
-    requires { ⌜ 4 * k + 4 ≤ length (now calls) ⌝ }
-    ensures { λ r. ⌜ (now (part .exit) ≡ copied (window gaugeLimits (now (s .entry)) (callWord (now (calls .entry)) k 1) (callWord (now (calls .entry)) k 2)
-        (now (waiting .entry)) (now (received .entry)) .part) (now (part .entry)))
-        × (now (answers .exit) ≡ noted (now (answers .entry)) k (wordsOf (window gaugeLimits (now (s .entry)) (callWord (now (calls .entry)) k 1)
-        (callWord (now (calls .entry)) k 2) (now (waiting .entry)) (now (received .entry)) .refusal) [])) ⌝ }
+) -> Words
+    ensures { λ r. ⌜ (now (part .exit) ≡ copied (window gaugeLimits (now (s .entry)) pipe side (now (waiting .entry)) (now (received .entry)) .part) (now (part .entry)))
+        × (r ≡ wordsOf (window gaugeLimits (now (s .entry)) pipe side (now (waiting .entry)) (now (received .entry)) .refusal) []) ⌝ }
 {
-    let pipe = calls[4 * k + 1];
-    let side = calls[4 * k + 2];
     let mut number: u32 = 0;
     let seen = window::window(s, pipe, side, waiting, received, &mut number);
     copy(seen, part);
-    let words = Words {
+    Words {
         number: number,
         first: 0,
         second: 0,
-    };
-    answer_words::note(answers, k, words);
+    }
 }
 
-fn play_result(
+// The k-th call is made; its answer in words.
+fn make_call(
     s: &[u8],
+    calls: &[u32],
     k: usize,
+    words: &mut [u64],
     output: &mut [u32],
-    answers: &mut [u32],
+    part: &mut [u32],
     waiting: &[u32],
-    received: &[u32],
-    state: &[u32],
-)
-    ensures { λ r. ⌜ (now (output .exit) ≡ result gaugeLimits (now (s .entry)) (now (output .entry))
-        (memoryOf (now (waiting .entry)) (now (received .entry)) (now (state .entry))) .output)
-        × (now (answers .exit) ≡ noted (now (answers .entry)) k (ofAnswer (result gaugeLimits (now (s .entry)) (now (output .entry))
-        (memoryOf (now (waiting .entry)) (now (received .entry)) (now (state .entry))) .answer))) ⌝ }
+    received: &mut [u32],
+    state: &mut [u32],
+) -> Words
+    requires { ⌜ 4 * k + 4 ≤ length (now calls) ⌝ }
+    ensures { λ r. ⌜ madeOf (memoryOf (now (waiting .entry)) (now (received .exit)) (now (state .exit))) (now (words .exit)) (now (output .exit)) (now (part .exit)) r
+        ≡ made (now (s .entry)) (now (calls .entry)) k (memoryOf (now (waiting .entry)) (now (received .entry)) (now (state .entry)))
+        (now (words .entry)) (now (output .entry)) (now (part .entry)) ⌝ }
 {
-    let answer = result::result(s, output, waiting, received, state);
-    let words = answer_words::of_answer(answer);
-    answer_words::note(answers, k, words);
+    match calls[4 * k] {
+        0 => answer_words::of_answer(step::step(
+            s,
+            calls[4 * k + 1],
+            calls[4 * k + 2],
+            calls[4 * k + 3],
+            waiting,
+            received,
+            state,
+        )),
+        1 => answer_words::of_ran(run::run(s, calls[4 * k + 1], waiting, received, state)),
+        2 => answer_words::of_readiness(ready::ready(s, words, waiting, received, state)),
+        3 => see(
+            s,
+            calls[4 * k + 1],
+            calls[4 * k + 2],
+            part,
+            waiting,
+            received,
+        ),
+        _ => answer_words::of_answer(result::result(s, output, waiting, received, state)),
+    }
 }
 
-// ---- all of them
-
-// The k-th call.
+// The k-th call is made, and its answer noted.
 fn play_call(
     s: &[u8],
     calls: &[u32],
@@ -173,24 +118,11 @@ fn play_call(
         ≡ turn (now (s .entry)) (now (calls .entry)) k (lentOf (now (waiting .entry)) (now (received .entry)) (now (state .entry)) (now (words .entry))
         (now (output .entry)) (now (part .entry)) (now (answers .entry))) ⌝ }
 {
-    match calls[4 * k] {
-        0 => {
-            play_step(s, calls, k, answers, waiting, received, state);
-        }
-        1 => {
-            play_run(s, calls, k, answers, waiting, received, state);
-        }
-        2 => {
-            play_ready(s, k, words, answers, waiting, received, state);
-        }
-        3 => {
-            play_window(s, calls, k, part, answers, waiting, received);
-        }
-        _ => {
-            play_result(s, k, output, answers, waiting, received, state);
-        }
-    }
+    let noted = make_call(s, calls, k, words, output, part, waiting, received, state);
+    answer_words::note(answers, k, noted);
 }
+
+// ---- all of them
 
 // The calls in turn.
 fn play_calls(
