@@ -1,7 +1,7 @@
 /* Beqlanosh: the calls of document 01 as C functions, from target/staticlib/libbeqlanosh.a (`rt staticlib beqlanosh`, x86-64 Linux).
  *
- * Every call answers 0, or document 01's number by which it declines, and then changes no lent word. Words beyond those that a comment names never
- * change. A call keeps nothing between calls and allocates nothing. It takes up to 1.3 MB of stack: Accept and Window 70 KB, Plain run 120, Start 170,
+ * Every call answers 0, or document 01's number by which it declines, and then changes no lent word; 9 is never given (request 2.2). Words beyond those
+ * that a comment names never change. A call keeps nothing between calls and allocates nothing. It takes up to 1.3 MB of stack: Accept and Window 70 KB, Plain run 120, Start 170,
  * Table 240, Step and Ready 600, Result 680, Run 1,300.
  *
  * What is proved holds if each pointer is not null, is aligned for its type and points to as many elements as its length says, also if that is 0, and

@@ -4,6 +4,7 @@ use reference::calls::{Accepted, Calls, Row};
 use reference::compare;
 use reference::random::Random;
 use reference::random_description;
+use reference::random_stride;
 use reference::Refusal;
 
 use crate::library::{self, FIGURES, ROW_WORDS};
@@ -11,11 +12,11 @@ use crate::library::{self, FIGURES, ROW_WORDS};
 /// Every word of a list before a call.
 pub const MARK: u32 = 7;
 
-/// The comparison's descriptions, and as many again that come from the seed.
+/// The comparison's descriptions, and more than as many again that come from the seed.
 pub fn descriptions(seed: u64) -> Vec<Vec<u8>> {
     let mut descriptions = compare::descriptions();
     let mut random = Random::new(seed);
-    for number in (1..=17).filter(|&number| number != 10) {
+    for number in random_description::given().filter(|&number| number != 10) {
         for _ in 0..20 {
             descriptions.push(random_description::refused(&mut random, number));
         }
@@ -23,6 +24,9 @@ pub fn descriptions(seed: u64) -> Vec<Vec<u8>> {
     for _ in 0..1500 {
         descriptions.push(random_description::accepted(&mut random).bytes());
         descriptions.push(random_description::changed(&mut random));
+    }
+    for _ in 0..1000 {
+        descriptions.push(random_stride::strided(&mut random).bytes());
     }
     for _ in 0..10 {
         descriptions.push(random_description::large(&mut random).bytes());

@@ -14,7 +14,7 @@ use crate::library::{self, FIGURES, ROW_WORDS};
 /// How long a call of each implementation is repeated.
 const LONG: Duration = Duration::from_millis(400);
 
-/// The report's designs as large as they may be, and 1,024 processes with four instances each.
+/// The report's designs and request 2.2's as large as they may be, and 1,024 processes with four instances each.
 pub fn arrays() -> Vec<(&'static str, Description)> {
     let mut wide = designs::matrix_straight(31);
     wide.right[2] = 3;
@@ -24,6 +24,7 @@ pub fn arrays() -> Vec<(&'static str, Description)> {
         ("matrix straight 16", designs::matrix_straight(15)),
         ("matrix moving 16", designs::matrix_moving(15)),
         ("matrix straight 32x32x4", wide),
+        ("decimating 64", designs::decimating(63, 63)),
     ]
 }
 

@@ -6,8 +6,12 @@ use crate::calls::{Calls, Row};
 use crate::description::{bytes_of, Description};
 use crate::designs;
 use crate::random::Random;
-use crate::random_description;
+use crate::random_description::{self, given};
+use crate::random_stride;
 use crate::Refusal;
+
+/// How many descriptions have a longer stride by intent.
+const STRIDED: usize = 500;
 
 /// The most rows that are lent.
 const ROWS: usize = 1024;
@@ -167,15 +171,16 @@ fn row_words(row: &Row) -> Vec<u32> {
     numbers.into_iter().map(|number| number as u32).collect()
 }
 
-/// About 3,000 descriptions: the report's designs, document 01's cases, arrays at the limits, every refusal, accepted ones, and such with a
-/// word changed.
+/// About 3,500 descriptions: the report's designs, document 01's cases, decimating filters, arrays at the limits, every refusal, accepted ones, such
+/// with a longer stride, and such with a word changed.
 pub fn descriptions() -> Vec<Vec<u8>> {
     let mut designs = report_designs();
     designs.extend(worked_cases());
+    designs.extend(strides());
     designs.extend(limit_designs());
     let mut descriptions: Vec<Vec<u8>> = designs.iter().map(Description::bytes).collect();
     let mut random = Random::new(3);
-    for number in 1..=17 {
+    for number in given() {
         // Large arrays take long to make, and most of those that are tried are declined by 6.
         let count = if number == 10 { 5 } else { 50 };
         for _ in 0..count {
@@ -184,6 +189,9 @@ pub fn descriptions() -> Vec<Vec<u8>> {
     }
     for _ in 0..1550 {
         descriptions.push(random_description::accepted(&mut random).bytes());
+    }
+    for _ in 0..STRIDED {
+        descriptions.push(random_stride::strided(&mut random).bytes());
     }
     for _ in 0..600 {
         descriptions.push(random_description::changed(&mut random));
@@ -231,6 +239,18 @@ fn worked_cases() -> Vec<Description> {
         grid(32, 32, 1),
         grid(33, 32, 1),
     ]
+}
+
+/// Request 2.2's decimating filter in some sizes, others that decimate, and the longest stride.
+fn strides() -> Vec<Description> {
+    let mut strides: Vec<Description> = (0..=4).map(|n| designs::decimating(n, n)).collect();
+    strides.extend([
+        designs::decimating(63, 63),
+        designs::decimating_channels(),
+        designs::decimating_by_four(),
+        designs::longest_stride(),
+    ]);
+    strides
 }
 
 /// The report's designs as large as they may be and one size larger, and 1,024 processes with 4,096 instances.

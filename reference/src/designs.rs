@@ -1,25 +1,30 @@
-//! The designs of document 01 and of the report, as descriptions; `bytes` gives their bytes.
+//! The designs of document 01, of document 02 and of the report, as descriptions; `bytes` gives their bytes.
 
 use crate::body::{Line, Operation};
 use crate::description::{Description, Matrix};
 
-/// Scratch := a times b, c := c + scratch.
-fn multiply_and_add() -> Vec<Line> {
-    let (a, b, c, scratch) = (0, 1, 2, 3);
+/// Scratch := first times second, sum := sum + scratch, of three streams.
+fn multiply_and_add(first: usize, second: usize, sum: usize) -> Vec<Line> {
+    let scratch = 3;
     vec![
         Line {
             operation: Operation::Multiply,
             target: scratch,
-            first: a,
-            second: b,
+            first,
+            second,
         },
         Line {
             operation: Operation::Add,
-            target: c,
-            first: c,
+            target: sum,
+            first: sum,
             second: scratch,
         },
     ]
+}
+
+/// A matrix of three loops.
+fn rows(rows: [[i32; 3]; 2]) -> Matrix {
+    rows.iter().map(|row| row.to_vec()).collect()
 }
 
 /// The polynomial product with loops 0..n: streams a: i, b: j, c: i+j, step 2i+j.
@@ -32,7 +37,7 @@ fn polynomial(n: i32, place: [i32; 2], loading: [i32; 3]) -> Description {
         place: vec![place.to_vec()],
         maps: vec![vec![vec![1, 0]], vec![vec![0, 1]], vec![vec![1, 1]]],
         loading: loading.iter().map(|&word| vec![word]).collect(),
-        body: multiply_and_add(),
+        body: multiply_and_add(0, 1, 2),
     }
 }
 
@@ -48,7 +53,6 @@ pub fn polynomial_two(n: i32) -> Description {
 
 /// The matrix product with loops 0..n: streams a: (i,k), b: (k,j), c: (i,j), step i+j+k.
 fn matrix(n: i32, place: [[i32; 3]; 2], loading_of_c: [i32; 2]) -> Description {
-    let rows = |rows: [[i32; 3]; 2]| -> Matrix { rows.iter().map(|row| row.to_vec()).collect() };
     Description {
         left: vec![0; 3],
         right: vec![n; 3],
@@ -61,7 +65,7 @@ fn matrix(n: i32, place: [[i32; 3]; 2], loading_of_c: [i32; 2]) -> Description {
             rows([[1, 0, 0], [0, 1, 0]]),
         ],
         loading: vec![vec![0, 0], vec![0, 0], loading_of_c.to_vec()],
-        body: multiply_and_add(),
+        body: multiply_and_add(0, 1, 2),
     }
 }
 
@@ -79,6 +83,79 @@ pub fn matrix_moving(n: i32) -> Description {
 /// working ones.
 pub fn matrix_slanted(n: i32) -> Description {
     matrix(n, [[1, 1, 0], [1, -1, 0]], [1, 0])
+}
+
+/// Request 2.2's decimating filter with loops 0..m and 0..n: place 2i+j, step 3i+j, streams y: i, x: 2i+j with loading 1, w: i+j.
+/// Each y is the sum of w times x over its window, and the windows begin at every second x.
+pub fn decimating(m: i32, n: i32) -> Description {
+    Description {
+        left: vec![0, 0],
+        right: vec![m, n],
+        directions: vec![1, 1],
+        step: vec![3, 1],
+        place: vec![vec![2, 1]],
+        maps: vec![vec![vec![1, 0]], vec![vec![2, 1]], vec![vec![1, 1]]],
+        loading: vec![vec![0], vec![1], vec![0]],
+        body: multiply_and_add(1, 2, 0),
+    }
+}
+
+/// A decimating filter for each of four channels, with its own five taps: loops i over outputs, j over taps, k over channels, place (i+2k, i+j), step
+/// 3i+j+5k, streams h: (j,k), x: (2i+j,k), y: (i,k). The increment is (−2,2,1).
+pub fn decimating_channels() -> Description {
+    Description {
+        left: vec![0; 3],
+        right: vec![3, 4, 3],
+        directions: vec![1; 3],
+        step: vec![3, 1, 5],
+        place: rows([[1, 0, 2], [1, 1, 0]]),
+        maps: vec![
+            rows([[0, 1, 0], [0, 0, 1]]),
+            rows([[2, 1, 0], [0, 0, 1]]),
+            rows([[1, 0, 0], [0, 0, 1]]),
+        ],
+        loading: vec![vec![0, 0]; 3],
+        body: multiply_and_add(0, 1, 2),
+    }
+}
+
+/// Sums over windows of 21 that begin at every fourth value, in two channels: place (4i+4j+k, 4i−j), step 2i+j+k, streams y: (i,j), x: (i,4j+k). The
+/// increment is (−1,−4,20): the longest stride with which a process has two instances.
+pub fn decimating_by_four() -> Description {
+    Description {
+        left: vec![0; 3],
+        right: vec![1, 4, 20],
+        directions: vec![1; 3],
+        step: vec![2, 1, 1],
+        place: rows([[4, 4, 1], [4, -1, 0]]),
+        maps: vec![rows([[1, 0, 0], [0, 1, 0]]), rows([[1, 0, 0], [0, 4, 1]])],
+        loading: vec![vec![0, 0]; 2],
+        body: vec![Line {
+            operation: Operation::Add,
+            target: 0,
+            first: 0,
+            second: 1,
+        }],
+    }
+}
+
+/// The longest stride of all, (25,−28,4): place (4i+4j+3k, 4i+3j−4k), step 2i+j, a stream (i+j,k) that is doubled.
+pub fn longest_stride() -> Description {
+    Description {
+        left: vec![0; 3],
+        right: vec![1; 3],
+        directions: vec![1; 3],
+        step: vec![2, 1, 0],
+        place: rows([[4, 4, 3], [4, 3, -4]]),
+        maps: vec![rows([[1, 1, 0], [0, 0, 1]])],
+        loading: vec![vec![0, 0]],
+        body: vec![Line {
+            operation: Operation::Add,
+            target: 0,
+            first: 0,
+            second: 0,
+        }],
+    }
 }
 
 /// An array that gets stuck if its links have one place.

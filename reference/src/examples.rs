@@ -1,4 +1,4 @@
-//! The files of `examples/`: the report's designs as descriptions, and a replay script.
+//! The files of `examples/`: the report's designs and decimating filters as descriptions, and a replay script.
 
 use crate::description::Description;
 use crate::designs;
@@ -10,7 +10,8 @@ pub struct Example {
     pub description: Description,
 }
 
-/// The polynomial product in designs one and two and the matrix product on three layouts, the small ones of document 01 and large ones.
+/// The polynomial product in designs one and two and the matrix product on three layouts, the small ones of document 01 and large ones, and request 2.2's
+/// decimating filter, for one channel and for several.
 pub fn examples() -> Vec<Example> {
     [
         ("polynomial-one", designs::polynomial_one(2)),
@@ -21,6 +22,8 @@ pub fn examples() -> Vec<Example> {
         ("matrix-moving", designs::matrix_moving(2)),
         ("matrix-slanted", designs::matrix_slanted(2)),
         ("matrix-straight-large", designs::matrix_straight(15)),
+        ("decimating", designs::decimating(2, 2)),
+        ("decimating-channels", designs::decimating_channels()),
     ]
     .into_iter()
     .map(|(name, description)| Example { name, description })

@@ -140,11 +140,9 @@ fn instances(description: &Description) -> Vec<Point> {
 
 // Increment.
 
-/// The increment; declines by 7 to 9.
+/// The increment; declines by 7 and 8.
 fn increment(description: &Description) -> Result<Point, Refusal> {
-    let increment = shortest(&description.place, &description.step, 7, 8)?;
-    demand(within_one(&increment), 9)?;
-    Ok(increment)
+    shortest(&description.place, &description.step, 7, 8)
 }
 
 // Processes.

@@ -1,4 +1,4 @@
-//! The second implementation of document 01, written from its words as plainly as possible.
+//! The second implementation of documents 01 and 02, written from their words as plainly as possible.
 
 pub mod body;
 pub mod calls;
@@ -14,6 +14,7 @@ pub mod pipes;
 pub mod random;
 pub mod random_description;
 pub mod random_script;
+pub mod random_stride;
 pub mod replay;
 mod rules;
 pub mod table;

@@ -18,50 +18,76 @@ const TRIED: usize = 1000;
 /// A small description that Accept accepts.
 pub fn accepted(random: &mut Random) -> Description {
     loop {
-        let mut description = nest(random);
+        let nest = nest(random);
         let streams = random.below(6) + 1;
-        description.body = body(random, streams);
-        let written: Vec<bool> = (0..streams)
-            .map(|stream| description.written(stream))
-            .collect();
-        let found = written
-            .into_iter()
-            .map(|written| stream(random, &description, written));
-        let Some(found) = found.collect::<Option<Vec<_>>>() else {
-            continue;
-        };
-        (description.maps, description.loading) = found.into_iter().unzip();
-        return description;
+        if let Some(description) = filled(random, nest, streams, map) {
+            return description;
+        }
     }
+}
+
+/// A nest with a body and so many streams whose maps come from a source, if some that pass refusals 11 to 17 are found soon.
+pub fn filled(
+    random: &mut Random,
+    nest: Description,
+    streams: usize,
+    map: impl Fn(&mut Random, &Description) -> Matrix,
+) -> Option<Description> {
+    let mut description = nest;
+    description.body = body(random, streams);
+    let mut found = Vec::new();
+    for number in 0..streams {
+        found.push(stream(
+            random,
+            &description,
+            description.written(number),
+            &map,
+        )?);
+    }
+    (description.maps, description.loading) = found.into_iter().unzip();
+    Some(description)
 }
 
 /// Loops, step and place that pass refusals 5 to 10, without a stream.
 fn nest(random: &mut Random) -> Description {
     loop {
         let loops = random.pick(&[2, 3]);
-        let (left, right) = (0..loops)
+        let bounds = (0..loops)
             .map(|_| bounds(random, if loops == 2 { 5 } else { 3 }))
             .unzip();
         let reach = random.pick(&[1, 2, 3, 8]);
         let step = random.words(loops, -reach, reach);
         let reach = random.pick(&[1, 1, 1, 1, 2, 4]);
         let place = matrix(random, loops, reach);
-        let directions = (0..loops).map(|_| random.pick(&[1, 1, -1])).collect();
-        let description = Description {
-            left,
-            right,
-            directions,
-            step,
-            place,
-            maps: Vec::new(),
-            loading: Vec::new(),
-            body: Vec::new(),
-        };
-        let array = Array::of(&description, &Limits::NAMED);
-        if array.is_ok_and(|array| array.processes.len() <= SMALL) {
-            return description;
+        if let Some(nest) = laid_out(random, bounds, step, place, SMALL) {
+            return nest;
         }
     }
+}
+
+/// Loops of random directions with their layout, if they pass refusals 5 to 10 and have at most so many processes.
+pub fn laid_out(
+    random: &mut Random,
+    (left, right): (Vec<i32>, Vec<i32>),
+    step: Vec<i32>,
+    place: Matrix,
+    most: usize,
+) -> Option<Description> {
+    let directions = step.iter().map(|_| random.pick(&[1, 1, -1])).collect();
+    let nest = Description {
+        left,
+        right,
+        directions,
+        step,
+        place,
+        maps: Vec::new(),
+        loading: Vec::new(),
+        body: Vec::new(),
+    };
+    let array = Array::of(&nest, &Limits::NAMED);
+    array
+        .is_ok_and(|array| array.processes.len() <= most)
+        .then_some(nest)
 }
 
 /// A left and a right bound with at most so many indices between.
@@ -76,7 +102,7 @@ fn bounds(random: &mut Random, most: i32) -> (i32, i32) {
 }
 
 /// A row fewer than there are loops, of words up to the reach.
-fn matrix(random: &mut Random, loops: usize, reach: i32) -> Matrix {
+pub fn matrix(random: &mut Random, loops: usize, reach: i32) -> Matrix {
     (1..loops)
         .map(|_| random.words(loops, -reach, reach))
         .collect()
@@ -95,7 +121,12 @@ fn body(random: &mut Random, streams: usize) -> Vec<Line> {
 }
 
 /// An index map and a loading vector that pass refusals 11 to 17, if some are found soon.
-fn stream(random: &mut Random, nest: &Description, written: bool) -> Option<(Matrix, Vec<i32>)> {
+fn stream(
+    random: &mut Random,
+    nest: &Description,
+    written: bool,
+    map: impl Fn(&mut Random, &Description) -> Matrix,
+) -> Option<(Matrix, Vec<i32>)> {
     for _ in 0..60 {
         let map = map(random, nest);
         let still = vec![0; nest.loops() - 1];
@@ -114,16 +145,21 @@ fn stream(random: &mut Random, nest: &Description, written: bool) -> Option<(Mat
 /// A random index map. Some are made from place, so that the stream is stationary.
 fn map(random: &mut Random, nest: &Description) -> Matrix {
     if random.percent(20) {
-        let mut rows: Matrix = nest.place.iter().map(|row| shorten(row).1).collect();
-        if random.percent(50) {
-            rows.reverse();
-        }
-        let sign = random.pick(&[1, -1]);
-        rows[0].iter_mut().for_each(|word| *word *= sign);
-        return rows;
+        return map_of_place(random, nest);
     }
     let reach = random.pick(&[1, 1, 1, 2, 2, 4]);
     matrix(random, nest.loops(), reach)
+}
+
+/// Place's rows as an index map, shortened, in either order, the first with either sign.
+pub fn map_of_place(random: &mut Random, nest: &Description) -> Matrix {
+    let mut rows: Matrix = nest.place.iter().map(|row| shorten(row).1).collect();
+    if random.percent(50) {
+        rows.reverse();
+    }
+    let sign = random.pick(&[1, -1]);
+    rows[0].iter_mut().for_each(|word| *word *= sign);
+    rows
 }
 
 /// What Accept says of a nest with one stream.
@@ -170,7 +206,12 @@ pub fn changed(random: &mut Random) -> Vec<u8> {
     bytes_of(&words)
 }
 
-/// A description that Accept declines by a number from 1 to 17.
+/// The numbers by which Accept declines: 1 to 17 without 9, which is never given.
+pub fn given() -> impl Iterator<Item = u32> {
+    (1..=17).filter(|&number| number != 9)
+}
+
+/// A description that Accept declines by one of those numbers.
 pub fn refused(random: &mut Random, number: u32) -> Vec<u8> {
     let mut bytes = Vec::new();
     for _ in 0..TRIED {
@@ -192,7 +233,6 @@ fn spoiled(random: &mut Random, mut description: Description, number: u32) -> Ve
         5 | 6 | 10 => spoil_bounds(random, &mut description, number),
         7 => make_dependent(random, &mut description.place),
         8 => description.step = random.words(description.loops(), -2, 2),
-        9 => description.place = matrix(random, description.loops(), 4),
         _ => spoil_stream(random, &mut description, number),
     }
     description.bytes()

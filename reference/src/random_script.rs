@@ -5,11 +5,13 @@ use crate::calls::READY_WORDS;
 use crate::network::{Network, Step};
 use crate::random::Random;
 use crate::random_description as descriptions;
+use crate::random_stride as strides;
 use crate::replay::{Call, Machine, Script};
 
 /// Scripts come in rounds: in each, one for every refusal of Accept and these.
-const REFUSALS: usize = 17;
+const REFUSALS: usize = 16;
 const CHANGED: usize = 3;
+const STRIDED: usize = 5;
 const LARGE: usize = 1;
 const CUT: usize = 1;
 const ROUND: usize = 50;
@@ -26,13 +28,17 @@ pub fn scripts(seed: u64, count: usize) -> impl Iterator<Item = Vec<u8>> {
 /// A script of the kind that its number in the round says.
 fn script(random: &mut Random, number: usize) -> Vec<u8> {
     let changed = REFUSALS..REFUSALS + CHANGED;
-    let large = changed.end..changed.end + LARGE;
+    let strided = changed.end..changed.end + STRIDED;
+    let large = strided.end..strided.end + LARGE;
     let short = large.end..large.end + CUT;
-    if number < REFUSALS {
-        let description = descriptions::refused(random, number as u32 + 1);
+    if let Some(given) = descriptions::given().nth(number) {
+        let description = descriptions::refused(random, given);
         full_script(random, description)
     } else if changed.contains(&number) {
         let description = descriptions::changed(random);
+        full_script(random, description)
+    } else if strided.contains(&number) {
+        let description = strides::strided(random).bytes();
         full_script(random, description)
     } else if large.contains(&number) {
         let description = descriptions::large(random).bytes();

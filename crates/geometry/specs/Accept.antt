@@ -49,7 +49,7 @@ touch {n} s d full e k =
     go true f = tt
     go false f = T-not (refused17 n s) full (yes-any (λ w. not (touched n s w)) (inside-points (boxOf n (s .map)) e k) (f tt))
 
--- a stream that is not refused, whatever the limits and refusals 9, 13 and 14 say
+-- a stream that is not refused, whatever the limits and refusals 13 and 14 say
 pub accepted : {n : Nest} {s : Stream} → Layout n → T (not (refused11 s)) → T (not (refused12 n s)) → T (not (refused16 n s))
     → T (not (refused17 n s))
     → Accepted n s

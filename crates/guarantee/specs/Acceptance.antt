@@ -20,12 +20,12 @@ use Rattle.meaning.specs.Tests.{Test}
 use Rattle.meaning.specs.Points.{Directed, Within}
 use Rattle.meaning.specs.Description.{sizesOf, descriptionOf, streamsOf, streamOf as decoded, noStream, written}
 use Rattle.meaning.specs.Accept.{streamTests, testsFrom, allTests, refusalOf, figures, accept}
-use Rattle.meaning.specs.Conditions.{streamOf, Meets, StreamMeets, AcceptedExactly, Condition, Condition.Begins, Condition.Sizes-fit, Condition.Long, Condition.Words-fit, Condition.Bounds-fit, Condition.Instances, Condition.Place-rank, Condition.Increment, Condition.Small-increment, Condition.Processes, Condition.Rank, Condition.Line, Condition.Move, Condition.Hop, Condition.Order, Condition.Loading, Condition.Touched, Asks, ofStream, conditions, RefusedExactly}
+use Rattle.meaning.specs.Conditions.{streamOf, Meets, StreamMeets, AcceptedExactly, Condition, Condition.Begins, Condition.Sizes-fit, Condition.Long, Condition.Words-fit, Condition.Bounds-fit, Condition.Instances, Condition.Place-rank, Condition.Increment, Condition.Processes, Condition.Rank, Condition.Line, Condition.Move, Condition.Hop, Condition.Order, Condition.Loading, Condition.Touched, Asks, ofStream, conditions, RefusedExactly}
 use Rattle.geometry.specs.Members.{in-each, each-in, in-numbers, numbers-in}
 use Rattle.network.specs.Lists.{length-numbers}
 use Rattle.guarantee.specs.Refusals.{refuses-less, Tries, Tries.none, Tries.next, numbered, all-hold, none-refuses, first-fails, refuses-first}
 use Rattle.guarantee.specs.WordConditions.{refuses2, refuses3, refuses4, directed}
-use Rattle.guarantee.specs.NestConditions.{refuses5, some-instance, refuses6, refuses-rank, refuses-line, line-found, refuses9, refuses10}
+use Rattle.guarantee.specs.NestConditions.{refuses5, some-instance, refuses6, refuses-rank, refuses-line, line-found, refuses10}
 use Rattle.guarantee.specs.StreamConditions.{says-written, refuses13, refuses14, refuses15, refuses16, refuses17}
 
 -- ---- Accept's tests try the conditions in their order
@@ -65,7 +65,7 @@ module _ (l : Limits) (s : List ℕ) where
   unfolding descriptionOf
   streams-length = simp (length-take, length-append) (omega (arith, length-numbers (decoded s (sizesOf s)) 0 (sizesOf s .streams)))
 
-  tries : Tries (Asks l s) (conditions (sizesOf s .streams)) (allTests l s)
+  pub tries : Tries (Asks l s) (conditions (sizesOf s .streams)) (allTests l s)
   unfolding descriptionOf
   tries =
       let z = sizesOf s in
@@ -77,12 +77,11 @@ module _ (l : Limits) (s : List ℕ) where
       next (refuses5 n) (λ bounds.
       next (refuses6 l n bounds) (λ _.
       next (refuses-rank (n .place)) (λ rank.
-      next (refuses-line n (n .place) rank) (λ line.
-      next (refuses9 n (line-found n (n .place) rank line)) (λ _.
+      next (refuses-line n (n .place) rank) (λ _.
       next (refuses10 l (directed s z sizes words) (some-instance n bounds)) (λ _.
       subst (λ (m : ℕ). Tries (Asks l s) (each ofStream (numbers m)) (testsFrom l d 0 (streamsOf d))) streams-length
       (try-streams (directed s z sizes words) (some-instance n bounds) 0 (streamsOf d)
-      (λ k. ap (streamOf d) (sym (zero-add k))))))))))))))
+      (λ k. ap (streamOf d) (sym (zero-add k)))))))))))))
 
   -- ---- all conditions are met: one by one, and as document 01 has them
 
@@ -97,11 +96,10 @@ module _ (l : Limits) (s : List ℕ) where
         instances = f _ (there (there (there (there (there (here refl))))));
         rank = f _ (there (there (there (there (there (there (here refl)))))));
         increment = f _ (there (there (there (there (there (there (there (here refl))))))));
-        small = f _ (there (there (there (there (there (there (there (there (here refl)))))))));
-        processes = f _ (there (there (there (there (there (there (there (there (there (here refl))))))))));
+        processes = f _ (there (there (there (there (there (there (there (there (here refl)))))))));
         streams = λ i h. stream i (λ c k.
-            f c (there (there (there (there (there (there (there (there (there (there
-            (in-each ofStream (in-numbers 0 (sizesOf s .streams) i (omega arith) (omega arith)) k))))))))))));
+            f c (there (there (there (there (there (there (there (there (there
+            (in-each ofStream (in-numbers 0 (sizesOf s .streams) i (omega arith) (omega arith)) k)))))))))));
       }
     where
       stream : (i : ℕ) → ((c : Condition) → In c (ofStream i) → Asks l s c) → StreamMeets l d i
@@ -140,9 +138,8 @@ module _ (l : Limits) (s : List ℕ) where
       go (there (there (there (there (there (here e)))))) = by Instances (m .instances) e
       go (there (there (there (there (there (there (here e))))))) = by Place-rank (m .rank) e
       go (there (there (there (there (there (there (there (here e)))))))) = by Increment (m .increment) e
-      go (there (there (there (there (there (there (there (there (here e))))))))) = by Small-increment (m .small) e
-      go (there (there (there (there (there (there (there (there (there (here e)))))))))) = by Processes (m .processes) e
-      go (there (there (there (there (there (there (there (there (there (there k)))))))))) =
+      go (there (there (there (there (there (there (there (there (here e))))))))) = by Processes (m .processes) e
+      go (there (there (there (there (there (there (there (there (there k))))))))) =
           let r = each-in ofStream (numbers (sizesOf s .streams)) k in
           let b = numbers-in 0 (sizesOf s .streams) (r .mem) in
           stream (r .from) (m .streams (r .from) (omega (arith, b .1))) (r .is)

@@ -1,11 +1,11 @@
--- Conditions 5 to 10, of the bounds, the instances and place, against their tests. What is said of place holds of an index map too. Assumes nothing.
+-- Conditions 5 to 8 and 10, of the bounds, the instances and place, against their tests. What is said of place holds of an index map too. Assumes nothing.
 use mathlib.Core.Path.{_≡_, sym, _∙_, ap, ap₂, subst}
 use mathlib.Core.Bool.{Bool}
-use Prim.Native.Nat.{ℕ, _*_, _≤_}
+use Prim.Native.Nat.{ℕ, _≤_}
 use native.Mathlib.Omega.{arith}
 use lib.Dec.{ltb}
 use lib.ListN.{length}
-use lib.IntN.{ℤ, pos, negsuc, _*ℤ_}
+use lib.IntN.{ℤ, pos, _*ℤ_}
 use lib.Signed.{_≤ℤ_, ≤ℤ-refl}
 use Rattle.integers.specs.Differences.{gaps, parts, le-out, le-in, eq-in}
 use Rattle.integers.specs.Variables.{linear}
@@ -17,18 +17,18 @@ use Rattle.lattice.specs.Lattice.{Independent}
 use Rattle.lattice.specs.Independence.{only-trivial, trivial-only}
 use Rattle.meaning.specs.declared.Limits.{Limits}
 use Rattle.meaning.specs.declared.Nest.{Nest}
-use Rattle.meaning.specs.Loops.{size, instances, stepOf, lineOf, increment}
+use Rattle.meaning.specs.Loops.{size, instances, stepOf, lineOf}
 use Rattle.meaning.specs.Space.{Box, points, boxOf, processes}
 use Rattle.meaning.specs.Points.{Directed, Within, IsLine}
 use Rattle.meaning.specs.Description.{refused5}
-use Rattle.meaning.specs.Accept.{isZero3, lowRank, small, refused6, refused9, refused10}
-use Rattle.meaning.specs.Conditions.{BoundsFit, extent, volume, FullRank, HasLine, Small, SmallIncrement, LeastBox, area, FewProcesses}
+use Rattle.meaning.specs.Accept.{isZero3, lowRank, refused6, refused10}
+use Rattle.meaning.specs.Conditions.{BoundsFit, extent, volume, FullRank, HasLine, LeastBox, area, FewProcesses}
 use Rattle.geometry.specs.Lines.{line-is, line-steps, line-unique}
 use Rattle.geometry.specs.Instances.{instances-length}
 use Rattle.geometry.specs.Boxes.{le-trans, box-has, box-least}
 use Rattle.geometry.specs.RowOrder.{points-length}
 use Rattle.network.specs.Decide.{Says, says-as, says-and}
-use Rattle.guarantee.specs.Refusals.{Refuses, Refuses.met, Refuses.broken, refuses-as, refuses-or, refuses-if, refuses-not, says-eqZ, says-between, refuses-less, refuses-lessZ}
+use Rattle.guarantee.specs.Refusals.{Refuses, Refuses.met, Refuses.broken, refuses-as, refuses-or, refuses-if, says-eqZ, refuses-less, refuses-lessZ}
 
 -- ---- 5 and 6
 
@@ -97,18 +97,6 @@ pub refuses-each : {n : Nest} {m : Matrix} {v : V3} (P : V3 → Type 0) {b : Boo
     → Refuses ((u : V3) → IsLine n m u → P u) b
 refuses-each P h (met x) = met (λ u k. subst P (line-unique h k) x)
 refuses-each {v} P h (broken d) = broken (λ f. d (f v h))
-
--- ---- 9
-
-pub says-small : (c : ℤ) → Says (Small c) (small c)
-says-small c = says-between (negsuc 0) (pos 1) c
-
-pub refuses9 : (n : Nest) → IsLine n (n .place) (increment n) → Refuses (SmallIncrement n) (refused9 n)
-refuses9 n h =
-    let u = increment n in
-    refuses-each (λ u. Small (u .x) × Small (u .y) × Small (u .z)) h
-    (refuses-not (says-as (λ p. (p .0 .0, p .0 .1, p .1)) (λ p. ((p .0, p .1), p .2))
-    (says-and (says-and (says-small (u .x)) (says-small (u .y))) (says-small (u .z)))))
 
 -- ---- 10: there is one least box, and it is the one that Accept finds
 

@@ -6,7 +6,7 @@ use mathlib.Core.List.{List, [], _∷_, _++_, List·Memᴰ as In, List·Memᴰ·
 use Prim.Native.Nat.{ℕ, _≤_, _<_}
 use native.Mathlib.Omega.{arith}
 use lib.Dec.{T, ltb}
-use lib.IntN.{ℤ}
+use lib.IntN.{ℤ, pos, negsuc}
 use lib.Signed.{_≤ℤ_, _<ℤ_, leZ, ltZ}
 use borrow.Author.Tests.{ltb-true, ltb-false}
 use Rattle.integers.specs.Differences.{le-out, lt-out}
@@ -15,7 +15,8 @@ use Rattle.integers.specs.declared.V2.{V2}
 use Rattle.meaning.specs.Space.{eq2}
 use Rattle.meaning.specs.Tests.{Test, _if_, refusal}
 use Rattle.meaning.specs.Points.{Between}
-use Rattle.meaning.specs.Conditions.{Condition, Condition.Begins, Condition.Sizes-fit, Condition.Long, Condition.Words-fit, Condition.Bounds-fit, Condition.Instances, Condition.Place-rank, Condition.Increment, Condition.Small-increment, Condition.Processes, Condition.Rank, Condition.Line, Condition.Move, Condition.Hop, Condition.Order, Condition.Loading, Condition.Touched, numberOf, First}
+use Rattle.meaning.specs.Accept.{small}
+use Rattle.meaning.specs.Conditions.{Small, Condition, Condition.Begins, Condition.Sizes-fit, Condition.Long, Condition.Words-fit, Condition.Bounds-fit, Condition.Instances, Condition.Place-rank, Condition.Increment, Condition.Processes, Condition.Rank, Condition.Line, Condition.Move, Condition.Hop, Condition.Order, Condition.Loading, Condition.Touched, numberOf, First}
 use Rattle.geometry.specs.Numbers.{eqZ-eq, eq-eqZ, eq2-eq, eq-eq2}
 use Rattle.network.specs.Decide.{Says, Says.holds, Says.fails, says-as, says-and}
 
@@ -63,6 +64,9 @@ says-between lo hi w = says-as (λ p. record { lo = p .0; hi = p .1 }) (λ b. (b
     says-leZ : (a b : ℤ) → Says (a ≤ℤ b) (leZ a b)
     says-leZ a b = says-by (leZ a b) (λ t. record { le = t }) (λ h. h .le)
 
+pub says-small : (c : ℤ) → Says (Small c) (small c)
+says-small c = says-between (negsuc 0) (pos 1) c
+
 pub refuses-less : (a b : ℕ) → Refuses (b ≤ a) (ltb a b)
 refuses-less a b = go (ltb a b) refl
   where
@@ -94,7 +98,6 @@ numbered Bounds-fit = omega arith
 numbered Instances = omega arith
 numbered Place-rank = omega arith
 numbered Increment = omega arith
-numbered Small-increment = omega arith
 numbered Processes = omega arith
 numbered (Rank i) = omega arith
 numbered (Line i) = omega arith

@@ -28,8 +28,8 @@ use Rattle.geometry.specs.Instances.{within-in}
 use Rattle.geometry.specs.Boxes.{points-inside}
 use Rattle.geometry.specs.Accept.{touch, line-onward, onward-not}
 use Rattle.network.specs.Decide.{Says, Says.holds, Says.fails, says-and}
-use Rattle.guarantee.specs.Refusals.{Refuses, Refuses.met, Refuses.broken, refuses-as, refuses-not, says-by, says-eq2, refuses-less}
-use Rattle.guarantee.specs.NestConditions.{refuses-each, says-small, refuses-box}
+use Rattle.guarantee.specs.Refusals.{Refuses, Refuses.met, Refuses.broken, refuses-as, refuses-not, says-by, says-eq2, says-small, refuses-less}
+use Rattle.guarantee.specs.NestConditions.{refuses-each, refuses-box}
 
 pub says-written : (d : Description) (i : ℕ) → Says (Written d i) (written d i)
 says-written d i =

@@ -1,4 +1,5 @@
--- Document 01, Accept: the refusals 6 to 17, each by its number, all 17 in order, and the figures that it answers.
+-- Document 01, Accept: the refusals 6 to 17, each by its number, all in order, and the figures that it answers. 9 is never given (request 2.2) and keeps its
+-- number.
 use mathlib.Core.Bool.{Bool, not, cond, _&&_}
 use mathlib.Core.List.{List, [], _∷_, _++_}
 use Prim.Native.Nat.{ℕ, suc, _+_, _*_}
@@ -26,7 +27,7 @@ use Rattle.meaning.specs.Pipes.{pipe, entries, pipeElements}
 use Rattle.meaning.specs.Description.{sizesOf, descriptionOf, streamsOf, written, refused1, refused2, refused3, refused4, refused5}
 use Rattle.meaning.specs.Body.{elementCount}
 
--- ---- 6 to 10: the nest
+-- ---- 6, 7, 8 and 10: the nest
 
 -- a vector is zero
 abbrev pub isZero3 : V3 → Bool
@@ -51,10 +52,6 @@ refused7 n = lowRank (n .place)
 -- 8: "increment of step 0"
 abbrev pub refused8 : Nest → Bool
 refused8 n = eqZ (stepOf n (increment n)) (pos 0)
-
--- 9: "an increment component outside −1 to 1"
-abbrev pub refused9 : Nest → Bool
-refused9 n = not (small (increment n .x) && small (increment n .y) && small (increment n .z))
 
 -- 10: "over 1,024 processes"
 abbrev pub refused10 : Limits → Nest → Bool
@@ -111,7 +108,7 @@ testsFrom l d i (s ∷ ss) = streamTests l (d .nest) (written d i) s ++ testsFro
 
 abbrev pub nestTests : Limits → Nest → List Test
 nestTests l n =
-    (5 if refused5 n) ∷ (6 if refused6 l n) ∷ (7 if refused7 n) ∷ (8 if refused8 n) ∷ (9 if refused9 n) ∷ (10 if refused10 l n) ∷ []
+    (5 if refused5 n) ∷ (6 if refused6 l n) ∷ (7 if refused7 n) ∷ (8 if refused8 n) ∷ (10 if refused10 l n) ∷ []
 
 abbrev pub byteTests : List ℕ → List Test
 byteTests s =
@@ -153,6 +150,10 @@ figures d =
       steps = totalSteps n ss;
     }
 
+-- the answer to a description whose refusal is k
+abbrev pub answerOf : List ℕ → ℕ → Acceptance
+answerOf s k = cond (eqb k 0) (Accepted (figures (descriptionOf s))) (Refused k)
+
 -- ACCEPT
 unfoldable pub accept : Limits → List ℕ → Acceptance
-accept l s = cond (eqb (refusalOf l s) 0) (Accepted (figures (descriptionOf s))) (Refused (refusalOf l s))
+accept l s = answerOf s (refusalOf l s)

@@ -1,5 +1,6 @@
 -- Document 01's cases marked P, as the requests leave them: one table, proved together by computing the definitions on the designs' bytes.
 use mathlib.Core.Path.{_≡_, refl}
+use mathlib.Core.Bool.{false}
 use mathlib.Core.List.{List, [], _∷_, map}
 use Prim.Native.Nat.{ℕ}
 use lib.ListN.{getD, replicate, drop}
@@ -16,13 +17,14 @@ use Rattle.meaning.specs.Streams.{hop}
 use Rattle.meaning.specs.Pipes.{stays, march, lineIn, pipe, usedOn, pipeElements}
 use Rattle.meaning.specs.Description.{nestOf, streamOf, bodyLine, descriptionOf}
 use Rattle.meaning.specs.Body.{runLines, touchedFrom, scatter, execute, executeAll}
-use Rattle.meaning.specs.Accept.{testsFrom, refusalOf, accept}
+use Rattle.meaning.specs.Accept.{streamTests, testsFrom, refusalOf, accept}
 use Rattle.meaning.specs.Array.{insertByStep, byStep, pipesFrom, arrayOf}
 use Rattle.meaning.specs.Rules.{moveDown, sound, writeAll, apply, firstOf as firstReady, runSteps, applyAll}
 use Rattle.meaning.specs.Answers.{acceptNumber, acceptValues}
 use Rattle.meaning.specs.Calls.{table, start, run, result, plainRun}
+use Rattle.meaning.specs.LongerStrides.{formerAccept}
 use Rattle.meaning.specs.Comparison.{Case, _is_, naturals, number, planar, eqList, firstWrong, agree-after}
-use Rattle.meaning.specs.Designs.{bytes, pair, polynomial, designOne, designTwo, values, nest, stream, blank, startedOn}
+use Rattle.meaning.specs.Designs.{bytes, pair, polynomial, designOne, designTwo, decimating, values, nest, stream, blank, startedOn}
 use Rattle.meaning.specs.Singles as Singles
 
 -- c's values by the plain run, and by the network run to its end from a state of n words, in two calls, which are computed sooner than one
@@ -44,6 +46,10 @@ crossing k = polynomial 2 2 (pair (pos k) (pos 1)) (pair (pos 1) (pos 0)) (pair 
 -- design two with another step and place
 abbrev slanted : List ℤ → List ℤ → List ℕ
 slanted step place = polynomial 2 2 step place (pair (pos 1) (pos 1)) (pos 0 ∷ pos 0 ∷ pos 1 ∷ [])
+
+-- that of request 2.2
+abbrev strided : List ℕ
+strided = slanted (pair (pos 3) (pos 1)) (pair (pos 2) (pos 1))
 
 -- design one on 0..m and 0..n with place p times i
 abbrev sized : ℤ → ℕ → ℕ → List ℕ
@@ -72,9 +78,21 @@ cases =
     -- a 1,2,3, b 4,5,6, c zeros give c 4,13,28,27,18: by the plain run in both designs
     ∷ (plainly designOne is product)
     ∷ (plainly designTwo is product)
-    -- design two with place i−j is 13; with place 2i+j and step 3i+j it is 9
+    -- design two with place i−j is 13
     ∷ (number (acceptNumber (accept gaugeLimits (slanted (pair (pos 2) (pos 1)) (pair (pos 1) (negsuc 0))))) is number 13)
-    ∷ (number (acceptNumber (accept gaugeLimits (slanted (pair (pos 3) (pos 1)) (pair (pos 2) (pos 1))))) is number 9)
+    -- with place 2i+j and step 3i+j its increment is (1,−2) (request 2.2), and it is 13: not of a, but of b, which is unwritten as a is
+    ∷ (planar (increment (nest strided)) is pair (pos 1) (negsuc 1))
+    ∷ (number (acceptNumber (accept gaugeLimits strided)) is number 13)
+    ∷ (number (refusal (streamTests gaugeLimits (nest strided) false (stream strided 0))) is number 0)
+    ∷ (number (refusal (streamTests gaugeLimits (nest strided) false (stream strided 1))) is number 13)
+    -- it was 9 before the request, and design one was accepted then too
+    ∷ (number (acceptNumber (formerAccept gaugeLimits strided)) is number 9)
+    ∷ (number (acceptNumber (formerAccept gaugeLimits designOne)) is number 0)
+    -- the decimating filter: 7 processes, 9 instances, 15 elements, 3 pipes, 129 state words, 249 steps; it was 9
+    ∷ (naturals (acceptValues (accept gaugeLimits (decimating 2 2))) is naturals (7 ∷ 9 ∷ 15 ∷ 3 ∷ 129 ∷ 249 ∷ []))
+    ∷ (number (acceptNumber (formerAccept gaugeLimits (decimating 2 2))) is number 9)
+    -- on loops 0..3 twice: 10 processes, 478 steps
+    ∷ (naturals (acceptValues (accept gaugeLimits (decimating 3 3))) is naturals (10 ∷ 16 ∷ 21 ∷ 3 ∷ 180 ∷ 478 ∷ []))
     -- bounds 0..63 twice pass 6: with place 0 Accept answers 7, which comes after 6; 0..63 and 0..64 are 6
     ∷ (number (acceptNumber (accept gaugeLimits (sized (pos 0) 63 63))) is number 7)
     ∷ (number (acceptNumber (accept gaugeLimits (sized (pos 0) 63 64))) is number 6)

@@ -54,7 +54,7 @@ pub record WordsFit (s : List ℕ) (z : Sizes) : Type 0 where
   pub first : (i : ℕ) → i < z .lines → Between (pos 0) (pos (z .streams + 1)) (wordAt s (lineAt z i + 2))
   pub second : (i : ℕ) → i < z .lines → Between (pos 0) (pos (z .streams + 1)) (wordAt s (lineAt z i + 3))
 
--- ---- 5 to 10: the loops and place
+-- ---- 5 to 8 and 10: the loops and place
 
 -- no left bound above its right
 pub record BoundsFit (n : Nest) : Type 0 where
@@ -77,13 +77,6 @@ FullRank m = (a b : ℤ) → add3 (scale3 a (m .top)) (scale3 b (m .low)) ≡ ze
 abbrev pub HasLine : Nest → Matrix → Type 0
 HasLine n m = (u : V3) × IsLine n m u
 
--- components from −1 to 1
-abbrev pub Small : ℤ → Type 0
-Small c = Between (negsuc 0) (pos 1) c
-
-abbrev pub SmallIncrement : Nest → Type 0
-SmallIncrement n = (u : V3) → IsLine n (n .place) u → Small (u .x) × Small (u .y) × Small (u .z)
-
 -- "the smallest box around" a matrix's values at "all instances": it has them all, and a box that has them all has its corners (there is one and no
 -- other: `box-found` and `one-box` of guarantee)
 pub record LeastBox (n : Nest) (m : Matrix) (k : Box) : Type 0 where
@@ -99,6 +92,10 @@ abbrev pub FewProcesses : Limits → Nest → Type 0
 FewProcesses l n = (k : Box) → LeastBox n (n .place) k → area k ≤ℤ pos (l .processes)
 
 -- ---- 11 to 17: a stream
+
+-- a component from −1 to 1
+abbrev pub Small : ℤ → Type 0
+Small c = Between (negsuc 0) (pos 1) c
 
 abbrev pub SmallMove : Nest → Stream → Type 0
 SmallMove n s = (u : V3) → IsLine n (s .map) u → Small (placeOf n u .a) × Small (placeOf n u .b)
@@ -154,7 +151,6 @@ pub record Meets (l : Limits) (s : List ℕ) : Type 0 where
   pub instances : volume (descriptionOf s .nest) ≤ℤ pos (l .instances)
   pub rank : FullRank (descriptionOf s .nest .place)
   pub increment : HasLine (descriptionOf s .nest) (descriptionOf s .nest .place)
-  pub small : SmallIncrement (descriptionOf s .nest)
   pub processes : FewProcesses l (descriptionOf s .nest)
   pub streams : (i : ℕ) → i < sizesOf s .streams → StreamMeets l (descriptionOf s) i
 
@@ -166,7 +162,7 @@ AcceptedExactly = (l : Limits) (s : List ℕ) → (accept l s ≡ Accepted (figu
 
 -- the conditions one by one; those of a stream with its number
 pub data Condition : Type 0 where
-  Begins Sizes-fit Long Words-fit Bounds-fit Instances Place-rank Increment Small-increment Processes : Condition
+  Begins Sizes-fit Long Words-fit Bounds-fit Instances Place-rank Increment Processes : Condition
   Rank Line Move Hop Order Loading Touched : ℕ → Condition
 
 -- what each asks
@@ -179,7 +175,6 @@ Asks l s Bounds-fit = BoundsFit (descriptionOf s .nest)
 Asks l s Instances = volume (descriptionOf s .nest) ≤ℤ pos (l .instances)
 Asks l s Place-rank = FullRank (descriptionOf s .nest .place)
 Asks l s Increment = HasLine (descriptionOf s .nest) (descriptionOf s .nest .place)
-Asks l s Small-increment = SmallIncrement (descriptionOf s .nest)
 Asks l s Processes = FewProcesses l (descriptionOf s .nest)
 Asks l s (Rank i) = FullRank (streamOf (descriptionOf s) i .map)
 Asks l s (Line i) = HasLine (descriptionOf s .nest) (streamOf (descriptionOf s) i .map)
@@ -189,7 +184,7 @@ Asks l s (Order i) = Written (descriptionOf s) i → KeepsOrder (descriptionOf s
 Asks l s (Loading i) = LoadingFits (descriptionOf s .nest) (streamOf (descriptionOf s) i)
 Asks l s (Touched i) = AllTouched (descriptionOf s .nest) (streamOf (descriptionOf s) i)
 
--- document 01's number for each
+-- document 01's number for each; 9 has none any more (request 2.2)
 abbrev pub numberOf : Condition → ℕ
 numberOf Begins = 1
 numberOf Sizes-fit = 2
@@ -199,7 +194,6 @@ numberOf Bounds-fit = 5
 numberOf Instances = 6
 numberOf Place-rank = 7
 numberOf Increment = 8
-numberOf Small-increment = 9
 numberOf Processes = 10
 numberOf (Rank i) = 11
 numberOf (Line i) = 12
@@ -215,8 +209,7 @@ ofStream i = Rank i ∷ Line i ∷ Move i ∷ Hop i ∷ Order i ∷ Loading i �
 
 abbrev pub conditions : ℕ → List Condition
 conditions streams =
-    Begins ∷ Sizes-fit ∷ Long ∷ Words-fit ∷ Bounds-fit ∷ Instances ∷ Place-rank ∷ Increment ∷ Small-increment ∷ Processes
-    ∷ each ofStream (numbers streams)
+    Begins ∷ Sizes-fit ∷ Long ∷ Words-fit ∷ Bounds-fit ∷ Instances ∷ Place-rank ∷ Increment ∷ Processes ∷ each ofStream (numbers streams)
 
 -- of conditions in order, one of number k fails, and those before it hold
 pub record First (Holds : Condition → Type 0) (listed : List Condition) (k : ℕ) : Type 0 where

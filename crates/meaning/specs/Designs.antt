@@ -1,4 +1,4 @@
--- Document 01's designs as a user gives them, bytes, and what the cases lend to a call.
+-- The documents' designs as a user gives them, bytes, and what the cases lend to a call.
 use mathlib.Core.List.{List, [], _∷_, _++_}
 use Prim.Native.Nat.{ℕ, _/_, _%_}
 use lib.ListN.{length, getD, replicate}
@@ -53,6 +53,15 @@ turned =
     ((pos 2 ∷ pos 3 ∷ pos 2 ∷ pos 0 ∷ pos 0 ∷ pos 2 ∷ pos 2 ∷ negsuc 0 ∷ pos 1 ∷ negsuc 1 ∷ pos 1 ∷ pos 1 ∷ pos 0 ∷ [])
     ++ ((pos 1 ∷ pos 0 ∷ pos 0 ∷ pos 1 ∷ pos 1 ∷ pos 1 ∷ []) ++ ((pos 1 ∷ pos 0 ∷ pos 0 ∷ [])
     ++ (pos 3 ∷ pos 3 ∷ pos 0 ∷ pos 1 ∷ pos 2 ∷ pos 2 ∷ pos 3 ∷ pos 2 ∷ []))))
+
+-- request 2.2's decimating filter on loops 0..m and 0..n: place 2i+j, step 3i+j, streams y: i, x: 2i+j with loading 1, w: i+j; body scratch := x times w,
+-- y := y + scratch, so that each y is a sum over its window, and the windows begin at every second x
+abbrev pub decimating : ℕ → ℕ → List ℕ
+decimating m n =
+    bytes
+    ((pos 2 ∷ pos 3 ∷ pos 2 ∷ pos 0 ∷ pos 0 ∷ pos m ∷ pos n ∷ pos 1 ∷ pos 1 ∷ pos 3 ∷ pos 1 ∷ pos 2 ∷ pos 1 ∷ [])
+    ++ ((pos 1 ∷ pos 0 ∷ pos 2 ∷ pos 1 ∷ pos 1 ∷ pos 1 ∷ []) ++ ((pos 0 ∷ pos 1 ∷ pos 0 ∷ [])
+    ++ (pos 3 ∷ pos 3 ∷ pos 1 ∷ pos 2 ∷ pos 1 ∷ pos 0 ∷ pos 0 ∷ pos 3 ∷ []))))
 
 -- the matrix product on loops 0..1, 0..n and 0..1, step i+j+k, place as six words: streams a: (i,k), b: (k,j), c: (i,j)
 abbrev pub matrices : ℕ → List ℤ → List ℕ

@@ -21,6 +21,7 @@ pub mod Demand1
 pub mod Demand2
 pub mod Demand3
 pub mod FivePlaces
+pub mod LongerStrides
 pub mod Designs
 pub mod Comparison
 pub mod Singles

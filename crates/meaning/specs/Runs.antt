@@ -1,9 +1,10 @@
--- Runs beside document 01's cases, because they hold the rules: states stopped in the middle of a run, two orders with one end, three loops.
+-- Runs beside document 01's cases, because they hold the rules: states stopped in the middle of a run, two orders with one end, three loops, a
+-- stride.
 -- The states' words are those of the second implementation.
 use mathlib.Core.Path.{_≡_, refl}
 use mathlib.Core.List.{List, [], _∷_, _++_, map, reverse}
 use Prim.Native.Nat.{ℕ, zero, suc}
-use lib.ListN.{replicate}
+use lib.ListN.{replicate, drop}
 use Rattle.integers.specs.Bytes.{bitsAt, wordAt}
 use Rattle.lattice.specs.Gcd.{gcdOf, euclid}
 use Rattle.meaning.specs.Limits.{gaugeLimits}
@@ -20,7 +21,7 @@ use Rattle.meaning.specs.Rules.{moveDown, sound, writeAll, Memory, Step,
 use Rattle.meaning.specs.Answers.{acceptValues, answerNumber, ranValues, readyValues}
 use Rattle.meaning.specs.Calls.{start, run, readyCall, window, result, plainRun}
 use Rattle.meaning.specs.Comparison.{Case, _is_, naturals, number, eqList, firstWrong, agree-after}
-use Rattle.meaning.specs.Designs.{bytes, designOne, designTwo, values, turned, columnProduct, startedWith, startedOn}
+use Rattle.meaning.specs.Designs.{bytes, designOne, designTwo, values, turned, decimating, columnProduct, startedWith, startedOn}
 use Rattle.meaning.specs.Cases as P
 
 -- the highest ready step first, n times
@@ -92,8 +93,30 @@ spatialRun =
     ∷ (naturals (plainRun gaugeLimits columnProduct vs (replicate 8 1) .output) is naturals (1 ∷ 2 ∷ 3 ∷ 4 ∷ 5 ∷ 6 ∷ 17 ∷ 39 ∷ []))
     ∷ []
 
+-- the decimating filter of request 2.2, y zeros, x 1 to 7, w 1 to 5: stopped after 100 steps, when process 3 has not run its only instance yet, and after
+-- 220, when the sums are out and one of x; then to the end
+abbrev pub decimated : List Case
+decimated =
+    let s = decimating 2 2 in
+    let vs : List ℕ = 0 ∷ 0 ∷ 0 ∷ 1 ∷ 2 ∷ 3 ∷ 4 ∷ 5 ∷ 6 ∷ 7 ∷ 1 ∷ 2 ∷ 3 ∷ 4 ∷ 5 ∷ [] in
+    let at100 = run gaugeLimits s 100 (startedWith s vs 129) in
+    let at220 = run gaugeLimits s 120 (at100 .memory) in
+    let end = run gaugeLimits s 1000 (at220 .memory) in
+    (naturals (at100 .memory .state) is naturals
+    (1 ∷ 3 ∷ 3 ∷ 0 ∷ 0 ∷ 0 ∷ 7 ∷ 7 ∷ 0 ∷ 0 ∷ 0 ∷ 5 ∷ 5 ∷ 0 ∷ 0 ∷ 0 ∷ 0 ∷ 1 ∷ 3 ∷ 3 ∷ 0 ∷ 0 ∷ 0 ∷ 7 ∷ 6 ∷ 0 ∷ 2 ∷ 0 ∷ 5 ∷ 5 ∷ 0 ∷ 0 ∷ 0 ∷ 0 ∷ 2
+    ∷ 2 ∷ 1 ∷ 6 ∷ 0 ∷ 0 ∷ 5 ∷ 3 ∷ 7 ∷ 3 ∷ 1 ∷ 4 ∷ 3 ∷ 2 ∷ 0 ∷ 1 ∷ 0 ∷ 0 ∷ 1 ∷ 0 ∷ 14 ∷ 0 ∷ 0 ∷ 2 ∷ 0 ∷ 5 ∷ 4 ∷ 6 ∷ 1 ∷ 0 ∷ 5 ∷ 0 ∷ 4 ∷ 3
+    ∷ replicate 51 0 ++ (3 ∷ 0 ∷ 0 ∷ 7 ∷ 0 ∷ 0 ∷ 5 ∷ 0 ∷ 0 ∷ 0 ∷ [])))
+    ∷ (naturals (readyValues (readyCall gaugeLimits s (replicate 17 5) (at100 .memory) .answer)) is naturals (2 ∷ 2 ∷ []))
+    ∷ (naturals (readyCall gaugeLimits s (replicate 17 5) (at100 .memory) .words) is naturals (12 ∷ replicate 15 0 ++ (5 ∷ [])))
+    ∷ (naturals (window gaugeLimits s 0 1 (at220 .memory .waiting) (at220 .memory .received) .part) is naturals (14 ∷ 38 ∷ 74 ∷ []))
+    ∷ (naturals (window gaugeLimits s 1 1 (at220 .memory .waiting) (at220 .memory .received) .part) is naturals (1 ∷ replicate 6 0))
+    ∷ (naturals (ranValues (end .answer)) is naturals (29 ∷ 0 ∷ []))
+    ∷ (naturals (result gaugeLimits s (replicate 15 1) (end .memory) .output) is naturals (14 ∷ 38 ∷ 74 ∷ drop 3 vs))
+    ∷ (naturals (plainRun gaugeLimits s vs (replicate 15 1) .output) is naturals (14 ∷ 38 ∷ 74 ∷ drop 3 vs))
+    ∷ []
+
 abbrev pub more : List Case
-more = one ++ (two ++ (ordered ++ spatialRun))
+more = one ++ (two ++ (ordered ++ (spatialRun ++ decimated)))
 
 pub proved : map (λ c. c .got) more ≡ map (λ c. c .wanted) more
 unfolding eqList firstWrong backwards bytes bitsAt wordAt gcdOf euclid filter any every position best bestOr total each numbersFrom refusal walk instances lineOf points widenAll around boxOf sentTo firstOf lastOf stays march lineIn pipe usedOn pipeElements nestOf streamOf bodyLine descriptionOf runLines touchedFrom scatter execute executeAll testsFrom refusalOf accept insertByStep byStep pipesFrom arrayOf moveDown sound writeAll apply firstReady runSteps applyAll start run readyCall window result plainRun

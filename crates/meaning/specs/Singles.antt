@@ -1,4 +1,4 @@
--- Cases of single calls and steps beside document 01's, because they hold the rules: whole tables, direction −1, a link's places, a state that no start
+-- Cases of single calls and steps beside document 01's, because they hold the rules: whole tables, direction −1, a stride, a link's places, a state that no start
 -- leads to, three loops, null processes, declined calls. They are computed in a moment, so that a wrong rule is found here, before any run. The words are
 -- those of the second implementation.
 use mathlib.Core.Path.{_≡_, refl}
@@ -22,7 +22,7 @@ use Rattle.meaning.specs.Rules.{moveDown, sound, writeAll, Memory, apply
 use Rattle.meaning.specs.Answers.{acceptValues, answerNumber, ranNumber, readyNumber}
 use Rattle.meaning.specs.Calls.{table, start, step, run, readyCall, window, result, plainRun}
 use Rattle.meaning.specs.Comparison.{Case, _is_, naturals, number, planar, rowWords, eqList, firstWrong, agree}
-use Rattle.meaning.specs.Designs.{bytes, pair, polynomial, designOne, designTwo, values, turned, matrixProduct, matrixRising, matrixValues, nest, blank, lent, startedWith, startedOn}
+use Rattle.meaning.specs.Designs.{bytes, pair, polynomial, designOne, designTwo, values, turned, decimating, matrixProduct, matrixRising, matrixValues, nest, blank, lent, startedWith, startedOn}
 
 -- the words of a table of n rows lent
 abbrev tableWords : List ℕ → ℕ → List ℤ
@@ -105,6 +105,18 @@ calls =
     ∷ 3 ∷ 0 ∷ 2 ∷ 1 ∷ 2 ∷ 0 ∷ 2 ∷ 1 ∷ 0 ∷ 1 ∷ 0 ∷ 3 ∷ 0 ∷ 0 ∷ 0 ∷ 0 ∷ 1 ∷ 1 ∷ 0 ∷ 0 ∷ 0
     ∷ 4 ∷ 0 ∷ 1 ∷ 2 ∷ 2 ∷ 0 ∷ 2 ∷ 2 ∷ 0 ∷ 2 ∷ 0 ∷ 4 ∷ 0 ∷ 0 ∷ 0 ∷ 0 ∷ 2 ∷ 0 ∷ 0 ∷ 0 ∷ 0
     ∷ replicate 9 7))
+    -- the table of the decimating filter of request 2.2: process 2 runs (0,2) and (1,0), the only instance of process 3 is on no face of the bounds
+    ∷ (tableWords (decimating 2 2) 7 is naturals
+    (0 ∷ 0 ∷ 1 ∷ 0 ∷ 0 ∷ 0 ∷ 0 ∷ 0 ∷ 0 ∷ 0 ∷ 0 ∷ 4 ∷ 0 ∷ 0 ∷ 0 ∷ 2 ∷ 6 ∷ 0 ∷ 0 ∷ 0 ∷ 0
+    ∷ 1 ∷ 0 ∷ 1 ∷ 0 ∷ 1 ∷ 0 ∷ 0 ∷ 1 ∷ 0 ∷ 0 ∷ 1 ∷ 3 ∷ 0 ∷ 0 ∷ 0 ∷ 2 ∷ 5 ∷ 1 ∷ 0 ∷ 0 ∷ 0
+    ∷ 2 ∷ 0 ∷ 2 ∷ 0 ∷ 2 ∷ 0 ∷ 1 ∷ 0 ∷ 0 ∷ 0 ∷ 2 ∷ 2 ∷ 0 ∷ 0 ∷ 0 ∷ 1 ∷ 4 ∷ 1 ∷ 0 ∷ 0 ∷ 0
+    ∷ 3 ∷ 0 ∷ 1 ∷ 1 ∷ 1 ∷ 0 ∷ 1 ∷ 1 ∷ 0 ∷ 1 ∷ 3 ∷ 2 ∷ 0 ∷ 0 ∷ 0 ∷ 1 ∷ 3 ∷ 2 ∷ 0 ∷ 0 ∷ 0
+    ∷ 4 ∷ 0 ∷ 2 ∷ 1 ∷ 2 ∷ 0 ∷ 2 ∷ 0 ∷ 0 ∷ 1 ∷ 4 ∷ 1 ∷ 0 ∷ 0 ∷ 0 ∷ 0 ∷ 2 ∷ 2 ∷ 0 ∷ 0 ∷ 0
+    ∷ 5 ∷ 0 ∷ 1 ∷ 2 ∷ 1 ∷ 0 ∷ 2 ∷ 1 ∷ 0 ∷ 2 ∷ 5 ∷ 1 ∷ 0 ∷ 0 ∷ 0 ∷ 0 ∷ 1 ∷ 3 ∷ 0 ∷ 0 ∷ 0
+    ∷ 6 ∷ 0 ∷ 1 ∷ 2 ∷ 2 ∷ 0 ∷ 2 ∷ 2 ∷ 0 ∷ 2 ∷ 6 ∷ 0 ∷ 0 ∷ 0 ∷ 0 ∷ 0 ∷ 0 ∷ 4 ∷ 0 ∷ 0 ∷ 0 ∷ []))
+    -- on loops 0..3 twice process 4 begins on no face, with (1,2), and ends with (2,0)
+    ∷ (rowWords (getD (table gaugeLimits (decimating 3 3) (replicate 10 blank) .rows) 4 blank)
+    is naturals (4 ∷ 0 ∷ 2 ∷ 1 ∷ 2 ∷ 0 ∷ 2 ∷ 0 ∷ 0 ∷ 1 ∷ 4 ∷ 3 ∷ 0 ∷ 0 ∷ 0 ∷ 1 ∷ 5 ∷ 2 ∷ 0 ∷ 0 ∷ 0 ∷ []))
     -- direction −1 in loop 0: the figures, the table, and a plain run that subtracts in that order, modulo 2^32
     ∷ (naturals (acceptValues (accept gaugeLimits turned)) is naturals (3 ∷ 9 ∷ 11 ∷ 3 ∷ 69 ∷ 97 ∷ []))
     ∷ (tableWords turned 3 is naturals

@@ -75,7 +75,8 @@ sentTo n m y = filter (λ x. eq2 (image m x) y) (instances n)
 abbrev pub countOf : Nest → Matrix → V2 → ℕ
 countOf n m y = length (sentTo n m y)
 
--- those "of least and greatest step"
+-- those "of least and greatest step"; they are the outermost points in the bounds of the line of points that m sends to y, on a face of the bounds or not
+-- (request 2.2; `longer-strides` of requests)
 abbrev pub sooner : Nest → V3 → V3 → Bool
 sooner n v u = ltZ (stepOf n v) (stepOf n u)
 

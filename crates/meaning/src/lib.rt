@@ -8,7 +8,7 @@
 //   Pipes             pipes, their processes and elements; soak and drain
 //   Description       bytes to words, lengths, ranges, decoding
 //   Body              operations, lines, one instance on a store, the plain run
-//   Accept            the refusals 1 to 17, named one by one and chained; the figures
+//   Accept            the refusals 1 to 17 without 9, named one by one and chained; the figures
 //   Points, Sorted    points, lines, boxes and lists in order as propositions
 //   Array, State      what the rules look at; the words of the state and where they stand
 //   Rules             send, take, fire, give, receive: ready and apply; sound; the lowest ready step
@@ -18,7 +18,8 @@
 //   Demand2           what Table leaves, every pass of the loops by one processor, what Plain run leaves
 //   Demand3           lists of calls, and what holds after every one of them
 //   FivePlaces        request 2.8: what the lower limit of refusal 14 changes, and what it leaves
-//   Designs, Cases    document 01's designs as bytes, and its cases marked P, computed as one table (Comparison)
+//   LongerStrides     request 2.2: what Accept answers without refusal 9, and that first and last are outermost
+//   Designs, Cases    the documents' designs as bytes, and document 01's cases marked P, computed as one table (Comparison)
 //   Singles, Runs     cases beside them that hold the rules: tables, single steps and declined calls; states stopped in the middle, other orders
 //
 // Two loops are three, the third running from 0 to 0: its direction is 1, its step coefficient 0; place and every index map get a second row

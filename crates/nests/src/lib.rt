@@ -1,7 +1,7 @@
-// Document 01's refusals 6 to 10, of the loops and their layout.
+// Document 01's refusals 6, 7, 8 and 10, of the loops and their layout; 9 is never given (request 2.2).
 ghost use mathlib.Core.Path.{_≡_};
 ghost use Rattle.meaning.specs.Tests.{refusal};
-ghost use Rattle.meaning.specs.Accept.{refused6, refused9, refused10};
+ghost use Rattle.meaning.specs.Accept.{refused6, refused10};
 ghost use Rattle.numbering.specs.Ranges.{Bounded};
 ghost use Rattle.refusals.specs.Stages.{incrementTests, layoutTests};
 use meaning::Limits;
@@ -15,15 +15,6 @@ fn instances_refused(n: Nest, limits: Limits) -> bool
     limits.instances < numbering::instance_count(n)
 }
 
-// Refusal 9: an increment component outside −1 to 1.
-fn increment_refused(n: Nest) -> bool
-    requires { ⌜ Bounded n ⌝ }
-    ensures { λ r. ⌜ r ≡ refused9 n ⌝ }
-{
-    let place = n.place;
-    !refusals::small3(vectors::line_of(n, place))
-}
-
 // Refusal 10: over the limit of processes.
 fn processes_refused(n: Nest, limits: Limits) -> bool
     requires { ⌜ Bounded n ⌝ }
@@ -33,20 +24,18 @@ fn processes_refused(n: Nest, limits: Limits) -> bool
     limits.processes < numbering::size_of(numbering::extent_of(n, place))
 }
 
-// The first of the refusals 8 to 10 that applies, 0 if none does.
+// The first of the refusals 8 and 10 that applies, 0 if none does.
 fn increment_refusal(n: Nest, limits: Limits) -> u32
     requires { ⌜ Bounded n ⌝ }
     ensures { λ r. ⌜ r ≡ refusal (incrementTests limits n) ⌝ }
 {
     let place = n.place;
-    let stopped = refusals::still(n, place);
-    let long = increment_refused(n);
-    if stopped {
+    if refusals::still(n, place) {
         8
-    } else if long {
-        9
+    } else if processes_refused(n, limits) {
+        10
     } else {
-        if processes_refused(n, limits) { 10 } else { 0 }
+        0
     }
 }
 

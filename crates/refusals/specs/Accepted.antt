@@ -22,7 +22,7 @@ use Rattle.meaning.specs.Loops.{instances, stepOf, placeOf}
 use Rattle.meaning.specs.Space.{processes}
 use Rattle.meaning.specs.Streams.{line, stationary, hop, move}
 use Rattle.meaning.specs.Description.{descriptionOf, streamsOf, noStream, written}
-use Rattle.meaning.specs.Accept.{small, refused6, refused7, refused8, refused9, refused10, refused11, refused12, refused13, refused14, streamTests, testsFrom, refusalOf}
+use Rattle.meaning.specs.Accept.{small, refused6, refused7, refused8, refused10, refused11, refused12, refused13, refused14, streamTests, testsFrom, refusalOf}
 use Rattle.geometry.specs.Numbers.{and-left, and-right}
 use Rattle.vectors.specs.Within.{Within2}
 use Rattle.decode.specs.Refusals.{firstTests, passed}
@@ -104,8 +104,7 @@ later-passes l d h e =
     let p6 = passed 6 (refused6 l n) _ (λ g. omega arith) (p .0) in
     let p7 = passed 7 (refused7 n) _ (λ g. omega arith) (p6 .1) in
     let p8 = passed 8 (refused8 n) _ (λ g. omega arith) (p7 .1) in
-    let p9 = passed 9 (refused9 n) _ (λ g. omega arith) (p8 .1) in
-    let p10 = passed 10 (refused10 l n) _ (λ g. omega arith) (p9 .1) in
+    let p10 = passed 10 (refused10 l n) _ (λ g. omega arith) (p8 .1) in
     record {
       instances = few l n (p .0);
       processes = ltb-false (l .processes) (length (processes n)) (p10 .0);

@@ -18,14 +18,14 @@ use Rattle.meaning.specs.declared.Description.{Description}
 use Rattle.meaning.specs.Tests.{Test, _if_, refusal}
 use Rattle.meaning.specs.Loops.{instances}
 use Rattle.meaning.specs.Description.{descriptionOf, streamsOf, noStream, written}
-use Rattle.meaning.specs.Accept.{refused6, refused7, refused8, refused9, refused10, refused13, refused14, refused15, refused16, refused17, streamTests, testsFrom, refusalOf}
+use Rattle.meaning.specs.Accept.{refused6, refused7, refused8, refused10, refused13, refused14, refused15, refused16, refused17, streamTests, testsFrom, refusalOf}
 use Rattle.decode.specs.Refusals.{firstTests, refuses, passes, passed}
 
 -- ---- the stages
 
--- 8 to 10, and 6 to 10
+-- 8 and 10, and 6 to 10
 abbrev pub incrementTests : Limits → Nest → List Test
-incrementTests l n = (8 if refused8 n) ∷ (9 if refused9 n) ∷ (10 if refused10 l n) ∷ []
+incrementTests l n = (8 if refused8 n) ∷ (10 if refused10 l n) ∷ []
 
 abbrev pub layoutTests : Limits → Nest → List Test
 layoutTests l n = (6 if refused6 l n) ∷ (7 if refused7 n) ∷ incrementTests l n

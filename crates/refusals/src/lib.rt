@@ -1,4 +1,4 @@
-// Each stream's line, move and hop, the tests on vectors and matrices that the refusals 6 to 17 are made of, and the theory of all seventeen. The
+// Each stream's line, move and hop, the tests on vectors and matrices that the refusals 6 to 17 are made of, and the theory of all. The
 // refusals 1 to 5 are tested in `ranges`, those of a nest in `nests`, of a stream in `streams`, and all in their order in `verdict`.
 //
 // specs/, by file:
@@ -34,18 +34,6 @@ fn small(c: i32) -> bool
     ensures { λ r. ⌜ r ≡ small c ⌝ }
 {
     integers::magnitude(c) <= 1
-}
-
-// Whether all three do.
-pub fn small3(v: V3) -> bool
-    requires { ⌜ Within 200 v ⌝ }
-    ensures { λ r. ⌜ r ≡ small (v .x) && small (v .y) && small (v .z) ⌝ }
-{
-    if small(v.x) {
-        small(v.y) && small(v.z)
-    } else {
-        false
-    }
 }
 
 // Whether both components of a point do.

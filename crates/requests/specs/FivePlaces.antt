@@ -17,7 +17,7 @@ use Rattle.meaning.specs.Loops.{stepOf}
 use Rattle.meaning.specs.Points.{Between}
 use Rattle.meaning.specs.Description.{sizesOf, descriptionOf}
 use Rattle.meaning.specs.Accept.{accept}
-use Rattle.meaning.specs.Conditions.{Condition, Condition.Begins, Condition.Sizes-fit, Condition.Long, Condition.Words-fit, Condition.Bounds-fit, Condition.Instances, Condition.Place-rank, Condition.Increment, Condition.Small-increment, Condition.Processes, Condition.Rank, Condition.Line, Condition.Move, Condition.Hop, Condition.Order, Condition.Loading, Condition.Touched, Asks, numberOf, ofStream, conditions}
+use Rattle.meaning.specs.Conditions.{Condition, Condition.Begins, Condition.Sizes-fit, Condition.Long, Condition.Words-fit, Condition.Bounds-fit, Condition.Instances, Condition.Place-rank, Condition.Increment, Condition.Processes, Condition.Rank, Condition.Line, Condition.Move, Condition.Hop, Condition.Order, Condition.Loading, Condition.Touched, Asks, numberOf, ofStream, conditions}
 use Rattle.meaning.specs.FivePlaces.{LongHop, RefusedByThen, FivePlacesAreEnough}
 use Rattle.geometry.specs.Members.{in-each, each-in, in-numbers, numbers-in}
 use Rattle.guarantee.specs.Acceptance.{refused-exactly}
@@ -28,8 +28,8 @@ use Rattle.requests.specs.Answered.{Answered, Answered.meets, Answered.f
 module _ {i : ℕ} (m : ℕ) where
   hop-listed : i < m → In (Hop i) (conditions m)
   hop-listed h =
-      there (there (there (there (there (there (there (there (there (there
-      (in-each ofStream (in-numbers 0 m i (omega arith) (omega arith)) (there (there (there (here refl))))))))))))))
+      there (there (there (there (there (there (there (there (there
+      (in-each ofStream (in-numbers 0 m i (omega arith) (omega arith)) (there (there (there (here refl)))))))))))))
 
   -- a condition of another number is no hop
   other : {c : Condition} → Hop i ≡ c → (14 ≡ numberOf c → ⊥) → i < m
@@ -54,8 +54,7 @@ module _ {i : ℕ} (m : ℕ) where
   listed-hop (there (there (there (there (there (there (here e))))))) = other e (λ k. omega arith)
   listed-hop (there (there (there (there (there (there (there (here e)))))))) = other e (λ k. omega arith)
   listed-hop (there (there (there (there (there (there (there (there (here e))))))))) = other e (λ k. omega arith)
-  listed-hop (there (there (there (there (there (there (there (there (there (here e)))))))))) = other e (λ k. omega arith)
-  listed-hop (there (there (there (there (there (there (there (there (there (there k)))))))))) =
+  listed-hop (there (there (there (there (there (there (there (there (there k))))))))) =
       let r = each-in ofStream (numbers m) k in
       let b = numbers-in 0 m (r .mem) in
       of-stream (r .from) (omega (arith, b .1)) (r .is)
@@ -84,7 +83,6 @@ module _ (s : List ℕ) where
   compared Instances = stays refl
   compared Place-rank = stays refl
   compared Increment = stays refl
-  compared Small-increment = stays refl
   compared Processes = stays refl
   compared (Rank i) = stays refl
   compared (Line i) = stays refl

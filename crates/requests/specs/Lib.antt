@@ -1,3 +1,5 @@
 -- What the requests claim of the calls; src/lib.rt lists the theorems.
 pub mod Answered
 pub mod FivePlaces
+pub mod Outermost
+pub mod LongerStrides

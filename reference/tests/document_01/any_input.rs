@@ -2,7 +2,7 @@
 
 use reference::calls::{Calls, Row};
 use reference::random::Random;
-use reference::random_description::{accepted, changed, large, refused};
+use reference::random_description::{accepted, changed, given, large, refused};
 use reference::random_script::scripts;
 use reference::replay::replay;
 use reference::table::table_text;
@@ -38,7 +38,7 @@ fn descriptions() {
         let words = random.words(length, -4, 4);
         table_text(&reference::description::bytes_of(&words));
     }
-    for number in 1..=17 {
+    for number in given() {
         assert_eq!(
             table_text(&refused(&mut random, number)),
             format!("refused {number}\n")

@@ -6,14 +6,15 @@ use reference::calls::Calls;
 use reference::compare::{descriptions, input, mix, sum, text, values};
 use reference::designs::polynomial_two;
 use reference::examples::examples;
+use reference::random_description::given;
 use reference::Refusal;
 
 #[test]
 fn every_refusal_shape_and_limit() {
     let descriptions = descriptions();
-    assert!(descriptions.len() >= 2900);
+    assert!(descriptions.len() >= 3400);
     let (mut refusals, mut shapes, mut sizes) = (BTreeSet::new(), BTreeSet::new(), BTreeSet::new());
-    let mut nulls = 0;
+    let (mut nulls, mut strides) = (0, BTreeSet::new());
     for bytes in &descriptions {
         let calls = Calls::on(bytes);
         let found = match calls.accept() {
@@ -29,12 +30,14 @@ fn every_refusal_shape_and_limit() {
             shapes.insert((loops, array.streams.len(), stream.moving));
         }
         sizes.insert((found.processes, found.instances));
+        strides.extend(array.increment.iter().map(|word| word.abs()));
         nulls += array.processes.iter().filter(|it| it.null()).count();
     }
-    assert!(refusals.into_iter().eq(1..=17));
+    assert!(refusals.into_iter().eq(given()));
     assert_eq!(shapes.len(), 2 * 6 * 2);
     assert!(sizes.contains(&(1024, 4096)));
     assert!(nulls > 1000);
+    assert!((1..=10).chain([20, 28]).all(|word| strides.contains(&word)));
     let size = input(&descriptions).len() + text(&descriptions).len();
     assert!(size < 2_000_000, "{size} bytes");
 }

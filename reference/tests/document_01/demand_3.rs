@@ -3,11 +3,13 @@
 
 use reference::description::Description;
 use reference::designs::{
-    matrix_moving, matrix_slanted, matrix_straight, needs_its_hops, polynomial_one, polynomial_two,
+    decimating, decimating_channels, matrix_moving, matrix_slanted, matrix_straight,
+    needs_its_hops, polynomial_one, polynomial_two,
 };
 use reference::network::Step;
 use reference::random::Random;
 use reference::random_description::accepted;
+use reference::random_stride::strided;
 use reference::Refusal;
 
 use crate::lists::Lists;
@@ -208,6 +210,22 @@ fn every_order_finishes_alike() {
     for _ in 0..ARRAYS {
         let description = accepted(&mut random);
         check_orders(&description, &mut random);
+    }
+}
+
+#[test]
+fn longer_strides_finish_alike() {
+    let mut random = Random::new(2026);
+    let mut arrays = 0;
+    while arrays < ARRAYS / 10 {
+        let description = strided(&mut random);
+        if Lists::new(&description).accepted().processes <= 40 {
+            check_orders(&description, &mut random);
+            arrays += 1;
+        }
+    }
+    for design in [decimating(2, 2), decimating_channels()] {
+        check_orders(&design, &mut random);
     }
 }
 

@@ -6,8 +6,10 @@ use reference::calls::Calls;
 use reference::examples::examples;
 use reference::expected::replay_scripts;
 use reference::geometry::Array;
+use reference::random_description::given;
 use reference::random_script::scripts;
 use reference::replay::{replay, Script};
+use reference::vectors::within_one;
 
 #[derive(Default, Debug)]
 struct Coverage {
@@ -131,6 +133,7 @@ impl Coverage {
                     .iter()
                     .any(|pipe| null_between(array, &pipe.processes)),
             ),
+            ("longer stride", !within_one(&array.increment)),
             ("over 500 processes", array.processes.len() > 500),
             ("4096 instances", array.instances.len() == 4096),
         ] {
@@ -171,7 +174,7 @@ fn replayed_scripts_cover_document_01() {
     }
     println!("{coverage:#?}");
     assert!(coverage.accepted > scripts.len() / 2 && coverage.short_scripts > 0);
-    assert!((1..=17).all(|number| coverage.refused.contains_key(&number)));
+    assert!(given().all(|number| coverage.refused.contains_key(&number)));
     check_arrays(&coverage);
     check_calls(&coverage);
     for property in [
@@ -211,6 +214,7 @@ fn check_arrays(coverage: &Coverage) {
         "moving",
         "stationary",
         "negative direction",
+        "longer stride",
         "over 500 processes",
         "4096 instances",
     ]

@@ -64,7 +64,6 @@ fn each_of_accept() {
         (7, one(|d| d.place = vec![vec![0, 0]])),
         (7, matrix(|d| d.place[1] = vec![-2, 0, 0])),
         (8, one(|d| d.step = vec![2, 0])),
-        (9, one(|d| d.place = vec![vec![1, 2]])),
         (10, matrix(|d| d.right = vec![32, 31, 0])),
         (11, one(|d| d.maps[1] = vec![vec![0, 0]])),
         (11, matrix(|d| d.maps[1][0] = vec![0, -3, 0])),
@@ -128,13 +127,6 @@ fn order_of_accept() {
             one(|d| {
                 d.place = vec![vec![2, 1]];
                 d.step = vec![4, 2];
-            }),
-        ),
-        (
-            9,
-            matrix(|d| {
-                d.right = vec![32, 2, 32];
-                d.place = vec![vec![2, 1, 0], vec![0, 0, 1]];
             }),
         ),
         (

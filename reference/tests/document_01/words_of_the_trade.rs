@@ -46,10 +46,10 @@ fn increments_and_lines_are_the_shortest() {
     for (description, array) in arrays(11, 60) {
         assert_eq!(
             array.increment,
-            searched(&description.place, &description.step, 1)
+            searched(&description.place, &description.step, 28)
         );
         for (map, stream) in description.maps.iter().zip(&array.streams) {
-            assert_eq!(stream.line, searched(map, &description.step, 8));
+            assert_eq!(stream.line, searched(map, &description.step, 28));
         }
     }
 }

@@ -73,7 +73,7 @@ fn places_that_are_declined() {
     assert_eq!(refusal(&description), Some(13));
     description.place = vec![vec![2, 1]];
     description.step = vec![3, 1];
-    assert_eq!(refusal(&description), Some(9));
+    assert_eq!(refusal(&description), Some(13));
 }
 
 #[test]

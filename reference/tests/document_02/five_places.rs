@@ -4,9 +4,11 @@ use reference::calls::Calls;
 use reference::description::Description;
 use reference::geometry::Limits;
 use reference::random::Random;
-use reference::random_description::{changed, refused};
+use reference::random_description::{changed, given, refused};
 use reference::vectors::{dot, is_zero, shortest, times};
 use reference::Refusal;
+
+use crate::streams_before;
 
 /// The limits before the request.
 const FORMER: Limits = Limits {
@@ -23,20 +25,6 @@ fn long_hop(description: &Description) -> Option<usize> {
             moving && (6..=8).contains(&dot(&description.step, &line))
         })
     })
-}
-
-/// The description with the streams before a number only; its lines use scratch in place of the others.
-fn streams_before(description: &Description, number: usize) -> Description {
-    let mut fewer = description.clone();
-    fewer.maps.truncate(number);
-    fewer.loading.truncate(number);
-    let here = |word: usize| if word < number { word } else { number };
-    for line in &mut fewer.body {
-        line.target = here(line.target);
-        line.first = here(line.first);
-        line.second = here(line.second);
-    }
-    fewer
 }
 
 /// How often a test met: no long hop and accepted; none and refused; a long hop, accepted before; one, refused before by 15 to 17; one, refused by what
@@ -81,7 +69,7 @@ fn as_before_or_fourteen() {
         met.judge(&changed(&mut random));
         met.judge(&refused(&mut random, 14));
     }
-    for number in 1..=17 {
+    for number in given() {
         met.judge(&refused(&mut random, number));
     }
     assert!(met.0.iter().all(|&count| count > 0), "{met:?}");

@@ -1,0 +1,86 @@
+//! Random descriptions with a longer stride (request 2.2): an increment component outside −1 to 1.
+
+use crate::description::{Description, Matrix};
+use crate::geometry::Limits;
+use crate::random::Random;
+use crate::random_description::{filled, laid_out, map_of_place, matrix};
+use crate::vectors::{dot, shortest, times, within_one, Point};
+
+/// The most processes: enough for two instances at one process with a component of 20. There are none with a longer one, as its bounds would hold over
+/// 1,024 processes.
+const MOST: usize = 400;
+
+/// A description with a longer stride that Accept accepts. In most of them some process runs several instances.
+pub fn strided(random: &mut Random) -> Description {
+    loop {
+        let nest = nest(random);
+        let lines = lines(&nest);
+        let streams = random.below(4) + 1;
+        let map = |random: &mut Random, nest: &Description| map(random, nest, &lines);
+        if let Some(description) = filled(random, nest, streams, map) {
+            return description;
+        }
+    }
+}
+
+/// Loops, step and place with a longer stride that pass refusals 5 to 10, without a stream.
+fn nest(random: &mut Random) -> Description {
+    loop {
+        let loops = random.pick(&[2, 3, 3]);
+        let reach = random.pick(&[2, 4, 4]);
+        let place = matrix(random, loops, reach);
+        let step = random.words(loops, -8, 8);
+        let Ok(increment) = shortest(&place, &step, 7, 8) else {
+            continue;
+        };
+        if within_one(&increment) {
+            continue;
+        }
+        let bounds = bounds(random, &increment);
+        if let Some(nest) = laid_out(random, bounds, step, place, MOST) {
+            return nest;
+        }
+    }
+}
+
+/// Bounds between which the increment fits once or twice with a little room, or narrow ones.
+fn bounds(random: &mut Random, increment: &[i32]) -> (Point, Point) {
+    let often = random.pick(&[0, 1, 1, 1, 2]);
+    let bounds = |word: &i32| {
+        let left = random.between(-4, 2);
+        (left, left + often * word.abs() + random.between(0, 2))
+    };
+    increment.iter().map(bounds).unzip()
+}
+
+/// The short vectors that may be a stream's line: components from −2 to 2, moves of at most 1, hops of at most the limit.
+fn lines(nest: &Description) -> Vec<Point> {
+    let hops = 1..=Limits::NAMED.hop;
+    let line = |vector: &Point| {
+        within_one(&times(&nest.place, vector)) && hops.contains(&dot(&nest.step, vector))
+    };
+    short_vectors(nest.loops()).filter(line).collect()
+}
+
+/// The vectors of components from −2 to 2.
+fn short_vectors(loops: usize) -> impl Iterator<Item = Point> {
+    let number = 5usize.pow(loops as u32);
+    let digit =
+        move |vector: usize, place: usize| (vector / 5usize.pow(place as u32) % 5) as i32 - 2;
+    (0..number).map(move |vector| (0..loops).map(|place| digit(vector, place)).collect())
+}
+
+/// A map that has one of the lines as its own, or that of place.
+fn map(random: &mut Random, nest: &Description, lines: &[Point]) -> Matrix {
+    if lines.is_empty() || random.percent(10) {
+        return map_of_place(random, nest);
+    }
+    let line = &lines[random.below(lines.len())];
+    let across: Vec<Point> = short_vectors(nest.loops())
+        .filter(|row| dot(row, line) == 0)
+        .collect();
+    nest.place
+        .iter()
+        .map(|_| across[random.below(across.len())].clone())
+        .collect()
+}
