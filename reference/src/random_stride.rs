@@ -13,8 +13,7 @@ const MOST: usize = 400;
 /// A description with a longer stride that Accept accepts. In most of them some process runs several instances.
 pub fn strided(random: &mut Random) -> Description {
     loop {
-        let nest = nest(random);
-        let lines = lines(&nest);
+        let (nest, lines) = nest(random);
         let streams = random.below(4) + 1;
         let map = |random: &mut Random, nest: &Description| map(random, nest, &lines);
         if let Some(description) = filled(random, nest, streams, map) {
@@ -23,8 +22,8 @@ pub fn strided(random: &mut Random) -> Description {
     }
 }
 
-/// Loops, step and place with a longer stride that pass refusals 5 to 10, without a stream.
-fn nest(random: &mut Random) -> Description {
+/// Loops, step and place with a longer stride that pass refusals 5 to 10, without a stream, and short lines for streams.
+fn nest(random: &mut Random) -> (Description, Vec<Point>) {
     loop {
         let loops = random.pick(&[2, 3, 3]);
         let reach = random.pick(&[2, 4, 4]);
@@ -33,12 +32,13 @@ fn nest(random: &mut Random) -> Description {
         let Ok(increment) = shortest(&place, &step, 7, 8) else {
             continue;
         };
-        if within_one(&increment) {
+        let lines = lines(&place, &step);
+        if within_one(&increment) || lines.is_empty() {
             continue;
         }
         let bounds = bounds(random, &increment);
         if let Some(nest) = laid_out(random, bounds, step, place, MOST) {
-            return nest;
+            return (nest, lines);
         }
     }
 }
@@ -54,12 +54,11 @@ fn bounds(random: &mut Random, increment: &[i32]) -> (Point, Point) {
 }
 
 /// The short vectors that may be a stream's line: components from −2 to 2, moves of at most 1, hops of at most the limit.
-fn lines(nest: &Description) -> Vec<Point> {
+fn lines(place: &Matrix, step: &[i32]) -> Vec<Point> {
     let hops = 1..=Limits::NAMED.hop;
-    let line = |vector: &Point| {
-        within_one(&times(&nest.place, vector)) && hops.contains(&dot(&nest.step, vector))
-    };
-    short_vectors(nest.loops()).filter(line).collect()
+    let line =
+        |vector: &Point| within_one(&times(place, vector)) && hops.contains(&dot(step, vector));
+    short_vectors(step.len()).filter(line).collect()
 }
 
 /// The vectors of components from −2 to 2.
@@ -72,7 +71,7 @@ fn short_vectors(loops: usize) -> impl Iterator<Item = Point> {
 
 /// A map that has one of the lines as its own, or that of place.
 fn map(random: &mut Random, nest: &Description, lines: &[Point]) -> Matrix {
-    if lines.is_empty() || random.percent(10) {
+    if random.percent(10) {
         return map_of_place(random, nest);
     }
     let line = &lines[random.below(lines.len())];
