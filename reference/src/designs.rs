@@ -13,18 +13,42 @@ fn multiply_and_add(first: usize, second: usize, sum: usize) -> Vec<Line> {
             first,
             second,
         },
-        Line {
-            operation: Operation::Add,
-            target: sum,
-            first: sum,
-            second: scratch,
-        },
+        add(sum, sum, scratch),
     ]
 }
 
+/// Target := first + second.
+fn add(target: usize, first: usize, second: usize) -> Line {
+    Line {
+        operation: Operation::Add,
+        target,
+        first,
+        second,
+    }
+}
+
 /// A matrix of three loops.
-fn rows(rows: [[i32; 3]; 2]) -> Matrix {
-    rows.iter().map(|row| row.to_vec()).collect()
+type Rows = [[i32; 3]; 2];
+
+/// Three loops from 0 in direction 1, without a loading vector.
+fn three_loops(
+    right: [i32; 3],
+    step: [i32; 3],
+    place: Rows,
+    maps: &[Rows],
+    body: Vec<Line>,
+) -> Description {
+    let matrix = |rows: &Rows| -> Matrix { rows.iter().map(|row| row.to_vec()).collect() };
+    Description {
+        left: vec![0; 3],
+        right: right.to_vec(),
+        directions: vec![1; 3],
+        step: step.to_vec(),
+        place: matrix(&place),
+        maps: maps.iter().map(matrix).collect(),
+        loading: vec![vec![0, 0]; maps.len()],
+        body,
+    }
 }
 
 /// The polynomial product with loops 0..n: streams a: i, b: j, c: i+j, step 2i+j.
@@ -52,21 +76,15 @@ pub fn polynomial_two(n: i32) -> Description {
 }
 
 /// The matrix product with loops 0..n: streams a: (i,k), b: (k,j), c: (i,j), step i+j+k.
-fn matrix(n: i32, place: [[i32; 3]; 2], loading_of_c: [i32; 2]) -> Description {
-    Description {
-        left: vec![0; 3],
-        right: vec![n; 3],
-        directions: vec![1; 3],
-        step: vec![1; 3],
-        place: rows(place),
-        maps: vec![
-            rows([[1, 0, 0], [0, 0, 1]]),
-            rows([[0, 0, 1], [0, 1, 0]]),
-            rows([[1, 0, 0], [0, 1, 0]]),
-        ],
-        loading: vec![vec![0, 0], vec![0, 0], loading_of_c.to_vec()],
-        body: multiply_and_add(0, 1, 2),
-    }
+fn matrix(n: i32, place: Rows, loading_of_c: [i32; 2]) -> Description {
+    let maps = [
+        [[1, 0, 0], [0, 0, 1]],
+        [[0, 0, 1], [0, 1, 0]],
+        [[1, 0, 0], [0, 1, 0]],
+    ];
+    let mut product = three_loops([n; 3], [1; 3], place, &maps, multiply_and_add(0, 1, 2));
+    product.loading[2] = loading_of_c.to_vec();
+    product
 }
 
 /// Matrix product with place (i,j), loading (1,0) for c.
@@ -103,59 +121,34 @@ pub fn decimating(m: i32, n: i32) -> Description {
 /// A decimating filter for each of four channels, with its own five taps: loops i over outputs, j over taps, k over channels, place (i+2k, i+j), step
 /// 3i+j+5k, streams h: (j,k), x: (2i+j,k), y: (i,k). The increment is (−2,2,1).
 pub fn decimating_channels() -> Description {
-    Description {
-        left: vec![0; 3],
-        right: vec![3, 4, 3],
-        directions: vec![1; 3],
-        step: vec![3, 1, 5],
-        place: rows([[1, 0, 2], [1, 1, 0]]),
-        maps: vec![
-            rows([[0, 1, 0], [0, 0, 1]]),
-            rows([[2, 1, 0], [0, 0, 1]]),
-            rows([[1, 0, 0], [0, 0, 1]]),
-        ],
-        loading: vec![vec![0, 0]; 3],
-        body: multiply_and_add(0, 1, 2),
-    }
+    let maps = [
+        [[0, 1, 0], [0, 0, 1]],
+        [[2, 1, 0], [0, 0, 1]],
+        [[1, 0, 0], [0, 0, 1]],
+    ];
+    let place = [[1, 0, 2], [1, 1, 0]];
+    three_loops(
+        [3, 4, 3],
+        [3, 1, 5],
+        place,
+        &maps,
+        multiply_and_add(0, 1, 2),
+    )
 }
 
 /// Sums over windows of 21 that begin at every fourth value, in two channels: place (4i+4j+k, 4i−j), step 2i+j+k, streams y: (i,j), x: (i,4j+k). The
 /// increment is (−1,−4,20): the longest stride with which a process has two instances.
 pub fn decimating_by_four() -> Description {
-    Description {
-        left: vec![0; 3],
-        right: vec![1, 4, 20],
-        directions: vec![1; 3],
-        step: vec![2, 1, 1],
-        place: rows([[4, 4, 1], [4, -1, 0]]),
-        maps: vec![rows([[1, 0, 0], [0, 1, 0]]), rows([[1, 0, 0], [0, 4, 1]])],
-        loading: vec![vec![0, 0]; 2],
-        body: vec![Line {
-            operation: Operation::Add,
-            target: 0,
-            first: 0,
-            second: 1,
-        }],
-    }
+    let maps = [[[1, 0, 0], [0, 1, 0]], [[1, 0, 0], [0, 4, 1]]];
+    let place = [[4, 4, 1], [4, -1, 0]];
+    three_loops([1, 4, 20], [2, 1, 1], place, &maps, vec![add(0, 0, 1)])
 }
 
 /// The longest stride of all, (25,−28,4): place (4i+4j+3k, 4i+3j−4k), step 2i+j, a stream (i+j,k) that is doubled.
 pub fn longest_stride() -> Description {
-    Description {
-        left: vec![0; 3],
-        right: vec![1; 3],
-        directions: vec![1; 3],
-        step: vec![2, 1, 0],
-        place: rows([[4, 4, 3], [4, 3, -4]]),
-        maps: vec![rows([[1, 1, 0], [0, 0, 1]])],
-        loading: vec![vec![0, 0]],
-        body: vec![Line {
-            operation: Operation::Add,
-            target: 0,
-            first: 0,
-            second: 0,
-        }],
-    }
+    let maps = [[[1, 1, 0], [0, 0, 1]]];
+    let place = [[4, 4, 3], [4, 3, -4]];
+    three_loops([1; 3], [2, 1, 0], place, &maps, vec![add(0, 0, 0)])
 }
 
 /// An array that gets stuck if its links have one place.
@@ -168,11 +161,6 @@ pub fn needs_its_hops() -> Description {
         place: vec![vec![1, 0]],
         maps: vec![vec![vec![-1, 1]], vec![vec![-2, -1]]],
         loading: vec![vec![0], vec![0]],
-        body: vec![Line {
-            operation: Operation::Add,
-            target: 2,
-            first: 0,
-            second: 1,
-        }],
+        body: vec![add(2, 0, 1)],
     }
 }
