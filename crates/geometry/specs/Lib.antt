@@ -3,6 +3,7 @@ pub mod Members
 pub mod Sorting
 pub mod Best
 pub mod Numbers
+pub mod Tests
 pub mod Places
 pub mod Lines
 pub mod Instances

@@ -176,6 +176,9 @@ neg-not {d} n e = n (same2 (go (d .a) (ap (λ (w : V2). w .a) e)) (go (d .b) (ap
     go : (a : ℤ) → negℤ a ≡ pos 0 → a ≡ pos 0
     go = linear 0 1 _ λ p m. simp gaps (omega arith)
 
+pub shift-shift3 : (x u : V3) (j i : ℤ) → shift3 (shift3 x j u) i u ≡ shift3 x (j +ℤ i) u
+shift-shift3 = ring 2 2 _ λ ρ. simp quotes (solve3 (solve ρ _ _ tt) (solve ρ _ _ tt) (solve ρ _ _ tt))
+
 pub zero-shift3 : (x u : V3) → shift3 x (pos 0) u ≡ x
 zero-shift3 = ring 2 0 _ λ ρ. simp (quotes, literal ρ) (solve3 (solve ρ _ _ tt) (solve ρ _ _ tt) (solve ρ _ _ tt))
 

@@ -12,7 +12,6 @@ use lib.IntN.{ℤ, pos, negsuc, _+ℤ_, _-ℤ_, _*ℤ_}
 use lib.Signed.{_<ℤ_}
 use Rattle.integers.specs.Differences.{gaps, parts, up, lt-out}
 use Rattle.integers.specs.Variables.{linear}
-use Rattle.integers.specs.Ring.{ring, quotes, solve, solve3}
 use Rattle.integers.specs.Vectors.{shift3, dot-shift}
 use Rattle.integers.specs.declared.V3.{V3}
 use Rattle.integers.specs.declared.V2.{V2}
@@ -20,6 +19,7 @@ use Rattle.meaning.specs.declared.Nest.{Nest}
 use Rattle.meaning.specs.Loops.{stepOf, placeOf, increment}
 use Rattle.meaning.specs.Space.{instancesAt, count, first, computing}
 use Rattle.meaning.specs.Points.{IsLine as Line, Directed, Within, At}
+use Rattle.geometry.specs.Numbers.{shift-shift3}
 use Rattle.geometry.specs.Lines.{along}
 use Rattle.geometry.specs.Segments.{at-in, first-at, segment, numbered, instance}
 
@@ -78,10 +78,8 @@ module _ {n : Nest} (layout : Layout n) where
       let y = placeOf n x in
       let p : placeOf n x' ≡ y = ap (placeOf n) e ∙ along (layout .inc) x (pos i) in
       firing-is y (firingOf n x + i) x' p
-      (e ∙ ap (λ (u : V3). shift3 u (pos i) (increment n)) (sym (instance-firing w)) ∙ sum (first n y) (increment n) (pos (firingOf n x)) (pos i))
-    where
-      sum : (f u : V3) (j i : ℤ) → shift3 (shift3 f j u) i u ≡ shift3 f (j +ℤ i) u
-      sum = ring 2 2 _ λ ρ. simp quotes (solve3 (solve ρ _ _ tt) (solve ρ _ _ tt) (solve ρ _ _ tt))
+      (e ∙ ap (λ (u : V3). shift3 u (pos i) (increment n)) (sym (instance-firing w))
+      ∙ shift-shift3 (first n y) (increment n) (pos (firingOf n x)) (pos i))
 
   -- a process computes exactly if it has an instance
   pub computes : (y : V2) → T (computing n y) → RunAt n y (first n y)

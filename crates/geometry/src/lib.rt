@@ -20,8 +20,8 @@
 //   from Accept        Descriptions: `laid`: what the refusals leave
 //   for the network    Wiring: `wired`, `flowing`, `keeping`, `meeting`; Arrays: `pipe-is`, `pipe-of`, `through`, `place-on`
 //
-// Members, Sorting, Best, Numbers, Places, Reach and BoxLines are what these use. No theorem uses that an increment's components lie in −1 to 1, nor
-// a limit.
+// Members, Sorting, Best, Numbers, Places, Reach and BoxLines are what these use; Tests is for the crates above. No theorem uses that an increment's
+// components lie in −1 to 1, nor a limit.
 pub fn one() -> usize {
     1
 }

@@ -173,7 +173,7 @@ pub refused-exactly : RefusedExactly
 unfolding accept refusalOf
 refused-exactly l s k = (
   λ e. let r = go (eqb (refusalOf l s) 0) (eqb-false (refusalOf l s) 0) e in first-fails (tries l s) (r .0) (r .1),
-  λ f. back (refusalOf l s) (refuses-first (tries l s) f) (subst (λ (k : ℕ). 0 < k) (f .number) (numbered (f .failed))),
+  λ f. back (refusalOf l s) (refuses-first (tries l s) f) (subst (λ (k : ℕ). 0 < k) (f .number) (numbered (f .failed) .0)),
 )
   where
     go : (b : Bool) → (b ≡ false → refusalOf l s ≡ 0 → ⊥) → cond b (Accepted (figures (descriptionOf s))) (Refused (refusalOf l s)) ≡ Refused k

@@ -89,23 +89,24 @@ pub data Tries (A : Condition → Type 0) : List Condition → List Test → Typ
   next : {c : Condition} {cs : List Condition} {b : Bool} {ts : List Test} → Refuses (A c) b → (A c → Tries A cs ts)
       → Tries A (c ∷ cs) ((numberOf c if b) ∷ ts)
 
-pub numbered : (c : Condition) → 0 < numberOf c
-numbered Begins = omega arith
-numbered Sizes-fit = omega arith
-numbered Long = omega arith
-numbered Words-fit = omega arith
-numbered Bounds-fit = omega arith
-numbered Instances = omega arith
-numbered Place-rank = omega arith
-numbered Increment = omega arith
-numbered Processes = omega arith
-numbered (Rank i) = omega arith
-numbered (Line i) = omega arith
-numbered (Move i) = omega arith
-numbered (Hop i) = omega arith
-numbered (Order i) = omega arith
-numbered (Loading i) = omega arith
-numbered (Touched i) = omega arith
+-- the numbers of conditions: none is 0, and none is 9
+pub numbered : (c : Condition) → (0 < numberOf c) × (numberOf c ≡ 9 → ⊥)
+numbered Begins = (omega arith, λ e. omega arith)
+numbered Sizes-fit = (omega arith, λ e. omega arith)
+numbered Long = (omega arith, λ e. omega arith)
+numbered Words-fit = (omega arith, λ e. omega arith)
+numbered Bounds-fit = (omega arith, λ e. omega arith)
+numbered Instances = (omega arith, λ e. omega arith)
+numbered Place-rank = (omega arith, λ e. omega arith)
+numbered Increment = (omega arith, λ e. omega arith)
+numbered Processes = (omega arith, λ e. omega arith)
+numbered (Rank i) = (omega arith, λ e. omega arith)
+numbered (Line i) = (omega arith, λ e. omega arith)
+numbered (Move i) = (omega arith, λ e. omega arith)
+numbered (Hop i) = (omega arith, λ e. omega arith)
+numbered (Order i) = (omega arith, λ e. omega arith)
+numbered (Loading i) = (omega arith, λ e. omega arith)
+numbered (Touched i) = (omega arith, λ e. omega arith)
 
 module _ {A : Condition → Type 0} where
   -- the answer is 0 exactly where all hold
@@ -114,7 +115,7 @@ module _ {A : Condition → Type 0} where
   all-hold none e c i = elim i [ ]
   all-hold (next {c = d} (met x) f) e c (here p) = subst A (sym p) x
   all-hold (next (met x) f) e c (there i) = all-hold (f x) e c i
-  all-hold (next {c = d} (broken n) f) e c i = absurd (omega (arith, numbered d))
+  all-hold (next {c = d} (broken n) f) e c i = absurd (omega (arith, numbered d .0))
 
   pub none-refuses : {cs : List Condition} {ts : List Test} → Tries A cs ts → ((c : Condition) → In c cs → A c) → refusal ts ≡ 0
   unfolding refusal

@@ -3,7 +3,7 @@ ghost use mathlib.Core.Path.{_≡_};
 ghost use Rattle.meaning.specs.Tests.{refusal};
 ghost use Rattle.meaning.specs.Accept.{refused6, refused10};
 ghost use Rattle.numbering.specs.Ranges.{Bounded};
-ghost use Rattle.refusals.specs.Stages.{incrementTests, layoutTests};
+ghost use Rattle.refusals.specs.Stages.{layoutTests};
 use meaning::Limits;
 use meaning::Nest;
 
@@ -24,22 +24,7 @@ fn processes_refused(n: Nest, limits: Limits) -> bool
     limits.processes < numbering::size_of(numbering::extent_of(n, place))
 }
 
-// The first of the refusals 8 and 10 that applies, 0 if none does.
-fn increment_refusal(n: Nest, limits: Limits) -> u32
-    requires { ⌜ Bounded n ⌝ }
-    ensures { λ r. ⌜ r ≡ refusal (incrementTests limits n) ⌝ }
-{
-    let place = n.place;
-    if refusals::still(n, place) {
-        8
-    } else if processes_refused(n, limits) {
-        10
-    } else {
-        0
-    }
-}
-
-// The same of 6 to 10.
+// The first of the refusals 6, 7, 8 and 10 that applies, 0 if none does.
 pub fn nest_refusal(n: Nest, limits: Limits) -> u32
     requires { ⌜ Bounded n ⌝ }
     ensures { λ r. ⌜ r ≡ refusal (layoutTests limits n) ⌝ }
@@ -49,7 +34,11 @@ pub fn nest_refusal(n: Nest, limits: Limits) -> u32
         6
     } else if refusals::low_rank(place) {
         7
+    } else if refusals::still(n, place) {
+        8
+    } else if processes_refused(n, limits) {
+        10
     } else {
-        increment_refusal(n, limits)
+        0
     }
 }

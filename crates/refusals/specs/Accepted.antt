@@ -24,12 +24,13 @@ use Rattle.meaning.specs.Streams.{line, stationary, hop, move}
 use Rattle.meaning.specs.Description.{descriptionOf, streamsOf, noStream, written}
 use Rattle.meaning.specs.Accept.{small, refused6, refused7, refused8, refused10, refused11, refused12, refused13, refused14, streamTests, testsFrom, refusalOf}
 use Rattle.geometry.specs.Numbers.{and-left, and-right}
+use Rattle.geometry.specs.Tests.{numbered, both-pass}
 use Rattle.vectors.specs.Within.{Within2}
 use Rattle.decode.specs.Refusals.{firstTests, passed}
 use Rattle.decode.specs.Ranged.{Ranged, Decoded, decoded}
 use Rattle.refusals.specs.InRange.{InRange, in-range}
 use Rattle.refusals.specs.Small.{small-is}
-use Rattle.refusals.specs.Stages.{layoutTests, laterTests, few, numbered, both-pass, all-tests}
+use Rattle.refusals.specs.Stages.{layoutTests, laterTests, few, all-tests}
 
 -- ---- one stream
 

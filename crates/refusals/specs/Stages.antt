@@ -1,16 +1,15 @@
 -- The refusals 6 to 17 in stages, each a test or two and the stage after them; lists of tests one after the other; stream by stream. Assumes
 -- nothing.
-use mathlib.Core.Path.{_≡_, refl, sym, _∙_, subst}
-use mathlib.Core.Bool.{Bool, true, false, not, cond}
+use mathlib.Core.Path.{_≡_, refl, sym, _∙_}
+use mathlib.Core.Bool.{Bool, true, false}
 use mathlib.Core.List.{List, [], _∷_, _++_}
 use Prim.Native.Nat.{ℕ, _+_, _≤_, _<_}
-use native.Mathlib.Decide.{ℕ-discrete}
 use native.Mathlib.Numerals.{add-one}
 use native.Mathlib.Omega.{arith}
-use lib.Dec.{T, eqb}
+use lib.Dec.{T}
 use lib.ListN.{length, getD, drop, drop-of-length-le}
 use lib.Seq.{drop-cons, length-take-le, getD-take}
-use borrow.Author.Tests.{eq-eqb, ltb-false}
+use borrow.Author.Tests.{ltb-false}
 use Rattle.meaning.specs.declared.Limits.{Limits}
 use Rattle.meaning.specs.declared.Nest.{Nest}
 use Rattle.meaning.specs.declared.Stream.{Stream}
@@ -19,16 +18,14 @@ use Rattle.meaning.specs.Tests.{Test, _if_, refusal}
 use Rattle.meaning.specs.Loops.{instances}
 use Rattle.meaning.specs.Description.{descriptionOf, streamsOf, noStream, written}
 use Rattle.meaning.specs.Accept.{refused6, refused7, refused8, refused10, refused13, refused14, refused15, refused16, refused17, streamTests, testsFrom, refusalOf}
+use Rattle.geometry.specs.Tests.{numbered, none-applies, one-applies}
 use Rattle.decode.specs.Refusals.{firstTests, refuses, passes, passed}
 
 -- ---- the stages
 
--- 8 and 10, and 6 to 10
-abbrev pub incrementTests : Limits → Nest → List Test
-incrementTests l n = (8 if refused8 n) ∷ (10 if refused10 l n) ∷ []
-
+-- 6, 7, 8 and 10
 abbrev pub layoutTests : Limits → Nest → List Test
-layoutTests l n = (6 if refused6 l n) ∷ (7 if refused7 n) ∷ incrementTests l n
+layoutTests l n = (6 if refused6 l n) ∷ (7 if refused7 n) ∷ (8 if refused8 n) ∷ (10 if refused10 l n) ∷ []
 
 -- 15 to 17, and 13 to 17; 11 to 17 are `streamTests`
 abbrev pub orderTests : Nest → Bool → Stream → List Test
@@ -59,46 +56,12 @@ skips n l e t h = passes n l (sym e ∙ t) h
 
 -- ---- one list of tests after another
 
--- no test has the number 0
-unfoldable pub numbered : List Test → Bool
-numbered [] = true
-numbered (t ∷ l) = cond (eqb (t .number) 0) false (numbered l)
-
-none-applies : (a b : List Test) → T (numbered a) → refusal a ≡ 0 → refusal b ≡ refusal (a ++ b)
-unfolding refusal numbered
-none-applies [] b h e = refl
-none-applies (t ∷ a) b h e = go (t .applies) (eqb (t .number) 0) (eq-eqb (t .number) 0) h e (none-applies a b)
-  where
-    go : (p z : Bool) → (t .number ≡ 0 → z ≡ true) → T (cond z false (numbered a)) → cond p (t .number) (refusal a) ≡ 0
-        → (T (numbered a) → refusal a ≡ 0 → refusal b ≡ refusal (a ++ b)) → refusal b ≡ cond p (t .number) (refusal (a ++ b))
-    go p true f h e ih = absurd h
-    go true false f h e ih = absurd (subst (λ (x : Bool). T (not x)) (f e) tt)
-    go false false f h e ih = ih h e
-
-one-applies : (a b : List Test) → (refusal a ≡ 0 → ⊥) → refusal a ≡ refusal (a ++ b)
-unfolding refusal
-one-applies [] b f = absurd (f refl)
-one-applies (t ∷ a) b f = go (t .applies) f (one-applies a b)
-  where
-    go : (p : Bool) → (cond p (t .number) (refusal a) ≡ 0 → ⊥) → ((refusal a ≡ 0 → ⊥) → refusal a ≡ refusal (a ++ b))
-        → cond p (t .number) (refusal a) ≡ cond p (t .number) (refusal (a ++ b))
-    go true f ih = refl
-    go false f ih = ih f
-
 -- from what a call ensures of its answer q: none of the first list applies, or one does
 pub goes-on : {q r : ℕ} (a b : List Test) → T (numbered a) → q ≡ refusal a → q ≡ 0 → r ≡ refusal b → r ≡ refusal (a ++ b)
 goes-on a b t e z h = h ∙ none-applies a b t (sym e ∙ z)
 
 pub stops : {q : ℕ} (a b : List Test) → q ≡ refusal a → (q ≡ 0 → ⊥) → q ≡ refusal (a ++ b)
 stops a b e f = e ∙ one-applies a b (λ z. f (e ∙ z))
-
--- none of both applies
-pub both-pass : (a b : List Test) → T (numbered a) → refusal (a ++ b) ≡ 0 → (refusal a ≡ 0) × (refusal b ≡ 0)
-both-pass a b t e = let z = first (ℕ-discrete (refusal a) 0) in (z, none-applies a b t z ∙ e)
-  where
-    first : Dec (refusal a ≡ 0) → refusal a ≡ 0
-    first (yes z) = z
-    first (no f) = one-applies a b f ∙ e
 
 -- ---- stream by stream
 

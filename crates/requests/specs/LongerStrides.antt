@@ -1,9 +1,9 @@
 -- Request 2.2, "longer strides": Accept without refusal 9 beside Accept with it. What was refused by 9 is answered by what comes after it, all else as
 -- before, and first and last of Table's rows are outermost. Assumes nothing.
 use mathlib.Core.Path.{_≡_, refl, sym, _∙_, ap, subst}
-use mathlib.Core.Bool.{Bool, true, false, cond}
+use mathlib.Core.Bool.{Bool, cond}
 use mathlib.Core.List.{List, [], _∷_, _++_, List·Memᴰ as In, List·Memᴰ·head as here, List·Memᴰ·tail as there}
-use Prim.Native.Nat.{ℕ, zero, suc, _<_}
+use Prim.Native.Nat.{ℕ, zero, suc}
 use native.Mathlib.Omega.{arith}
 use lib.ListN.{length}
 use borrow.Author.Tests.{ne-eqb}
@@ -16,49 +16,28 @@ use Rattle.meaning.specs.Loops.{increment}
 use Rattle.meaning.specs.Points.{IsLine}
 use Rattle.meaning.specs.Description.{sizesOf, descriptionOf}
 use Rattle.meaning.specs.Accept.{refusalOf, answerOf, accept}
-use Rattle.meaning.specs.Conditions.{Small, Condition, Condition.Begins, Condition.Sizes-fit, Condition.Long, Condition.Words-fit, Condition.Bounds-fit, Condition.Instances, Condition.Place-rank, Condition.Increment, Condition.Processes, Condition.Rank, Condition.Line, Condition.Move, Condition.Hop, Condition.Order, Condition.Loading, Condition.Touched, Asks, numberOf}
+use Rattle.meaning.specs.Conditions.{Small, Condition, Condition.Place-rank, Condition.Increment, Asks}
 use Rattle.meaning.specs.LongerStrides.{formerNine, testsBefore, testsAfter, formerTests, formerAccept, conditionsBefore, conditionsAfter, WasNine, AnsweredAfter, AnsweredAfter.accepted, AnsweredAfter.refused, LongerStrides}
+use Rattle.geometry.specs.Tests.{numbered, none-applies, one-applies}
 use Rattle.geometry.specs.Lines.{line-unique}
 use Rattle.network.specs.Decide.{says-as, says-and}
-use Rattle.guarantee.specs.Refusals.{Refuses, Refuses.met, Refuses.broken, refuses-not, says-small, Tries, Tries.none, Tries.next, all-hold, first-fails}
+use Rattle.guarantee.specs.Refusals.{Refuses, Refuses.met, Refuses.broken, refuses-not, says-small, Tries, Tries.none, Tries.next, numbered as conditions-numbered, all-hold, none-refuses, first-fails}
 use Rattle.guarantee.specs.NestConditions.{line-found}
 use Rattle.guarantee.specs.Acceptance.{tries, refused-exactly}
 use Rattle.requests.specs.Outermost.{table-outermost}
 
 -- ---- tests in two parts
 
-module _ {A : Condition → Type 0} where
-  front : (cs ds : List Condition) (ts us : List Test) → length cs ≡ length ts → Tries A (cs ++ ds) (ts ++ us) → Tries A cs ts
-  front [] ds [] us e t = none
-  front [] ds (u ∷ ts) us e t = absurd (omega arith)
-  front (c ∷ cs) ds [] us e t = absurd (omega arith)
-  front (c ∷ cs) ds (u ∷ ts) us e (next r f) = next r (λ x. front cs ds ts us (omega arith) (f x))
-
-  -- the others, where the first all hold
-  back : (cs ds : List Condition) (ts us : List Test) → length cs ≡ length ts → ((c : Condition) → In c cs → A c) → Tries A (cs ++ ds) (ts ++ us)
-      → Tries A ds us
-  back [] ds [] us e h t = t
-  back [] ds (u ∷ ts) us e h t = absurd (omega arith)
-  back (c ∷ cs) ds [] us e h t = absurd (omega arith)
-  back (c ∷ cs) ds (u ∷ ts) us e h (next r f) = back cs ds ts us (omega arith) (λ d i. h d (there i)) (f (h c (here refl)))
-
-  -- then the answer is theirs
-  onward : {cs : List Condition} {ts : List Test} → Tries A cs ts → ((c : Condition) → In c cs → A c) → (us : List Test) → refusal (ts ++ us) ≡ refusal us
-  unfolding refusal
-  onward none h us = refl
-  onward (next (met x) f) h us = onward (f x) (λ d i. h d (there i)) us
-  onward (next {c} (broken n) f) h us = absurd (n (h c (here refl)))
-
--- a test that applies is answered whatever comes after it
-stopped : (ts us : List Test) → 0 < refusal ts → refusal (ts ++ us) ≡ refusal ts
-unfolding refusal
-stopped [] us h = absurd (omega arith)
-stopped (t ∷ ts) us h = go (t .applies) h (stopped ts us)
-  where
-    go : (b : Bool) → 0 < cond b (t .number) (refusal ts) → (0 < refusal ts → refusal (ts ++ us) ≡ refusal ts)
-        → cond b (t .number) (refusal (ts ++ us)) ≡ cond b (t .number) (refusal ts)
-    go true h f = refl
-    go false h f = f h
+-- tests that try conditions, cut in two: the first part tries its own, and where all of those hold the second does
+split : {A : Condition → Type 0} (cs ds : List Condition) (ts us : List Test) → length cs ≡ length ts → Tries A (cs ++ ds) (ts ++ us)
+    → Tries A cs ts × (((c : Condition) → In c cs → A c) → Tries A ds us)
+split [] ds [] us e t = (none, λ h. t)
+split [] ds (u ∷ ts) us e t = absurd (omega arith)
+split (c ∷ cs) ds [] us e t = absurd (omega arith)
+split (c ∷ cs) ds (u ∷ ts) us e (next r f) = (
+  next r (λ x. split cs ds ts us (omega arith) (f x) .0),
+  λ h. split cs ds ts us (omega arith) (f (h c (here refl))) .1 (λ d i. h d (there i)),
+)
 
 -- ---- 9 as it was
 
@@ -72,25 +51,6 @@ refuses-stride n =
     refuses-not (says-as (λ p. (p .0 .0, p .0 .1, p .1)) (λ p. ((p .0, p .1), p .2))
     (says-and (says-and (says-small (u .x)) (says-small (u .y))) (says-small (u .z))))
 
--- no condition has its number
-no-nine : (c : Condition) → numberOf c ≡ 9 → ⊥
-no-nine Begins e = omega arith
-no-nine Sizes-fit e = omega arith
-no-nine Long e = omega arith
-no-nine Words-fit e = omega arith
-no-nine Bounds-fit e = omega arith
-no-nine Instances e = omega arith
-no-nine Place-rank e = omega arith
-no-nine Increment e = omega arith
-no-nine Processes e = omega arith
-no-nine (Rank i) e = omega arith
-no-nine (Line i) e = omega arith
-no-nine (Move i) e = omega arith
-no-nine (Hop i) e = omega arith
-no-nine (Order i) e = omega arith
-no-nine (Loading i) e = omega arith
-no-nine (Touched i) e = omega arith
-
 module _ (l : Limits) (s : List ℕ) where
   abbrev n : Nest
   n = descriptionOf s .nest
@@ -98,11 +58,8 @@ module _ (l : Limits) (s : List ℕ) where
   abbrev Held : Type 0
   Held = (c : Condition) → In c conditionsBefore → Asks l s c
 
-  first-tests : Tries (Asks l s) conditionsBefore (testsBefore l s)
-  first-tests = front conditionsBefore (conditionsAfter (sizesOf s .streams)) (testsBefore l s) (testsAfter l s) refl (tries l s)
-
-  other-tests : Held → Tries (Asks l s) (conditionsAfter (sizesOf s .streams)) (testsAfter l s)
-  other-tests h = back conditionsBefore (conditionsAfter (sizesOf s .streams)) (testsBefore l s) (testsAfter l s) refl h (tries l s)
+  cut : Tries (Asks l s) conditionsBefore (testsBefore l s) × (Held → Tries (Asks l s) (conditionsAfter (sizesOf s .streams)) (testsAfter l s))
+  cut = split conditionsBefore (conditionsAfter (sizesOf s .streams)) (testsBefore l s) (testsAfter l s) refl (tries l s)
 
   -- where 1 to 8 hold there is an increment
   increment-line : Held → IsLine n (n .place) (increment n)
@@ -115,12 +72,17 @@ module _ (l : Limits) (s : List ℕ) where
   abbrev was : ℕ
   was = refusal (formerTests l s)
 
+  -- where 1 to 8 hold the tests after them answer
+  onward : Held → (us : List Test) → refusal (testsBefore l s ++ us) ≡ refusal us
+  unfolding numbered
+  onward h us = sym (none-applies (testsBefore l s) us tt (none-refuses (cut .0) h))
+
   now-onward : Held → refusalOf l s ≡ refusal (testsAfter l s)
   unfolding refusalOf
-  now-onward h = onward first-tests h (testsAfter l s)
+  now-onward h = onward h (testsAfter l s)
 
   was-onward : Held → was ≡ refusal ((9 if formerNine n) ∷ testsAfter l s)
-  was-onward h = onward first-tests h _
+  was-onward h = onward h _
 
   data Compared : Type 0 where
     same : was ≡ refusalOf l s → Compared
@@ -137,15 +99,15 @@ module _ (l : Limits) (s : List ℕ) where
           (was-onward h ∙ ap (λ (b : Bool). cond b 9 (refusal (testsAfter l s))) e)
 
       go : (k : ℕ) → refusal (testsBefore l s) ≡ k → Compared
-      go zero e = by (all-hold first-tests e) refl (refuses-stride n)
+      go zero e = by (all-hold (cut .0) e) refl (refuses-stride n)
       go (suc k) e =
-          let h : 0 < refusal (testsBefore l s) = omega arith in
-          same (stopped (testsBefore l s) ((9 if formerNine n) ∷ testsAfter l s) h ∙ sym (stopped (testsBefore l s) (testsAfter l s) h))
+          let some : refusal (testsBefore l s) ≡ 0 → ⊥ = λ z. omega arith in
+          same (sym (one-applies (testsBefore l s) ((9 if formerNine n) ∷ testsAfter l s) some) ∙ one-applies (testsBefore l s) (testsAfter l s) some)
 
   -- ---- the claims
 
   never-nine : accept l s ≡ Refused 9 → ⊥
-  never-nine e = let f = refused-exactly l s 9 .0 e in no-nine (f .failed) (f .number)
+  never-nine e = let f = refused-exactly l s 9 .0 e in conditions-numbered (f .failed) .1 (f .number)
 
   as-before : (formerAccept l s ≡ Refused 9 → ⊥) → accept l s ≡ formerAccept l s
   unfolding accept
@@ -178,7 +140,7 @@ module _ (l : Limits) (s : List ℕ) where
       go : (k : ℕ) → refusal (testsAfter l s) ≡ k → AnsweredAfter l s
       go zero e = accepted (ap (answerOf s) (now-onward (w .held) ∙ e))
       go (suc k) e =
-          refused (suc k) (ap (answerOf s) (now-onward (w .held) ∙ e) ∙ some k) (first-fails (other-tests (w .held)) e (omega arith))
+          refused (suc k) (ap (answerOf s) (now-onward (w .held) ∙ e) ∙ some k) (first-fails (cut .1 (w .held)) e (omega arith))
         where
           some : (k : ℕ) → answerOf s (suc k) ≡ Refused (suc k)
           some k = rw (ne-eqb (suc k) 0 (λ g. omega arith)) refl

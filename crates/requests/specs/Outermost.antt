@@ -5,11 +5,9 @@ use mathlib.Core.List.{List}
 use Prim.Native.Nat.{ℕ, _≤_, _<_}
 use native.Mathlib.Omega.{arith}
 use lib.ListN.{length, getD}
-use lib.IntN.{ℤ, pos, negsuc, _+ℤ_, _*ℤ_}
-use lib.Signed.{_≤ℤ_, _<ℤ_, <ℤ-irrefl}
-use Rattle.integers.specs.Differences.{gaps}
-use Rattle.integers.specs.Variables.{linear}
-use Rattle.integers.specs.Vectors.{zero2, shift3, image, dot-shift}
+use lib.IntN.{ℤ, pos, negsuc, _+ℤ_}
+use Rattle.integers.specs.Differences.{eq-out}
+use Rattle.integers.specs.Vectors.{zero2, shift3, image}
 use Rattle.integers.specs.declared.V3.{V3}
 use Rattle.integers.specs.declared.V2.{V2}
 use Rattle.meaning.specs.declared.Limits.{Limits}
@@ -18,7 +16,7 @@ use Rattle.meaning.specs.declared.Description.{Description}
 use Rattle.meaning.specs.declared.Row.{Row}
 use Rattle.meaning.specs.declared.Figures.{Figures}
 use Rattle.meaning.specs.declared.Acceptance.the-variants.{Accepted}
-use Rattle.meaning.specs.Loops.{stepOf, increment}
+use Rattle.meaning.specs.Loops.{increment}
 use Rattle.meaning.specs.Space.{processes}
 use Rattle.meaning.specs.Points.{Within, At, IsLine}
 use Rattle.meaning.specs.Description.{descriptionOf}
@@ -26,7 +24,8 @@ use Rattle.meaning.specs.Accept.{accept}
 use Rattle.meaning.specs.Calls.{table}
 use Rattle.meaning.specs.Demand2.{ComputingRow, rowAt}
 use Rattle.meaning.specs.LongerStrides.{Outermost, TableOutermost}
-use Rattle.geometry.specs.Lines.{along, on-line, ahead-of, ahead-le}
+use Rattle.geometry.specs.Numbers.{shift-shift3}
+use Rattle.geometry.specs.Lines.{along, on-line, ahead-of, ahead-le, one-along}
 use Rattle.guarantee.specs.Demand2.{demand-two}
 
 -- ---- a row of least and greatest step, whose passes are the increments on from first
@@ -36,34 +35,28 @@ module _ {d : Description} {y : V2} {r : Row} (line : IsLine (d .nest) (d .nest 
   abbrev n : Nest
   n = d .nest
 
-  -- the next point beyond first or last would be an instance of smaller or greater step
-  beyond : (f : V3) (i : ℤ) → At n (n .place) y f → Within n (shift3 f i (increment n)) → At n (n .place) y (shift3 f i (increment n))
-  beyond f i a w = record { within = w; to = along line f i ∙ a .to }
-
-  before : Within n (shift3 (r .first) (negsuc 0) (increment n)) → ⊥
-  before w =
-      <ℤ-irrefl (less (stepOf n (increment n)) (stepOf n (r .first)) (line .ahead)
-      (subst (λ (t : ℤ). stepOf n (r .first) ≤ℤ t) (dot-shift (n .step) (r .first) (increment n) (negsuc 0))
-      (row .first .least _ (beyond (r .first) (negsuc 0) (row .first .here) w))))
-    where
-      less : (c a : ℤ) → pos 0 <ℤ c → a ≤ℤ (a +ℤ negsuc 0 *ℤ c) → a <ℤ a
-      less = linear 0 2 _ λ p m. simp gaps (omega arith)
-
-  after : Within n (shift3 (r .last) (pos 1) (increment n)) → ⊥
-  after w =
-      <ℤ-irrefl (less (stepOf n (increment n)) (stepOf n (r .last)) (line .ahead)
-      (subst (λ (t : ℤ). t ≤ℤ stepOf n (r .last)) (dot-shift (n .step) (r .last) (increment n) (pos 1))
-      (row .last .greatest _ (beyond (r .last) (pos 1) (row .last .here) w))))
-    where
-      less : (c a : ℤ) → pos 0 <ℤ c → (a +ℤ pos 1 *ℤ c) ≤ℤ a → a <ℤ a
-      less = linear 0 2 _ λ p m. simp gaps (omega arith)
-
   -- an instance is some increments on from first, and no further than last
   numbered : (x : V3) → At n (n .place) y x → (k : ℕ) × (k < r .count) × (x ≡ shift3 (r .first) (pos k) (increment n))
   numbered x a =
       let at = ahead-of line (r .first) x (row .first .here .to ∙ sym (a .to)) (row .first .least x a) in
       let most = ahead-le line (r .first) at (record { at = row .steps .0; eq = row .steps .1 }) (row .last .greatest x a) in
       (at .at, omega (arith, most, row .steps .2), at .eq)
+
+  -- so of the points of the line just these are inside the bounds
+  inside : (i : ℤ) → Within n (shift3 (r .first) i (increment n)) → (k : ℕ) × (k < r .count) × (i ≡ pos k)
+  inside i w =
+      let p = numbered _ (record { within = w; to = along line (r .first) i ∙ row .first .here .to }) in
+      (p .0, p .1, one-along line (r .first) i (pos (p .0)) (p .2))
+
+  before : Within n (shift3 (r .first) (negsuc 0) (increment n)) → ⊥
+  before w = let p = inside (negsuc 0) w in omega (arith, eq-out (p .2))
+
+  after : Within n (shift3 (r .last) (pos 1) (increment n)) → ⊥
+  after w =
+      let k = row .steps .0 in
+      let e = ap (λ (x : V3). shift3 x (pos 1) (increment n)) (row .steps .1) ∙ shift-shift3 (r .first) (increment n) (pos k) (pos 1) in
+      let p = inside (pos k +ℤ pos 1) (subst (Within n) e w) in
+      omega (arith, eq-out (p .2), p .1, row .steps .2)
 
   row-outermost : Outermost n y r
   row-outermost =

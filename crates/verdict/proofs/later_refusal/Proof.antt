@@ -4,7 +4,8 @@ use native.Mathlib.Omega.{arith}
 use Rattle.meaning.specs.Description.{streamsOf}
 use Rattle.meaning.specs.Accept.{testsFrom}
 use Rattle.refusals.specs.InRange.{nest-bounded}
-use Rattle.refusals.specs.Stages.{layoutTests, few, numbered, goes-on, stops}
+use Rattle.geometry.specs.Tests.{numbered}
+use Rattle.refusals.specs.Stages.{layoutTests, few, goes-on, stops}
 use Rattle.verdict.proofs.later_refusal.Statement.{statement}
 use Rattle.verdict.proofs.later_refusal.Tie as tie
 

@@ -4,7 +4,8 @@ use denote.Ref.{now}
 use Rattle.meaning.specs.Description.{descriptionOf}
 use Rattle.decode.specs.Refusals.{firstTests}
 use Rattle.decode.specs.Ranged.{decoded}
-use Rattle.refusals.specs.Stages.{laterTests, all-tests, numbered, goes-on, stops}
+use Rattle.geometry.specs.Tests.{numbered}
+use Rattle.refusals.specs.Stages.{laterTests, all-tests, goes-on, stops}
 use borrow.Author.Needs.{needs}
 use Rattle.verdict.proofs.refusal_within.Statement.{statement}
 use Rattle.verdict.proofs.refusal_within.Tie as tie
