@@ -11,17 +11,19 @@ pub enum Operation {
     Multiply,
     Smaller,
     Larger,
+    FixedMultiply,
 }
 
 impl Operation {
     /// The operations in the order of their words.
-    pub const ALL: [Operation; 6] = [
+    pub const ALL: [Operation; 7] = [
         Operation::Copy,
         Operation::Add,
         Operation::Subtract,
         Operation::Multiply,
         Operation::Smaller,
         Operation::Larger,
+        Operation::FixedMultiply,
     ];
 
     /// The operation of a word, if it has one.
@@ -44,8 +46,15 @@ impl Operation {
             Operation::Multiply => first.wrapping_mul(second),
             Operation::Smaller => first.min(second),
             Operation::Larger => first.max(second),
+            Operation::FixedMultiply => fixed_product(first, second),
         }
     }
+}
+
+/// Two words as unsigned 16.16 numbers: the exact product is divided by 2^16, rounded down, and taken modulo 2^32.
+fn fixed_product(first: u32, second: u32) -> u32 {
+    let exact = u128::from(first) * u128::from(second);
+    ((exact >> 16) % (1 << 32)) as u32
 }
 
 /// A body line. The two numbers after the streams are scratch.

@@ -171,14 +171,16 @@ fn row_words(row: &Row) -> Vec<u32> {
     numbers.into_iter().map(|number| number as u32).collect()
 }
 
-/// About 3,500 descriptions: the report's designs, document 01's cases, decimating filters, arrays at the limits, every refusal, accepted ones, such
-/// with a longer stride, and such with a word changed.
+/// About 3,500 descriptions: the report's designs, document 01's cases, decimating filters, fixed point products, arrays at the limits, every refusal,
+/// accepted ones, such with a longer stride, and such with a word changed.
 pub fn descriptions() -> Vec<Vec<u8>> {
     let mut designs = report_designs();
     designs.extend(worked_cases());
     designs.extend(strides());
+    designs.extend(fixed_point());
     designs.extend(limit_designs());
     let mut descriptions: Vec<Vec<u8>> = designs.iter().map(Description::bytes).collect();
+    descriptions.push(operation_seven());
     let mut random = Random::new(3);
     for number in given() {
         // Large arrays take long to make, and most of those that are tried are declined by 6.
@@ -251,6 +253,21 @@ fn strides() -> Vec<Description> {
         designs::longest_stride(),
     ]);
     strides
+}
+
+/// Request 2.1's products: design one with operation 6 in some sizes, and a filter with fractional coefficients.
+fn fixed_point() -> Vec<Description> {
+    let mut products: Vec<Description> = (0..=4).map(designs::fixed_one).collect();
+    products.extend([designs::smoothing(5, 2), designs::smoothing(63, 63)]);
+    products
+}
+
+/// Design one with operation 7, which there is none.
+fn operation_seven() -> Vec<u8> {
+    let mut words = designs::fixed_one(2).words();
+    let last = words.len();
+    words[last - 8] = 7;
+    bytes_of(&words)
 }
 
 /// The report's designs as large as they may be and one size larger, and 1,024 processes with 4,096 instances.

@@ -174,7 +174,7 @@ impl Reader<'_> {
 
     /// A body line; targets and operands run from 0 to m+1.
     fn line(&mut self, streams: usize) -> Result<Line, Refusal> {
-        let operation = Operation::of_word(self.word(0, 5)?).ok_or(Refusal(4))?;
+        let operation = Operation::of_word(self.word(0, 6)?).ok_or(Refusal(4))?;
         let mut number = || self.word(0, streams as i32 + 1).map(|word| word as usize);
         Ok(Line {
             operation,

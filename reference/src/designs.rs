@@ -5,10 +5,15 @@ use crate::description::{Description, Matrix};
 
 /// Scratch := first times second, sum := sum + scratch, of three streams.
 fn multiply_and_add(first: usize, second: usize, sum: usize) -> Vec<Line> {
+    sum_of(Operation::Multiply, first, second, sum)
+}
+
+/// Scratch := first and second by an operation, sum := sum + scratch, of three streams.
+fn sum_of(operation: Operation, first: usize, second: usize, sum: usize) -> Vec<Line> {
     let scratch = 3;
     vec![
         Line {
-            operation: Operation::Multiply,
+            operation,
             target: scratch,
             first,
             second,
@@ -73,6 +78,25 @@ pub fn polynomial_one(n: i32) -> Description {
 /// Polynomial product, design two: place i+j, loading 1 for c.
 pub fn polynomial_two(n: i32) -> Description {
     polynomial(n, [1, 1], [0, 0, 1])
+}
+
+/// Request 2.1: design one with operation 6 in place of 3, for 16.16 numbers.
+pub fn fixed_one(n: i32) -> Description {
+    Description {
+        body: sum_of(Operation::FixedMultiply, 0, 1, 2),
+        ..polynomial_one(n)
+    }
+}
+
+/// Request 2.1: a filter with fractional coefficients, on 16.16 numbers. Loops i over outputs 0..m and j over taps 0..n, step 2i+j, place i; streams h: j,
+/// x: i+j, y: i with loading 1. Each y is the sum of h times x over its window.
+pub fn smoothing(m: i32, n: i32) -> Description {
+    Description {
+        right: vec![m, n],
+        maps: vec![vec![vec![0, 1]], vec![vec![1, 1]], vec![vec![1, 0]]],
+        loading: vec![vec![0], vec![0], vec![1]],
+        ..fixed_one(n)
+    }
 }
 
 /// The matrix product with loops 0..n: streams a: (i,k), b: (k,j), c: (i,j), step i+j+k.

@@ -1,4 +1,4 @@
-//! The files of `examples/`: the report's designs and decimating filters as descriptions, and a replay script.
+//! The files of `examples/`: the report's designs, decimating filters and a filter with fractional coefficients as descriptions, and replay scripts.
 
 use crate::description::Description;
 use crate::designs;
@@ -10,8 +10,14 @@ pub struct Example {
     pub description: Description,
 }
 
-/// The polynomial product in designs one and two and the matrix product on three layouts, the small ones of document 01 and large ones, and request 2.2's
-/// decimating filter, for one channel and for several.
+/// A replay script and the name of its file.
+pub struct ExampleScript {
+    pub name: &'static str,
+    pub script: Script,
+}
+
+/// The polynomial product in designs one and two and the matrix product on three layouts, the small ones of document 01 and large ones, request 2.2's
+/// decimating filter, for one channel and for several, and request 2.1's fractional coefficients.
 pub fn examples() -> Vec<Example> {
     [
         ("polynomial-one", designs::polynomial_one(2)),
@@ -24,23 +30,47 @@ pub fn examples() -> Vec<Example> {
         ("matrix-straight-large", designs::matrix_straight(15)),
         ("decimating", designs::decimating(2, 2)),
         ("decimating-channels", designs::decimating_channels()),
+        ("smoothing", designs::smoothing(5, 2)),
     ]
     .into_iter()
     .map(|(name, description)| Example { name, description })
     .collect()
 }
 
-/// Document 01's polynomial product in design two: forty steps, who is ready, all the others, and the result.
-pub fn example_script() -> Vec<u8> {
-    Script {
-        description: designs::polynomial_two(2).bytes(),
-        values: vec![1, 2, 3, 4, 5, 6, 0, 0, 0, 0, 0],
-        calls: vec![
-            [1, 40, 0, 0],
-            [2, 0, 0, 0],
-            [1, u32::MAX, 0, 0],
-            [4, 0, 0, 0],
-        ],
-    }
-    .bytes()
+/// Document 01's polynomial product in design two, and the fractional filter on 16.16 numbers: forty steps, who is ready, all the others, and the result.
+pub fn example_scripts() -> Vec<ExampleScript> {
+    [
+        (
+            "polynomial-two",
+            designs::polynomial_two(2),
+            vec![1, 2, 3, 4, 5, 6, 0, 0, 0, 0, 0],
+        ),
+        ("smoothing", designs::smoothing(5, 2), smoothing_values()),
+    ]
+    .into_iter()
+    .map(|(name, description, values)| ExampleScript {
+        name,
+        script: Script {
+            description: description.bytes(),
+            values,
+            calls: vec![
+                [1, 40, 0, 0],
+                [2, 0, 0, 0],
+                [1, u32::MAX, 0, 0],
+                [4, 0, 0, 0],
+            ],
+        },
+    })
+    .collect()
+}
+
+/// Taps 0.25, 0.5, 0.25, eight samples, and six outputs that begin at 0, as 16.16 numbers.
+fn smoothing_values() -> Vec<u32> {
+    let taps = [0.25, 0.5, 0.25];
+    let samples = [1.5, 2.0, 4.5, 3.0, 2.25, 2.0, 1.0, 0.5];
+    [taps.as_slice(), &samples, &[0.0; 6]]
+        .concat()
+        .into_iter()
+        .map(|value: f64| (value * 65536.0) as u32)
+        .collect()
 }

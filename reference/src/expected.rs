@@ -9,7 +9,7 @@ use crate::compare;
 use crate::description::{bytes_of, Description};
 use crate::designs;
 use crate::divisor::shorten;
-use crate::examples::{example_script, examples};
+use crate::examples::{example_scripts, examples};
 use crate::random::Random;
 use crate::random_script::scripts;
 use crate::replay::{bundle, replay, Script};
@@ -38,7 +38,7 @@ pub fn write_files(directory: &Path) -> io::Result<()> {
     write_examples(directory)
 }
 
-/// Each example as examples/NAME.bin, and the script.
+/// Each example as examples/NAME.bin, and each script as examples/NAME.script.
 fn write_examples(directory: &Path) -> io::Result<()> {
     let folder = directory.join("examples");
     fs::create_dir_all(&folder)?;
@@ -46,7 +46,11 @@ fn write_examples(directory: &Path) -> io::Result<()> {
         let file = folder.join(example.name).with_extension("bin");
         fs::write(file, example.description.bytes())?;
     }
-    fs::write(folder.join("polynomial-two.script"), example_script())
+    for example in example_scripts() {
+        let file = folder.join(example.name).with_extension("script");
+        fs::write(file, example.script.bytes())?;
+    }
+    Ok(())
 }
 
 /// Each case as crates/NAME/stdin and crates/NAME/stdout.
@@ -174,7 +178,7 @@ fn compare_case() -> Case {
 /// How many random scripts are replayed.
 const SCRIPTS: usize = 1000;
 
-/// The replay of the report's designs, run to their end, and of random scripts, in one bundle.
+/// The replay of the examples, run to their end, of the example scripts, and of random scripts, in one bundle.
 fn replay_case() -> Case {
     let stdin = bundle(&replay_scripts());
     Case {
@@ -186,11 +190,11 @@ fn replay_case() -> Case {
 
 /// The scripts that are replayed.
 pub fn replay_scripts() -> Vec<Vec<u8>> {
-    examples()
-        .iter()
-        .map(|example| run_to_the_end(&example.description))
-        .chain(scripts(1, SCRIPTS))
-        .collect()
+    let ends = examples()
+        .into_iter()
+        .map(|it| run_to_the_end(&it.description));
+    let named = example_scripts().into_iter().map(|it| it.script.bytes());
+    ends.chain(named).chain(scripts(1, SCRIPTS)).collect()
 }
 
 /// A script that runs a description to its end and asks for all that came out.

@@ -6,23 +6,38 @@
 //   Store      gather and scatter in turn
 //   Execute    one instance on a store, as the plain run and as firing have it
 ghost use mathlib.Core.Path.{_≡_};
-ghost use Prim.Native.Nat.{_*_, _%_};
+ghost use Prim.Native.Nat.{_*_, _%_, _≤_};
 ghost use lib.ListN.{length, take};
-ghost use Rattle.meaning.specs.Body.{modulus, operate, runLine, runLines, gather, scatter};
+ghost use Rattle.meaning.specs.Operations.{modulus, fixedProduct, operate};
+ghost use Rattle.meaning.specs.Body.{runLine, runLines, gather, scatter};
 ghost use Rattle.body.specs.Fit.{Within, Fit, Places, Runnable};
 ghost use Rattle.body.specs.Store.{registers};
 ghost use Rattle.body.specs.Execute.{executeAt};
 use integers::V3;
 use meaning::Line;
 
+// The exact product.
+fn exact(a: u32, b: u32) -> u64
+    ensures { λ r. ⌜ (r ≡ a * b) × (r ≤ 18446744065119617025) ⌝ }
+{
+    a as u64 * b as u64
+}
+
 // The product modulo 2^32.
 pub fn times(a: u32, b: u32) -> u32
     ensures { λ r. ⌜ r ≡ (a * b) % modulus ⌝ }
 {
-    ((a as u64 * b as u64) % 0x1_0000_0000) as u32
+    (exact(a, b) % 0x1_0000_0000) as u32
 }
 
-// One operation: copy the first, add, subtract, multiply, smaller, larger.
+// The product of two 16.16 numbers: divided by 2^16, rounded down, modulo 2^32.
+pub fn fixed_times(a: u32, b: u32) -> u32
+    ensures { λ r. ⌜ r ≡ fixedProduct a b ⌝ }
+{
+    (exact(a, b) / 0x1_0000 % 0x1_0000_0000) as u32
+}
+
+// One operation: copy the first, add, subtract, multiply, smaller, larger, multiply as 16.16 numbers.
 pub fn operate(op: u32, a: u32, b: u32) -> u32
     ensures { λ r. ⌜ r ≡ operate op a b ⌝ }
 {
@@ -32,7 +47,8 @@ pub fn operate(op: u32, a: u32, b: u32) -> u32
         2 => std::num::wrapping_sub_u32(a, b),
         3 => times(a, b),
         4 => { if b < a { b } else { a } }
-        _ => { if a < b { b } else { a } }
+        5 => { if a < b { b } else { a } }
+        _ => fixed_times(a, b),
     }
 }
 

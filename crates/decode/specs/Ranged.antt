@@ -25,6 +25,7 @@ use Rattle.meaning.specs.declared.Line.{Line}
 use Rattle.meaning.specs.declared.Description.{Description}
 use Rattle.meaning.specs.Lists.{every, numbersFrom}
 use Rattle.meaning.specs.Tests.{refusal}
+use Rattle.meaning.specs.Operations.{lastOperation}
 use Rattle.meaning.specs.Description.{sizesOf, matrixWords, leftAt, rightAt, directionAt, stepAt, placeAt, mapAt, loadingAt, lineAt, wordsOf, inRange, vectorAt, unit3, matrixAt, nestOf, loadingOf, streamOf, bodyLine, noStream, noLine, descriptionOf, refused1, refused2, refused3, refused4, refused5}
 use Rattle.decode.specs.Offsets.{Sized, two-or-three}
 use Rattle.decode.specs.Filled.{filled-each}
@@ -76,7 +77,7 @@ pub record RangedStream (t : Stream) : Type 0 where
 
 -- m is the number of streams
 pub record RangedLine (m : ℕ) (l : Line) : Type 0 where
-  pub operation : l .operation ≤ 5
+  pub operation : l .operation ≤ lastOperation
   pub target : l .target ≤ m + 1
   pub first : l .first ≤ m + 1
   pub second : l .second ≤ m + 1
@@ -202,7 +203,7 @@ module _ (s : List ℕ) (z : Sizes) (h : Sized z) (good : refused4 s z ≡ false
   line-ranged i f =
       record {
         operation =
-            leb-true (bitsAt s (lineAt z i)) 5
+            leb-true (bitsAt s (lineAt z i)) lastOperation
             (sym (in-operations z (lineAt z i) _ (bitsAt s (lineAt z i)) (omega (arith, order)) (omega (arith, order)) (omega arith) (omega arith))
             ∙ tested (lineAt z i) (omega arith) (omega arith));
         target = operand 1 (omega arith) (omega arith);

@@ -12,6 +12,7 @@ use mir.Syntax.{w32}
 use mir.Val.{toZ, sel}
 use Rattle.integers.specs.Words.{eqZ}
 use Rattle.meaning.specs.declared.Sizes.{Sizes}
+use Rattle.meaning.specs.Operations.{lastOperation}
 use Rattle.meaning.specs.Description.{directionAt, stepAt, placeAt, loadingAt, lineAt, between, inRange}
 use Rattle.decode.specs.Offsets.{Sized}
 
@@ -23,7 +24,7 @@ rangeTest z k n u =
     (cond (ltb k (placeAt z)) (leb n 8)
     (cond (ltb k (loadingAt z 0)) (leb n 4)
     (cond (ltb k (lineAt z 0)) (leb n 1)
-    (cond (eqb ((k - lineAt z 0) % 4) 0) (leb u 5)
+    (cond (eqb ((k - lineAt z 0) % 4) 0) (leb u lastOperation)
     (leb u (z .streams + 1)))))))
 
 -- ---- magnitudes and bits for signed words
@@ -56,7 +57,7 @@ bits-are u n h = go (ltb u (2 ^ 31)) refl
     go false e = lt-leb u n (omega (arith, ltb-false u (2 ^ 31) e))
 
 module _ (z : Sizes) (k u : ℕ) where
-  by-parts : (w : ℤ) → leb u 5 ≡ between (pos 0) (pos 5) w → leb u (z .streams + 1) ≡ between (pos 0) (pos (suc (z .streams))) w
+  by-parts : (w : ℤ) → leb u lastOperation ≡ between (pos 0) (pos lastOperation) w → leb u (z .streams + 1) ≡ between (pos 0) (pos (suc (z .streams))) w
       → rangeTest z k (natAbs w) u ≡ inRange z k w
   unfolding rangeTest
   by-parts w e g = rw (magnitude-is 63 w, direction-is w, magnitude-is 7 w, magnitude-is 3 w, magnitude-is 0 w, e, g)
@@ -64,7 +65,7 @@ module _ (z : Sizes) (k u : ℕ) where
   -- the test on magnitude and bits is document 01's
   pub range-is : Sized z → rangeTest z k (natAbs (toZ w32 u)) u ≡ inRange z k (toZ w32 u)
   range-is h =
-      by-parts (toZ w32 u) (bits-are u 5 (omega arith))
+      by-parts (toZ w32 u) (bits-are u lastOperation (omega arith))
       (ap (leb u) (add-one (z .streams)) ∙ bits-are u (suc (z .streams)) (omega (arith, h .most-streams)))
 
 -- ---- the test, by the part that word k is in
@@ -96,16 +97,16 @@ module _ (z : Sizes) (k n u : ℕ) where
           let a : directionAt z ≤ k = omega arith in
           let b : stepAt z ≤ k = omega arith in rw (le-ltb _ _ a, le-ltb _ _ b, le-ltb _ _ c, le-ltb _ _ d, lt-ltb _ _ e)
 
-      in-lines : lineAt z 0 ≤ k → rangeTest z k n u ≡ cond (eqb ((k - lineAt z 0) % 4) 0) (leb u 5) (leb u (z .streams + 1))
+      in-lines : lineAt z 0 ≤ k → rangeTest z k n u ≡ cond (eqb ((k - lineAt z 0) % 4) 0) (leb u lastOperation) (leb u (z .streams + 1))
       unfolding rangeTest
       in-lines e =
           let a : directionAt z ≤ k = omega arith in
           let b : stepAt z ≤ k = omega arith in rw (le-ltb _ _ a, le-ltb _ _ b, le-ltb _ _ c, le-ltb _ _ d, le-ltb _ _ e)
 
-      pub in-operations : lineAt z 0 ≤ k → (k - lineAt z 0) % 4 ≡ 0 → rangeTest z k n u ≡ leb u 5
+      pub in-operations : lineAt z 0 ≤ k → (k - lineAt z 0) % 4 ≡ 0 → rangeTest z k n u ≡ leb u lastOperation
       in-operations e f =
-          in-lines e ∙ ap (λ (b : Bool). cond b (leb u 5) (leb u (z .streams + 1))) (eq-eqb _ 0 f)
+          in-lines e ∙ ap (λ (b : Bool). cond b (leb u lastOperation) (leb u (z .streams + 1))) (eq-eqb _ 0 f)
 
       pub in-operands : lineAt z 0 ≤ k → ((k - lineAt z 0) % 4 ≡ 0 → ⊥) → rangeTest z k n u ≡ leb u (z .streams + 1)
       in-operands e f =
-          in-lines e ∙ ap (λ (b : Bool). cond b (leb u 5) (leb u (z .streams + 1))) (ne-eqb _ 0 f)
+          in-lines e ∙ ap (λ (b : Bool). cond b (leb u lastOperation) (leb u (z .streams + 1))) (ne-eqb _ 0 f)

@@ -17,7 +17,7 @@ use Rattle.meaning.specs.Space.{processes}
 use Rattle.meaning.specs.Description.{descriptionOf}
 use Rattle.meaning.specs.Body.{finalValues}
 use Rattle.meaning.specs.Accept.{refusalOf}
-use Rattle.meaning.specs.Calls.{lengthOf, answer, refusedBy, table, plainRun}
+use Rattle.meaning.specs.Calls.{lengthOf, answer, refusedBy, table, Written, plainRun}
 use Rattle.meaning.specs.Demand2.{TableSays, EveryPass, WrittenOrder, PlainSays, DemandTwo}
 use Rattle.geometry.specs.Instances.{within-in, in-within, instances-sorted, distinct}
 use Rattle.geometry.specs.Descriptions.{laid}
@@ -51,20 +51,23 @@ module _ (l : Limits) (s : List ℕ) (ok : refusalOf l s ≡ 0) where
       let dirs = laid l s ok .layout .dirs in
       record { members = λ x. (in-within dirs, within-in dirs); once = distinct dirs; sorted = instances-sorted dirs }
 
-  of-plain : (values output : List ℕ) → length values ≡ lengthOf (descriptionOf s) → length output ≡ lengthOf (descriptionOf s)
-      → (plainRun l s values output .answer ≡ Done) × PlainSays (descriptionOf s) values (plainRun l s values output .output)
+  -- lists of the right lengths: Plain run leaves the final values
+  pub plain-done : (values output : List ℕ) → length values ≡ lengthOf (descriptionOf s) → length output ≡ lengthOf (descriptionOf s)
+      → plainRun l s values output ≡ record { answer = Done; output = finalValues (descriptionOf s) values }
   unfolding plainRun refusal
-  of-plain values output h k =
+  plain-done values output h k =
       let m = lengthOf (descriptionOf s) in
       let ts : List Test = (20 if not (eqb (length values) m)) ∷ (28 if not (eqb (length output) m)) ∷ [] in
       let e =
-      not-declined ts (ap₂ (λ (b c : Bool). cond (not b) 20 (cond (not c) 28 0)) (eq-eqb (length values) m h) (eq-eqb (length output) m k)) in (
-        ap answer e,
-        record {
-          order = instances n;
-          written = written-order;
-          leaves = ap (λ (k : ℕ). cond (eqb k 0) (finalValues (descriptionOf s) values) output) e;
-        },
+      not-declined ts (ap₂ (λ (b c : Bool). cond (not b) 20 (cond (not c) 28 0)) (eq-eqb (length values) m h) (eq-eqb (length output) m k)) in
+      ap {B = Written l s} (λ (k : ℕ). record { answer = answer k; output = cond (eqb k 0) (finalValues (descriptionOf s) values) output }) e
+
+  of-plain : (values output : List ℕ) → length values ≡ lengthOf (descriptionOf s) → length output ≡ lengthOf (descriptionOf s)
+      → (plainRun l s values output .answer ≡ Done) × PlainSays (descriptionOf s) values (plainRun l s values output .output)
+  of-plain values output h k =
+      let e = plain-done values output h k in (
+        ap (λ (w : Written l s). w .answer) e,
+        record { order = instances n; written = written-order; leaves = ap (λ (w : Written l s). w .output) e },
       )
 
 -- DEMAND 2

@@ -15,6 +15,7 @@ use Rattle.integers.specs.Words.{eqZ}
 use Rattle.meaning.specs.declared.Sizes.{Sizes}
 use Rattle.meaning.specs.Lists.{every, numbersFrom}
 use Rattle.meaning.specs.Points.{Direction, Direction.onward, Direction.back, Between, Directed}
+use Rattle.meaning.specs.Operations.{lastOperation}
 use Rattle.meaning.specs.Description.{matrixWords, leftAt, rightAt, directionAt, stepAt, placeAt, mapAt, loadingAt, lineAt, wordsOf, inRange, nestOf, refused2, refused3, refused4}
 use Rattle.meaning.specs.Conditions.{SizesFit, wordTotal, WordsFit}
 use Rattle.network.specs.Cases.{Order, less, atLeast, order}
@@ -92,11 +93,11 @@ module _ (z : Sizes) (k : ℕ) (w : ℤ) where
           let b : stepAt z ≤ k = omega arith in
           rw (le-ltb _ _ a, le-ltb _ _ b, le-ltb _ _ c, le-ltb _ _ d, lt-ltb _ _ e) (says-between (negsuc 0) (pos 1) w)
 
-      in-operations : lineAt z 0 ≤ k → (k - lineAt z 0) % 4 ≡ 0 → Says (Between (pos 0) (pos 5) w) (inRange z k w)
+      in-operations : lineAt z 0 ≤ k → (k - lineAt z 0) % 4 ≡ 0 → Says (Between (pos 0) (pos lastOperation) w) (inRange z k w)
       in-operations e f =
           let a : directionAt z ≤ k = omega arith in
           let b : stepAt z ≤ k = omega arith in
-          rw (le-ltb _ _ a, le-ltb _ _ b, le-ltb _ _ c, le-ltb _ _ d, le-ltb _ _ e, eq-eqb _ 0 f) (says-between (pos 0) (pos 5) w)
+          rw (le-ltb _ _ a, le-ltb _ _ b, le-ltb _ _ c, le-ltb _ _ d, le-ltb _ _ e, eq-eqb _ 0 f) (says-between (pos 0) (pos lastOperation) w)
 
       in-operands : lineAt z 0 ≤ k → ((k - lineAt z 0) % 4 ≡ 0 → ⊥) → Says (Between (pos 0) (pos (z .streams + 1)) w) (inRange z k w)
       in-operands e f =
@@ -136,7 +137,7 @@ module _ (s : List ℕ) (z : Sizes) where
       → Says (Between (negsuc 0) (pos 1) (wordAt s (loadingAt z i + j))) (ok (loadingAt z i + j))
   loading-word i j g h = in-loading z (loadingAt z i + j) _ (omega arith) (omega arith) (omega (arith, part g (z .loops - 1)))
 
-  operation-word : (i : ℕ) → Says (Between (pos 0) (pos 5) (wordAt s (lineAt z i))) (ok (lineAt z i))
+  operation-word : (i : ℕ) → Says (Between (pos 0) (pos lastOperation) (wordAt s (lineAt z i))) (ok (lineAt z i))
   operation-word i = in-operations z (lineAt z i) _ (omega arith) (omega arith) (omega arith) (omega arith)
 
   operand-word : (i j : ℕ) → 1 ≤ j → j < 4 → Says (Between (pos 0) (pos (z .streams + 1)) (wordAt s (lineAt z i + j))) (ok (lineAt z i + j))

@@ -1,8 +1,6 @@
--- Document 01, the body and the plain run: operations modulo 2^32, lines, one instance on a store, the store after the first instances.
-use mathlib.Core.Bool.{cond}
+-- Document 01, the body and the plain run: lines, one instance on a store, the store after the first instances.
 use mathlib.Core.List.{List, [], _∷_, _++_, map}
-use Prim.Native.Nat.{ℕ, _+_, _*_, _-_, _^_, _%_}
-use lib.Dec.{eqb, ltb}
+use Prim.Native.Nat.{ℕ, _+_}
 use lib.ListN.{length, getD, set, take}
 use Rattle.integers.specs.Vectors.{image}
 use Rattle.integers.specs.declared.V3.{V3}
@@ -14,23 +12,10 @@ use Rattle.meaning.specs.Lists.{total}
 use Rattle.meaning.specs.Loops.{instances}
 use Rattle.meaning.specs.Space.{boxOf, rowIndex}
 use Rattle.meaning.specs.Streams.{elements}
+use Rattle.meaning.specs.Operations.{operate}
 use Rattle.meaning.specs.Description.{streamsOf, linesOf}
 
 -- ---- lines
-
--- "values are unsigned 32-bit and arithmetic is modulo 2^32"
-abbrev pub modulus : ℕ
-modulus = 2 ^ 32
-
--- "0 copy the first, 1 add, 2 subtract, 3 multiply, 4 smaller, 5 larger"
-abbrev pub operate : ℕ → ℕ → ℕ → ℕ
-operate op a b =
-    cond (eqb op 0) a
-    (cond (eqb op 1) ((a + b) % modulus)
-    (cond (eqb op 2) ((a + (modulus - b)) % modulus)
-    (cond (eqb op 3) ((a * b) % modulus)
-    (cond (eqb op 4) (cond (ltb b a) b a)
-    (cond (ltb a b) b a)))))
 
 -- one line of instance x, on the values of the streams and the two scratch values
 abbrev pub runLine : V3 → Line → List ℕ → List ℕ

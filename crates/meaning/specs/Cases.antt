@@ -1,7 +1,7 @@
 -- Document 01's cases marked P, as the requests leave them: one table, proved together by computing the definitions on the designs' bytes.
 use mathlib.Core.Path.{_≡_, refl}
 use mathlib.Core.Bool.{false}
-use mathlib.Core.List.{List, [], _∷_, map}
+use mathlib.Core.List.{List, [], _∷_, _++_, map}
 use Prim.Native.Nat.{ℕ}
 use lib.ListN.{getD, replicate, drop}
 use lib.IntN.{ℤ, pos, negsuc}
@@ -23,21 +23,34 @@ use Rattle.meaning.specs.Rules.{moveDown, sound, writeAll, apply, firstO
 use Rattle.meaning.specs.Answers.{acceptNumber, acceptValues}
 use Rattle.meaning.specs.Calls.{table, start, run, result, plainRun}
 use Rattle.meaning.specs.LongerStrides.{formerAccept}
+use Rattle.meaning.specs.FixedPoint as FixedPoint
 use Rattle.meaning.specs.Comparison.{Case, _is_, naturals, number, planar, eqList, firstWrong, agree-after}
-use Rattle.meaning.specs.Designs.{bytes, pair, polynomial, designOne, designTwo, decimating, values, nest, stream, blank, startedOn}
+use Rattle.meaning.specs.Designs.{bytes, pair, polynomial, designOne, designOneBy, designTwo, decimating, values, fixedValues, nest, stream, blank, startedWith}
 use Rattle.meaning.specs.Singles as Singles
 
 -- c's values by the plain run, and by the network run to its end from a state of n words, in two calls, which are computed sooner than one
-abbrev pub plainly : List ℕ → List ℤ
-plainly s = naturals (drop 6 (plainRun gaugeLimits s values (replicate 11 1) .output))
+abbrev pub plainly : List ℕ → List ℕ → List ℤ
+plainly s vs = naturals (drop 6 (plainRun gaugeLimits s vs (replicate 11 1) .output))
 
-abbrev pub byNetwork : List ℕ → ℕ → List ℤ
-byNetwork s n =
-    let half = run gaugeLimits s 60 (startedOn s n) .memory in
+abbrev pub byNetwork : List ℕ → List ℕ → ℕ → List ℤ
+byNetwork s vs n =
+    let half = run gaugeLimits s 60 (startedWith s vs n) .memory in
     naturals (drop 6 (result gaugeLimits s (replicate 11 1) (run gaugeLimits s 1000 half .memory) .output))
 
 abbrev pub product : List ℤ
 product = naturals (4 ∷ 13 ∷ 28 ∷ 27 ∷ 18 ∷ [])
+
+-- the same as 16.16 numbers
+abbrev pub fixedProducts : List ℤ
+fixedProducts = naturals (262144 ∷ 851968 ∷ 1835008 ∷ 1769472 ∷ 1179648 ∷ [])
+
+-- a times b by an operation, in design one on loops 0..0: the plain run's c, and the network's
+abbrev pub multiplied : ℕ → ℕ → ℕ → List ℤ
+multiplied op a b =
+    let s = designOneBy op 0 in
+    let vs : List ℕ = a ∷ b ∷ 0 ∷ [] in
+    let end = run gaugeLimits s 1000 (startedWith s vs 27) .memory in
+    naturals (drop 2 (plainRun gaugeLimits s vs (replicate 3 1) .output) ++ drop 2 (result gaugeLimits s (replicate 3 1) end .output))
 
 -- design one with another map of c and another first step coefficient
 abbrev crossing : ℕ → List ℕ
@@ -76,8 +89,21 @@ cases =
     ∷ (naturals (acceptValues (accept gaugeLimits designOne)) is naturals (3 ∷ 9 ∷ 11 ∷ 3 ∷ 61 ∷ 97 ∷ []))
     ∷ (naturals (acceptValues (accept gaugeLimits designTwo)) is naturals (5 ∷ 9 ∷ 11 ∷ 3 ∷ 95 ∷ 141 ∷ []))
     -- a 1,2,3, b 4,5,6, c zeros give c 4,13,28,27,18: by the plain run in both designs
-    ∷ (plainly designOne is product)
-    ∷ (plainly designTwo is product)
+    ∷ (plainly designOne values is product)
+    ∷ (plainly designTwo values is product)
+    -- operation 6 (request 2.1): 1.5 times 1.5 is 2.25, by the plain run and by the network; operation 3 wraps
+    ∷ (multiplied 6 98304 98304 is naturals (147456 ∷ 147456 ∷ []))
+    ∷ (multiplied 3 98304 98304 is naturals (1073741824 ∷ 1073741824 ∷ []))
+    -- 2^32 − 1 by itself is divided before it wraps; what is left over is dropped
+    ∷ (multiplied 6 4294967295 4294967295 is naturals (4294836224 ∷ 4294836224 ∷ []))
+    ∷ (multiplied 6 65535 65537 is naturals (65535 ∷ 65535 ∷ []))
+    -- design one with operation 6 has the figures of design one; a 1.0, 2.0, 3.0, b 4.0, 5.0, 6.0 give c 4.0, 13.0, 28.0, 27.0, 18.0
+    ∷ (naturals (acceptValues (accept gaugeLimits (designOneBy 6 2))) is naturals (3 ∷ 9 ∷ 11 ∷ 3 ∷ 61 ∷ 97 ∷ []))
+    ∷ (plainly (designOneBy 6 2) fixedValues is fixedProducts)
+    -- it was 4 before the request, and design one was accepted then too; operation 7 is 4
+    ∷ (number (acceptNumber (FixedPoint.formerAccept gaugeLimits (designOneBy 6 2))) is number 4)
+    ∷ (number (acceptNumber (FixedPoint.formerAccept gaugeLimits designOne)) is number 0)
+    ∷ (number (acceptNumber (accept gaugeLimits (designOneBy 7 2))) is number 4)
     -- design two with place i−j is 13
     ∷ (number (acceptNumber (accept gaugeLimits (slanted (pair (pos 2) (pos 1)) (pair (pos 1) (negsuc 0))))) is number 13)
     -- with place 2i+j and step 3i+j its increment is (1,−2) (request 2.2), and it is 13: not of a, but of b, which is unwritten as a is
@@ -111,8 +137,9 @@ cases =
     -- design one with bounds 0..0 takes 13 steps
     ∷ (number (getD (acceptValues (accept gaugeLimits (sized (pos 1) 0 0))) 5 0) is number 13)
     -- and the same c by the network, which takes longest to compute
-    ∷ (byNetwork designOne 61 is product)
-    ∷ (byNetwork designTwo 95 is product)
+    ∷ (byNetwork designOne values 61 is product)
+    ∷ (byNetwork designTwo values 95 is product)
+    ∷ (byNetwork (designOneBy 6 2) fixedValues 61 is fixedProducts)
     ∷ []
 
 pub proved : map (λ c. c .got) cases ≡ map (λ c. c .wanted) cases

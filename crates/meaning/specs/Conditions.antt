@@ -24,6 +24,7 @@ use Rattle.meaning.specs.Lists.{each, numbers}
 use Rattle.meaning.specs.Loops.{stepOf, placeOf}
 use Rattle.meaning.specs.Space.{Box}
 use Rattle.meaning.specs.Points.{Direction, Between, Within, At, IsLine, Inside}
+use Rattle.meaning.specs.Operations.{lastOperation}
 use Rattle.meaning.specs.Description.{sizesOf, matrixWords, leftAt, rightAt, directionAt, stepAt, placeAt, mapAt, loadingAt, lineAt, descriptionOf, noStream, streamsOf, linesOf}
 use Rattle.meaning.specs.Accept.{accept, figures}
 
@@ -40,7 +41,8 @@ abbrev pub wordTotal : Sizes → ℕ
 wordTotal z =
     let r = z .loops in let m = z .streams in 3 + 4 * r + (r - 1) * r + m * ((r - 1) * r) + m * (r - 1) + 4 * z .lines
 
--- "bounds −64 to 64, directions 1 or −1, step −8 to 8, matrix words −4 to 4, loading −1 to 1, operations 0 to 5, targets and operands 0 to m+1"
+-- "bounds −64 to 64, directions 1 or −1, step −8 to 8, matrix words −4 to 4, loading −1 to 1, operations 0 to 5, targets and operands 0 to m+1"; operations
+-- 0 to 6 by request 2.1
 pub record WordsFit (s : List ℕ) (z : Sizes) : Type 0 where
   pub left : (j : ℕ) → j < z .loops → Between (negsuc 63) (pos 64) (wordAt s (leftAt z + j))
   pub right : (j : ℕ) → j < z .loops → Between (negsuc 63) (pos 64) (wordAt s (rightAt z + j))
@@ -49,7 +51,7 @@ pub record WordsFit (s : List ℕ) (z : Sizes) : Type 0 where
   pub place : (j : ℕ) → j < matrixWords z → Between (negsuc 3) (pos 4) (wordAt s (placeAt z + j))
   pub map : (i j : ℕ) → i < z .streams → j < matrixWords z → Between (negsuc 3) (pos 4) (wordAt s (mapAt z i + j))
   pub loading : (i j : ℕ) → i < z .streams → j < z .loops - 1 → Between (negsuc 0) (pos 1) (wordAt s (loadingAt z i + j))
-  pub operation : (i : ℕ) → i < z .lines → Between (pos 0) (pos 5) (wordAt s (lineAt z i))
+  pub operation : (i : ℕ) → i < z .lines → Between (pos 0) (pos lastOperation) (wordAt s (lineAt z i))
   pub target : (i : ℕ) → i < z .lines → Between (pos 0) (pos (z .streams + 1)) (wordAt s (lineAt z i + 1))
   pub first : (i : ℕ) → i < z .lines → Between (pos 0) (pos (z .streams + 1)) (wordAt s (lineAt z i + 2))
   pub second : (i : ℕ) → i < z .lines → Between (pos 0) (pos (z .streams + 1)) (wordAt s (lineAt z i + 3))
@@ -220,6 +222,11 @@ pub record First (Holds : Condition → Type 0) (listed : List Condition) (k : �
   pub number : numberOf failed ≡ k
   pub holds : (c : Condition) → In c passed → Holds c
   pub fails : Holds failed → ⊥
+
+-- accepted, or refused by the first of some conditions that fails
+pub data AnsweredBy (l : Limits) (s : List ℕ) (listed : List Condition) : Type 0 where
+  accepted : accept l s ≡ Accepted (figures (descriptionOf s)) → AnsweredBy l s listed
+  refused : (k : ℕ) → accept l s ≡ Refused k → First (Asks l s) listed k → AnsweredBy l s listed
 
 abbrev pub FirstFails : Limits → List ℕ → ℕ → Type 0
 FirstFails l s k = First (Asks l s) (conditions (sizesOf s .streams)) k

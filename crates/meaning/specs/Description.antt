@@ -18,6 +18,7 @@ use Rattle.meaning.specs.declared.Stream.{Stream}
 use Rattle.meaning.specs.declared.Line.{Line}
 use Rattle.meaning.specs.declared.Description.{Description}
 use Rattle.meaning.specs.Lists.{every, any, numbers, numbersFrom}
+use Rattle.meaning.specs.Operations.{lastOperation}
 
 -- ---- sizes and lengths
 
@@ -63,8 +64,8 @@ wordsOf z = lineAt z (z .lines)
 abbrev pub between : ℤ → ℤ → ℤ → Bool
 between lo hi w = leZ lo w && leZ w hi
 
--- the range of word k: bounds −64 to 64, directions 1 or −1, steps −8 to 8, matrix words −4 to 4, loading −1 to 1, operations 0 to 5, targets and
--- operands 0 to m+1
+-- the range of word k: bounds −64 to 64, directions 1 or −1, steps −8 to 8, matrix words −4 to 4, loading −1 to 1, operations 0 to 6 (5 before
+-- request 2.1), targets and operands 0 to m+1
 abbrev pub inRange : Sizes → ℕ → ℤ → Bool
 inRange z k w =
     cond (ltb k (directionAt z)) (between (negsuc 63) (pos 64) w)
@@ -72,7 +73,7 @@ inRange z k w =
     (cond (ltb k (placeAt z)) (between (negsuc 7) (pos 8) w)
     (cond (ltb k (loadingAt z 0)) (between (negsuc 3) (pos 4) w)
     (cond (ltb k (lineAt z 0)) (between (negsuc 0) (pos 1) w)
-    (cond (eqb ((k - lineAt z 0) % 4) 0) (between (pos 0) (pos 5) w)
+    (cond (eqb ((k - lineAt z 0) % 4) 0) (between (pos 0) (pos lastOperation) w)
     (between (pos 0) (pos (suc (z .streams))) w))))))
 
 -- ---- decoding: two loops become three

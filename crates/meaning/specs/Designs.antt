@@ -21,23 +21,34 @@ unfoldable pub bytes : List ℤ → List ℕ
 bytes [] = []
 bytes (z ∷ l) = wordBytes (ofZ w32 z) ++ bytes l
 
--- body: scratch := a times b, c := c + scratch; streams a, b, c are 0, 1, 2, scratch is 3
-abbrev pub product : List ℤ
-product = pos 3 ∷ pos 3 ∷ pos 0 ∷ pos 1 ∷ pos 1 ∷ pos 2 ∷ pos 2 ∷ pos 3 ∷ []
+-- body: scratch := a times b by an operation, c := c + scratch; streams a, b, c are 0, 1, 2, scratch is 3
+abbrev pub productBy : ℕ → List ℤ
+productBy op = pos op ∷ pos 3 ∷ pos 0 ∷ pos 1 ∷ pos 1 ∷ pos 2 ∷ pos 2 ∷ pos 3 ∷ []
 
--- the polynomial product on loops 0..m and 0..n: step, place and c's map as two words, loading of a, b and c as three
-abbrev pub polynomial : ℕ → ℕ → List ℤ → List ℤ → List ℤ → List ℤ → List ℕ
-polynomial m n step place c loading =
+abbrev pub product : List ℤ
+product = productBy 3
+
+-- the polynomial product on loops 0..m and 0..n: step, place and c's map as two words, loading of a, b and c as three, body
+abbrev pub polynomialBy : List ℤ → ℕ → ℕ → List ℤ → List ℤ → List ℤ → List ℤ → List ℕ
+polynomialBy body m n step place c loading =
     bytes
     ((pos 2 ∷ pos 3 ∷ pos 2 ∷ pos 0 ∷ pos 0 ∷ pos m ∷ pos n ∷ pos 1 ∷ pos 1 ∷ [])
-    ++ (step ++ (place ++ ((pos 1 ∷ pos 0 ∷ pos 0 ∷ pos 1 ∷ []) ++ (c ++ (loading ++ product))))))
+    ++ (step ++ (place ++ ((pos 1 ∷ pos 0 ∷ pos 0 ∷ pos 1 ∷ []) ++ (c ++ (loading ++ body))))))
+
+abbrev pub polynomial : ℕ → ℕ → List ℤ → List ℤ → List ℤ → List ℤ → List ℕ
+polynomial = polynomialBy product
 
 abbrev pub pair : ℤ → ℤ → List ℤ
 pair i j = i ∷ j ∷ []
 
+-- design one by an operation, on loops 0..n twice
+abbrev pub designOneBy : ℕ → ℕ → List ℕ
+designOneBy op n =
+    polynomialBy (productBy op) n n (pair (pos 2) (pos 1)) (pair (pos 1) (pos 0)) (pair (pos 1) (pos 1)) (pos 1 ∷ pos 0 ∷ pos 0 ∷ [])
+
 -- "loops 0..2 and 0..2, directions 1, step 2i+j, streams a: i, b: j, c: i+j. Design one: place i, loading 1 for a. Design two: place i+j, loading 1 for c"
 abbrev pub designOne : List ℕ
-designOne = polynomial 2 2 (pair (pos 2) (pos 1)) (pair (pos 1) (pos 0)) (pair (pos 1) (pos 1)) (pos 1 ∷ pos 0 ∷ pos 0 ∷ [])
+designOne = designOneBy 3 2
 
 abbrev pub designTwo : List ℕ
 designTwo = polynomial 2 2 (pair (pos 2) (pos 1)) (pair (pos 1) (pos 1)) (pair (pos 1) (pos 1)) (pos 0 ∷ pos 0 ∷ pos 1 ∷ [])
@@ -45,6 +56,10 @@ designTwo = polynomial 2 2 (pair (pos 2) (pos 1)) (pair (pos 1) (pos 1)) (pair (
 -- "a 1,2,3, b 4,5,6, c zeros"
 abbrev pub values : List ℕ
 values = 1 ∷ 2 ∷ 3 ∷ 4 ∷ 5 ∷ 6 ∷ 0 ∷ 0 ∷ 0 ∷ 0 ∷ 0 ∷ []
+
+-- the same as 16.16 numbers (request 2.1)
+abbrev pub fixedValues : List ℕ
+fixedValues = 65536 ∷ 131072 ∷ 196608 ∷ 262144 ∷ 327680 ∷ 393216 ∷ 0 ∷ 0 ∷ 0 ∷ 0 ∷ 0 ∷ []
 
 -- design one with loop 0 from right to left, step −2i+j and the body scratch := a times b, c := scratch − c, whose order counts; the hop of c is 3
 abbrev pub turned : List ℕ

@@ -8,6 +8,7 @@ pub mod Sorted
 pub mod Points
 pub mod Streams
 pub mod Pipes
+pub mod Operations
 pub mod Description
 pub mod Body
 pub mod Accept
@@ -22,6 +23,7 @@ pub mod Demand2
 pub mod Demand3
 pub mod FivePlaces
 pub mod LongerStrides
+pub mod FixedPoint
 pub mod Designs
 pub mod Comparison
 pub mod Singles

@@ -22,9 +22,9 @@ use Rattle.meaning.specs.Loops.{placeOf, increment}
 use Rattle.meaning.specs.Space.{processes}
 use Rattle.meaning.specs.Points.{Within, At, IsLine}
 use Rattle.meaning.specs.Description.{sizesOf, descriptionOf, streamsOf, refused5}
-use Rattle.meaning.specs.Accept.{small, refused6, refused7, refused8, refused10, byteTests, testsFrom, figures, answerOf, accept}
+use Rattle.meaning.specs.Accept.{small, refused6, refused7, refused8, refused10, byteTests, testsFrom, answerOf, accept}
 use Rattle.meaning.specs.Calls.{table}
-use Rattle.meaning.specs.Conditions.{Small, Condition, Condition.Begins, Condition.Sizes-fit, Condition.Long, Condition.Words-fit, Condition.Bounds-fit, Condition.Instances, Condition.Place-rank, Condition.Increment, Condition.Processes, Asks, ofStream, First}
+use Rattle.meaning.specs.Conditions.{Small, Condition, Condition.Begins, Condition.Sizes-fit, Condition.Long, Condition.Words-fit, Condition.Bounds-fit, Condition.Instances, Condition.Place-rank, Condition.Increment, Condition.Processes, Asks, ofStream, AnsweredBy}
 use Rattle.meaning.specs.Demand2.{rowAt}
 
 -- ---- Accept before the request
@@ -67,11 +67,6 @@ pub record WasNine (l : Limits) (s : List ℕ) : Type 0 where
   pub held : (c : Condition) → In c conditionsBefore → Asks l s c
   pub stride : LongStride (descriptionOf s .nest)
 
--- accepted, or refused by the first of the conditions after 9 that fails
-pub data AnsweredAfter (l : Limits) (s : List ℕ) : Type 0 where
-  accepted : accept l s ≡ Accepted (figures (descriptionOf s)) → AnsweredAfter l s
-  refused : (k : ℕ) → accept l s ≡ Refused k → First (Asks l s) (conditionsAfter (sizesOf s .streams)) k → AnsweredAfter l s
-
 -- ---- first and last of a row of Table
 
 -- of process y: "first and last are the outermost whole points of the process's own line that lie inside the box, on a face or not"
@@ -101,7 +96,7 @@ pub record Strides (l : Limits) (s : List ℕ) : Type 0 where
   pub as-before : (formerAccept l s ≡ Refused 9 → ⊥) → accept l s ≡ formerAccept l s
   -- what was refused by it met 1 to 8 and has a longer stride, and is answered by what comes after
   pub was-nine : (formerAccept l s ≡ Refused 9) ↔ WasNine l s
-  pub answered-after : WasNine l s → AnsweredAfter l s
+  pub answered-after : WasNine l s → AnsweredBy l s (conditionsAfter (sizesOf s .streams))
   -- first and last are outermost
   pub outermost : (f : Figures) → accept l s ≡ Accepted f → (lent : List Row) → length (processes (descriptionOf s .nest)) ≤ length lent
       → TableOutermost l s lent

@@ -6,8 +6,9 @@
 //   Space             boxes, row order, the process space; count, first and last
 //   Streams           line, move, hop; a stream's box and elements
 //   Pipes             pipes, their processes and elements; soak and drain
+//   Operations        what the operations of body lines do, and the last of them
 //   Description       bytes to words, lengths, ranges, decoding
-//   Body              operations, lines, one instance on a store, the plain run
+//   Body              lines, one instance on a store, the plain run
 //   Accept            the refusals 1 to 17 without 9, named one by one and chained; the figures
 //   Points, Sorted    points, lines, boxes and lists in order as propositions
 //   Array, State      what the rules look at; the words of the state and where they stand
@@ -19,6 +20,7 @@
 //   Demand3           lists of calls, and what holds after every one of them
 //   FivePlaces        request 2.8: what the lower limit of refusal 14 changes, and what it leaves
 //   LongerStrides     request 2.2: what Accept answers without refusal 9, and that first and last are outermost
+//   FixedPoint        request 2.1: what Accept answers to operation 6; what operations put, as propositions, by the plain run and by the network
 //   Designs, Cases    the documents' designs as bytes, and document 01's cases marked P, computed as one table (Comparison)
 //   Singles, Runs     cases beside them that hold the rules: tables, single steps and declined calls; states stopped in the middle, other orders
 //

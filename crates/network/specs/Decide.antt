@@ -1,6 +1,6 @@
 -- Tests and what they say: the tests of hands, uses and offers, as the rules make them, decide the conditions of the abstract network. Assumes nothing.
 use mathlib.Core.Path.{_≡_, refl}
-use mathlib.Core.Bool.{Bool, true, false, cond, _&&_, _||_}
+use mathlib.Core.Bool.{Bool, true, false, not, cond, _&&_, _||_}
 use mathlib.Core.Logic.{_⊎_, inl, inr}
 use Prim.Native.Nat.{ℕ, suc, _+_, _≤_, _<_}
 use native.Mathlib.Omega.{arith}
@@ -38,6 +38,10 @@ module _ {A B : Type 0} where
   pub says-as : {b : Bool} → (A → B) → (B → A) → Says A b → Says B b
   says-as f g (holds x) = holds (f x)
   says-as f g (fails n) = fails (λ y. n (g y))
+
+pub says-not : {A : Type 0} {b : Bool} → Says A b → Says (A → ⊥) (not b)
+says-not (holds x) = fails (λ n. n x)
+says-not (fails n) = holds n
 
 pub says-lt : (a b : ℕ) → Says (a < b) (ltb a b)
 says-lt a b = go (ltb a b) refl

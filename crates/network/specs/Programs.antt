@@ -11,7 +11,8 @@ use borrow.Author.Tests.{eqb-false}
 use Rattle.integers.specs.declared.V3.{V3}
 use Rattle.meaning.specs.declared.Line.{Line}
 use Rattle.meaning.specs.Lists.{any, numbers}
-use Rattle.meaning.specs.Body.{operate, runLine, runLines}
+use Rattle.meaning.specs.Operations.{operate}
+use Rattle.meaning.specs.Body.{runLine, runLines}
 use Rattle.meaning.specs.Array.{Array, instanceAt, countAt, streamCount, pipeThrough, stopsOn, stopAt}
 use Rattle.meaning.specs.Rules.{processOn, streamOn, bodyAt}
 use Rattle.network.specs.Lists.{length-numbers, getD-first, same-numbers}

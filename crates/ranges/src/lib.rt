@@ -57,7 +57,7 @@ fn within(z: Sizes, k: u32, n: u32, u: u32) -> bool
         return n <= 1;
     }
     if (k - body) % 4 == 0 {
-        return u <= 5;
+        return u <= 6;
     }
     u <= z.streams + 1
 }

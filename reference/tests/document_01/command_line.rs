@@ -6,7 +6,7 @@ use std::path::PathBuf;
 use std::process::{Command, Output, Stdio};
 
 use reference::designs::polynomial_two;
-use reference::examples::{example_script, examples};
+use reference::examples::{example_scripts, examples};
 use reference::expected::{cases, vectors};
 use reference::random_script::scripts;
 use reference::replay::replay;
@@ -117,8 +117,11 @@ fn expected_files() {
         let bytes = fs::read(file).expect("an example");
         assert_eq!(bytes, example.description.bytes());
     }
-    let file = place.join("examples").join("polynomial-two.script");
-    assert_eq!(fs::read(file).expect("a script"), example_script());
+    for example in example_scripts() {
+        let name = format!("{}.script", example.name);
+        let bytes = fs::read(place.join("examples").join(name)).expect("a script");
+        assert_eq!(bytes, example.script.bytes());
+    }
 }
 
 #[test]

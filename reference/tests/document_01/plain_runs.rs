@@ -37,10 +37,10 @@ fn operations() {
         let body = [line(operation, 0, 0, 1)];
         assert_eq!(after(&body, &[first, second]), [value, second]);
     }
-    for word in 0..=5 {
+    for word in 0..=6 {
         assert_eq!(Operation::of_word(word).map(Operation::word), Some(word));
     }
-    assert_eq!(Operation::of_word(6), None);
+    assert_eq!(Operation::of_word(7), None);
     assert_eq!(Operation::of_word(-1), None);
 }
 

@@ -56,7 +56,7 @@ fn each_of_accept() {
         (4, word(11, -5)),
         (4, word(13, 5)),
         (4, word(19, 2)),
-        (4, word(22, 6)),
+        (4, word(22, 7)),
         (4, word(23, 5)),
         (4, word(25, -1)),
         (5, one(|d| d.left[1] = 3)),

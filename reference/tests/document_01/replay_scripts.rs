@@ -1,7 +1,7 @@
 //! Replay: the lines of every call, lends, pokes and scripts that are cut off.
 
 use reference::designs::{polynomial_one, polynomial_two};
-use reference::examples::example_script;
+use reference::examples::example_scripts;
 use reference::replay::{bundle, replay, Call, Script};
 
 const STEP: u32 = 0;
@@ -225,8 +225,8 @@ fn cut_off_scripts() {
 }
 
 #[test]
-fn the_example() {
-    let expected = "\
+fn the_examples() {
+    let polynomial = "\
 accept 5 9 11 3 95 141
 start
 run 40 1
@@ -234,7 +234,17 @@ ready 3 0 7 0 0 0 0 0 0 0 0 0 0 0 0 0 0 0
 run 101 0
 result 1 2 3 4 5 6 4 13 28 27 18
 ";
-    assert_eq!(replay(&example_script()), expected);
+    let smoothing = "\
+accept 6 18 17 3 112 256
+start
+run 40 1
+ready 2 1 6 0 0 0 0 0 0 0 0 0 0 0 0 0 0 0
+run 216 0
+result 16384 32768 16384 98304 131072 294912 196608 147456 131072 65536 32768 163840 229376 208896 155648 118784 73728
+";
+    for (example, expected) in example_scripts().iter().zip([polynomial, smoothing]) {
+        assert_eq!(replay(&example.script.bytes()), expected);
+    }
 }
 
 #[test]

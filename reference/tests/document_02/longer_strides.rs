@@ -2,7 +2,7 @@
 
 use std::collections::BTreeMap;
 
-use reference::calls::{Accepted, Calls, Lent, Row};
+use reference::calls::{Accepted, Calls, Row};
 use reference::description::{bytes_of, Description};
 use reference::designs::{
     decimating, decimating_by_four, decimating_channels, longest_stride, polynomial_two,
@@ -13,14 +13,10 @@ use reference::random_stride::strided;
 use reference::vectors::{shortest, times, within_one, Point};
 use reference::Refusal;
 
-use crate::streams_before;
+use crate::{accept, results, streams_before};
 
 fn increment(description: &Description) -> Point {
     shortest(&description.place, &description.step, 7, 8).expect("an increment")
-}
-
-fn accept(description: &Description) -> Result<Accepted, Refusal> {
-    Calls::on(&description.bytes()).accept()
 }
 
 fn table(description: &Description) -> Vec<Row> {
@@ -233,37 +229,6 @@ fn the_longest_strides() {
         .any(|row| row.count == 2));
     assert_eq!(increment(&longest_stride()), [25, -28, 4]);
     assert!(accept(&longest_stride()).is_ok());
-}
-
-/// The received values of a run to the end, in element order.
-fn results(description: &Description, values: &[u32]) -> Vec<u32> {
-    let calls = Calls::on(&description.bytes());
-    let figures = calls.accept().expect("an accepted description");
-    let mut waiting = vec![0; figures.elements];
-    let mut received = vec![0; figures.elements];
-    let mut state = vec![0; figures.words];
-    assert_eq!(
-        calls.start(values, &mut waiting, &mut received, &mut state),
-        Ok(())
-    );
-    let lent = Lent {
-        waiting: &waiting,
-        received: &mut received,
-        state: &mut state,
-    };
-    assert_eq!(
-        calls.run(lent, u64::MAX).map(|ran| ran.done),
-        Ok(figures.steps)
-    );
-    let mut output = vec![0; figures.elements];
-    assert_eq!(
-        calls.result(&waiting, &received, &state, &mut output),
-        Ok(())
-    );
-    let mut plain = vec![0; figures.elements];
-    assert_eq!(calls.plain_run(values, &mut plain), Ok(()));
-    assert_eq!(output, plain);
-    output
 }
 
 /// The filters' outputs against their sums written out.

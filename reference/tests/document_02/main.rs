@@ -1,9 +1,47 @@
 //! Tests of the second implementation against document 02.
 
 mod five_places;
+mod fixed_point;
 mod longer_strides;
 
+use reference::calls::{Accepted, Calls, Lent};
 use reference::description::Description;
+use reference::Refusal;
+
+fn accept(description: &Description) -> Result<Accepted, Refusal> {
+    Calls::on(&description.bytes()).accept()
+}
+
+/// The received values of a run to the end, in element order: they are those of the plain run.
+fn results(description: &Description, values: &[u32]) -> Vec<u32> {
+    let calls = Calls::on(&description.bytes());
+    let figures = calls.accept().expect("an accepted description");
+    let mut waiting = vec![0; figures.elements];
+    let mut received = vec![0; figures.elements];
+    let mut state = vec![0; figures.words];
+    assert_eq!(
+        calls.start(values, &mut waiting, &mut received, &mut state),
+        Ok(())
+    );
+    let lent = Lent {
+        waiting: &waiting,
+        received: &mut received,
+        state: &mut state,
+    };
+    assert_eq!(
+        calls.run(lent, u64::MAX).map(|ran| ran.done),
+        Ok(figures.steps)
+    );
+    let mut output = vec![0; figures.elements];
+    assert_eq!(
+        calls.result(&waiting, &received, &state, &mut output),
+        Ok(())
+    );
+    let mut plain = vec![0; figures.elements];
+    assert_eq!(calls.plain_run(values, &mut plain), Ok(()));
+    assert_eq!(output, plain);
+    output
+}
 
 /// The description with the streams before a number only; its lines use scratch in place of the others.
 fn streams_before(description: &Description, number: usize) -> Description {

@@ -1,12 +1,10 @@
--- `body::operate` meets its contract: a sum, a difference and a product wrap at 2^32. Assumes nothing.
+-- `body::operate` meets its contract: a sum, a difference and the products wrap at 2^32. Assumes nothing.
 use mathlib.Core.Path.{_≡_, refl}
-use mathlib.Core.Bool.{cond}
 use Prim.Native.Nat.{ℕ, _+_, _-_, _%_, _<_}
 use native.Mathlib.Omega.{arith}
-use lib.Dec.{ltb}
 use borrow.Author.Needs.{needs}
 use borrow.Author.Tests.{lt-ltb, le-ltb, ne-eqb}
-use Rattle.meaning.specs.Body.{modulus, operate}
+use Rattle.meaning.specs.Operations.{modulus, fixedProduct, operate}
 use Rattle.body.proofs.operate.Statement.{statement}
 use Rattle.body.proofs.operate.Tie as tie
 
@@ -15,9 +13,9 @@ difference : (r a b : ℕ) → r < modulus → b < modulus → (r + b) % modulus
 difference r a b h k e = omega arith
 
 -- past the operations that the code names
-larger : (op a b : ℕ) → 4 < op → operate op a b ≡ cond (ltb a b) b a
-larger op a b h =
-    rw (ne-eqb op 0 (omega arith), ne-eqb op 1 (omega arith), ne-eqb op 2 (omega arith), ne-eqb op 3 (omega arith), ne-eqb op 4 (omega arith)) refl
+last : (op a b : ℕ) → 5 < op → operate op a b ≡ fixedProduct a b
+last op a b h =
+    rw (ne-eqb op 0 (omega arith), ne-eqb op 1 (omega arith), ne-eqb op 2 (omega arith), ne-eqb op 3 (omega arith), ne-eqb op 4 (omega arith), ne-eqb op 5 (omega arith)) refl
 
 wrapping-add-u32-requires : tie.Need-wrapping-add-u32-requires
 wrapping-add-u32-requires c κs = search needs
@@ -27,6 +25,9 @@ wrapping-sub-u32-requires c κs = search needs
 
 times-requires : tie.Need-times-requires
 times-requires c κs = search needs
+
+fixed-times-requires : tie.Need-fixed-times-requires
+fixed-times-requires c κs = search needs
 
 returns : tie.Need-returns
 returns c = rw (c .match .keys1) refl
@@ -49,10 +50,13 @@ returns-6 : tie.Need-returns-6
 returns-6 c = rw (c .before .match .keys5, le-ltb _ _ (c .if1 .left)) refl
 
 returns-7 : tie.Need-returns-7
-returns-7 c = let g = c .before .before .args in rw (larger (g .op) (g .a) (g .b) (omega arith), lt-ltb _ _ (c .if2 .taken)) refl
+returns-7 c = rw (c .before .match .keys6, lt-ltb _ _ (c .if2 .taken)) refl
 
 returns-8 : tie.Need-returns-8
-returns-8 c = let g = c .before .before .args in rw (larger (g .op) (g .a) (g .b) (omega arith), le-ltb _ _ (c .if2 .left)) refl
+returns-8 c = rw (c .before .match .keys6, le-ltb _ _ (c .if2 .left)) refl
+
+returns-9 : tie.Need-returns-9
+returns-9 c = let g = c .before .before .args in rw (last (g .op) (g .a) (g .b) (omega arith)) (c .fixed-times .ensures)
 
 pub operate-spec : {M : Type 1} → statement M
 operate-spec =
@@ -61,6 +65,7 @@ operate-spec =
     wrapping-add-u32-requires
     wrapping-sub-u32-requires
     times-requires
+    fixed-times-requires
     returns
     returns-2
     returns-3
@@ -68,4 +73,5 @@ operate-spec =
     returns-5
     returns-6
     returns-7
-    returns-8)
+    returns-8
+    returns-9)

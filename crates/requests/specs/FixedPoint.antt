@@ -1,0 +1,132 @@
+-- Request 2.1, "fixed point products": an operation word of 6 no longer meets refusal 4; the plain run leaves what the loops leave, line by line; and the
+-- network finishes with the plain run's values. Assumes nothing.
+use mathlib.Core.Path.{_≡_, refl, sym, _∙_, ap, subst}
+use mathlib.Core.Logic.{_↔_}
+use mathlib.Core.Bool.{Bool, true, false}
+use mathlib.Core.List.{List, _++_, map, List·Memᴰ as In}
+use Prim.Native.Nat.{ℕ, suc, _-_, _^_, _≤_}
+use native.Mathlib.Omega.{arith}
+use lib.Dec.{T, ltb, eqb, eqb→eq, eqb-refl}
+use lib.ListN.{length, take, replicate}
+use lib.Seq.{take-append-seam}
+use lib.IntN.{pos, negsuc}
+use mir.Syntax.{w32}
+use mir.Val.{toZ, sel}
+use Rattle.integers.specs.Differences.{le-out}
+use Rattle.integers.specs.Bytes.{bitsAt, wordAt}
+use Rattle.meaning.specs.declared.Limits.{Limits}
+use Rattle.meaning.specs.declared.Line.{Line}
+use Rattle.meaning.specs.declared.Description.{Description}
+use Rattle.meaning.specs.declared.Figures.{Figures}
+use Rattle.meaning.specs.declared.Acceptance.the-variants.{Accepted}
+use Rattle.meaning.specs.declared.Answer.the-variants.{Done}
+use Rattle.meaning.specs.Tests.{refusal}
+use Rattle.meaning.specs.Loops.{instances}
+use Rattle.meaning.specs.Points.{Between}
+use Rattle.meaning.specs.Operations.{lastOperation}
+use Rattle.meaning.specs.Description.{sizesOf, lineAt, bodyLine, noLine, descriptionOf, linesOf}
+use Rattle.meaning.specs.Accept.{byteTests, refusalOf, answerOf, accept}
+use Rattle.meaning.specs.Lists.{numbers}
+use Rattle.meaning.specs.Rules.{Memory}
+use Rattle.meaning.specs.Calls.{lengthOf, start, result, Written, plainRun}
+use Rattle.meaning.specs.Conditions.{Meets}
+use Rattle.meaning.specs.Demand3.{Call, memoryAfter, grantedBy, allReceived}
+use Rattle.meaning.specs.FixedPoint.{HasSix, hasSix, testsAfter, formerTests, formerAccept, conditionsBefore, conditionsAfter, WasFour, Loops, Words, FixedPoint}
+use Rattle.geometry.specs.Tests.{numbered}
+use Rattle.geometry.specs.Members.{map-in, numbers-in, any-yes, yes-any}
+use Rattle.network.specs.Lists.{length-numbers}
+use Rattle.network.specs.Decide.{Says}
+use Rattle.network.specs.Starts.{proper}
+use Rattle.guarantee.specs.Refusals.{says-by}
+use Rattle.guarantee.specs.Acceptance.{tries, accepted-not-refused, accepted-exactly}
+use Rattle.guarantee.specs.Demand2.{plain-done}
+use Rattle.guarantee.specs.Guarantee.{guarantee}
+use Rattle.requests.specs.Dropped.{Compared, Compared.same, Compared.given, Dropped, dropped}
+use Rattle.requests.specs.PlainLoops.{Allowed, loops-exactly}
+
+-- ---- Accept
+
+says-six : (d : Description) → Says (HasSix d) (hasSix d)
+says-six d =
+    says-by (hasSix d) (λ t. let r = any-yes is (linesOf d) t in (r .it, r .mem, eqb→eq (r .it .operation) 6 (r .ok)))
+    (λ p. yes-any is (p .1) (subst (λ (k : ℕ). T (eqb (p .0 .operation) k)) (p .2) (eqb-refl (p .0 .operation))))
+  where
+    is : Line → Bool
+    is t = eqb (t .operation) 6
+
+module _ (l : Limits) (s : List ℕ) where
+  abbrev d : Description
+  d = descriptionOf s
+
+  four : Dropped l s conditionsBefore (conditionsAfter (sizesOf s .streams)) (HasSix d) 4 (refusal (formerTests l s))
+  unfolding refusalOf numbered
+  four = dropped l s conditionsBefore (conditionsAfter (sizesOf s .streams)) (byteTests s) (testsAfter l s) 4 (says-six d) refl tt (tries l s) refl
+
+  as-before : (WasFour l s → ⊥) → accept l s ≡ formerAccept l s
+  unfolding accept
+  as-before other = go (four .compared)
+    where
+      go : Compared l s conditionsBefore (HasSix d) 4 (refusal (formerTests l s)) → answerOf s (refusalOf l s) ≡ formerAccept l s
+      go (same g) = ap (answerOf s) (sym g)
+      go (given h six g) = absurd (other (record { held = h; six = six }))
+
+  -- ---- Plain run
+
+  -- the operation words of a description that meets the conditions
+  bits-most : (u n : ℕ) → Between (pos 0) (pos n) (toZ w32 u) → u ≤ n
+  bits-most u n h = go (ltb u (2 ^ 31)) h
+    where
+      go : (b : Bool) → Between (pos 0) (pos n) (sel b (pos u) (negsuc (2 ^ 32 - suc u))) → u ≤ n
+      go true h = omega (arith, le-out (h .hi))
+      go false h = absurd (omega (arith, le-out (h .lo)))
+
+  lines-are : linesOf d ≡ map (bodyLine s (sizesOf s)) (numbers (sizesOf s .lines))
+  unfolding descriptionOf
+  lines-are =
+      let ls = map (bodyLine s (sizesOf s)) (numbers (sizesOf s .lines)) in
+      let rest = replicate (8 - sizesOf s .lines) noLine in
+      subst (λ (n : ℕ). take n (ls ++ rest) ≡ ls) (length-numbers (bodyLine s (sizesOf s)) 0 (sizesOf s .lines)) (take-append-seam ls rest)
+
+  accepted-meets : refusalOf l s ≡ 0 → Meets l s
+  unfolding accept
+  accepted-meets ok = accepted-exactly l s .0 (ap (answerOf s) ok)
+
+  allowed : Meets l s → Allowed (linesOf d)
+  unfolding bodyLine wordAt
+  allowed m t k =
+      let z = sizesOf s in
+      let r = map-in (bodyLine s z) (numbers (z .lines)) (subst (In t) lines-are k) in
+      let b = numbers-in 0 (z .lines) (r .mem) in
+      let h = bits-most (bitsAt s (lineAt z (r .from))) lastOperation (m .words .operation (r .from) (omega (arith, b .1))) in
+      omega (arith, h, ap (λ (u : Line). u .operation) (r .is))
+
+  plain : (f : Figures) → accept l s ≡ Accepted f → (values output : List ℕ) → Words values → length values ≡ lengthOf d
+      → length output ≡ lengthOf d → (left : List ℕ)
+      → Loops d (instances (d .nest)) values left ↔ (plainRun l s values output ≡ record { answer = Done; output = left })
+  plain f e values output w h k left =
+      let ok = accepted-not-refused l s f e in
+      let done = plain-done l s ok values output h k in
+      let loops = loops-exactly d (allowed (accepted-meets ok)) (instances (d .nest)) values left w in (
+        λ r. done ∙ ap {B = Written l s} (λ (o : List ℕ). record { answer = Done; output = o }) (sym (loops .0 r)),
+        λ g. loops .1 (ap (λ (o : Written l s). o .output) (sym g ∙ done)),
+      )
+
+  -- ---- the network
+
+  network : (values : List ℕ) (M : Memory) → start l s values M .answer ≡ Done → (cs : List Call)
+      → allReceived d (grantedBy l s (start l s values M .memory) cs) ≡ true → (output : List ℕ) → length output ≡ lengthOf d
+      → result l s output (memoryAfter l s (start l s values M .memory) cs) ≡ plainRun l s values output
+  network values M e cs out output h =
+      let p = proper l s values M e in
+      guarantee l s values M e cs .late out output h ∙ sym (plain-done l s (p .accepted) values output (p .values-length) h)
+
+-- REQUEST 2.1
+pub fixed-point : FixedPoint
+fixed-point l s =
+    record {
+      was-four = λ w. ap (answerOf s) (four l s .was-given (w .held) (w .six));
+      answered-after = λ w. four l s .answered-after (w .held);
+      as-before = as-before l s;
+      plain = plain l s;
+      network = network l s;
+    }

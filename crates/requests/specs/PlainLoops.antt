@@ -1,0 +1,127 @@
+-- The loops, a line at a time by what its operation puts, leave exactly what the plain run computes, for words. Assumes nothing.
+use mathlib.Core.Path.{_≡_, refl, sym, _∙_, ap, subst}
+use mathlib.Core.Logic.{_⊎_, inl, inr, _↔_}
+use mathlib.Core.List.{List, [], _∷_, _++_, List·Memᴰ as In, List·Memᴰ·head as here, List·Memᴰ·tail as there, List·Memᴰ·append-cases}
+use Prim.Native.Nat.{ℕ, zero, suc, _≤_, _<_}
+use native.Mathlib.Omega.{arith}
+use lib.ListN.{length, getD, set, take, length-map}
+use Rattle.integers.specs.declared.V3.{V3}
+use Rattle.meaning.specs.declared.Line.{Line}
+use Rattle.meaning.specs.declared.Description.{Description}
+use Rattle.meaning.specs.Operations.{modulus, lastOperation, operate}
+use Rattle.meaning.specs.Description.{linesOf}
+use Rattle.meaning.specs.Body.{runLine, runLines, touchedBy, gather, scatter, execute, executeAll}
+use Rattle.meaning.specs.FixedPoint.{Lines, Lines.none as lines-end, Lines.next as line, Loops, Loops.none as loops-end, Loops.next as instance, Words}
+use Rattle.geometry.specs.Members.{map-in}
+use Rattle.requests.specs.Operations.{word-result, puts-exactly}
+
+-- ---- lists of words
+
+word-at : (vs : List ℕ) → Words vs → (i : ℕ) → getD vs i 0 < modulus
+word-at [] w i = omega arith
+word-at (v ∷ vs) w zero = w v (here refl)
+word-at (v ∷ vs) w (suc i) = word-at vs (λ u k. w u (there k)) i
+
+words-set : (vs : List ℕ) (i r : ℕ) → Words vs → r < modulus → Words (set vs i r)
+words-set [] i r w h u k = w u k
+words-set (v ∷ vs) zero r w h u (here e) = omega arith
+words-set (v ∷ vs) zero r w h u (there k) = w u (there k)
+words-set (v ∷ vs) (suc i) r w h u (here e) = w u (here e)
+words-set (v ∷ vs) (suc i) r w h u (there k) = words-set vs i r (λ t j. w t (there j)) h u k
+
+words-scatter : (store es vs : List ℕ) → Words store → Words vs → Words (scatter store es vs)
+unfolding scatter
+words-scatter store [] vs w u = w
+words-scatter store (e ∷ es) [] w u = w
+words-scatter store (e ∷ es) (v ∷ vs) w u = words-scatter (set store e v) es vs (words-set store e v w (u v (here refl))) (λ t j. u t (there j))
+
+-- as an instance begins
+words-gather : (store es : List ℕ) → Words store → Words (gather store es ++ (0 ∷ 0 ∷ []))
+words-gather store es w v k = go (List·Memᴰ·append-cases (gather store es) k)
+  where
+    go : In v (gather store es) ⊎ In v (0 ∷ 0 ∷ []) → v < modulus
+    go (inl j) = let r = map-in (λ e. getD store e 0) es j in omega (arith, word-at store w (r .from), r .is)
+    go (inr (here e)) = omega arith
+    go (inr (there (here e))) = omega arith
+
+-- ---- lines
+
+abbrev pub Allowed : List Line → Type 0
+Allowed ts = (t : Line) → In t ts → t .operation ≤ lastOperation
+
+module _ (x : V3) where
+  -- what a line puts, and the registers after it
+  abbrev result : Line → List ℕ → ℕ
+  result t vs = operate (t .operation) (getD vs (t .first) 0) (getD vs (t .second) 0)
+
+  word-line : (t : Line) (vs : List ℕ) → t .operation ≤ lastOperation → Words vs → result t vs < modulus
+  word-line t vs h w = word-result (word-at vs w (t .first)) (word-at vs w (t .second)) (t .operation) h
+
+  words-line : (t : Line) (vs : List ℕ) → t .operation ≤ lastOperation → Words vs → Words (runLine x t vs)
+  words-line t vs h w = words-set vs (t .target) (result t vs) w (word-line t vs h w)
+
+  words-lines : (ts : List Line) (vs : List ℕ) → Allowed ts → Words vs → Words (runLines x ts vs)
+  unfolding runLines
+  words-lines [] vs a w = w
+  words-lines (t ∷ ts) vs a w = words-lines ts (runLine x t vs) (λ u k. a u (there k)) (words-line t vs (a t (here refl)) w)
+
+  lines-run : (ts : List Line) (vs : List ℕ) → Allowed ts → Words vs → Lines ts vs (runLines x ts vs)
+  unfolding runLines
+  lines-run [] vs a w = lines-end
+  lines-run (t ∷ ts) vs a w =
+      let h = a t (here refl) in
+      line (puts-exactly (word-at vs w (t .first)) (word-at vs w (t .second)) h .1 refl)
+      (lines-run ts (runLine x t vs) (λ u k. a u (there k)) (words-line t vs h w))
+
+  lines-only : {ts : List Line} {vs ws : List ℕ} → Allowed ts → Words vs → Lines ts vs ws → ws ≡ runLines x ts vs
+  unfolding runLines
+  lines-only a w lines-end = refl
+  lines-only {vs} a w (line {t} {ts} {r} p rest) =
+      let h = a t (here refl) in
+      let e : r ≡ result t vs = puts-exactly (word-at vs w (t .first)) (word-at vs w (t .second)) h .0 p in
+      lines-only (λ u k. a u (there k)) (words-set vs (t .target) r w (omega (arith, word-line t vs h w))) rest
+      ∙ ap (λ (q : ℕ). runLines x ts (set vs (t .target) q)) e
+
+-- ---- instances
+
+-- values past the places of a store are not put
+scatter-take : (store es vs : List ℕ) → scatter store es (take (length es) vs) ≡ scatter store es vs
+unfolding scatter
+scatter-take store [] vs = refl
+scatter-take store (e ∷ es) [] = refl
+scatter-take store (e ∷ es) (v ∷ vs) = scatter-take (set store e v) es vs
+
+module _ (d : Description) (a : Allowed (linesOf d)) where
+  -- the registers as instance x ends
+  abbrev ended : V3 → List ℕ → List ℕ
+  ended x store = runLines x (linesOf d) (gather store (touchedBy d x) ++ (0 ∷ 0 ∷ []))
+
+  execute-is : (x : V3) (store : List ℕ) → execute d x store ≡ scatter store (touchedBy d x) (ended x store)
+  unfolding execute
+  execute-is x store =
+      ap (λ (n : ℕ). scatter store (touchedBy d x) (take n (ended x store))) (length-map (touchedBy d x) (λ e. getD store e 0))
+      ∙ scatter-take store (touchedBy d x) (ended x store)
+
+  words-execute : (x : V3) (store : List ℕ) → Words store → Words (execute d x store)
+  words-execute x store w =
+      subst Words (sym (execute-is x store))
+      (words-scatter store (touchedBy d x) (ended x store) w (words-lines x (linesOf d) _ a (words-gather store (touchedBy d x) w)))
+
+  loops-run : (xs : List V3) (store : List ℕ) → Words store → Loops d xs store (executeAll d xs store)
+  unfolding executeAll
+  loops-run [] store w = loops-end
+  loops-run (x ∷ xs) store w =
+      instance (lines-run x (linesOf d) _ a (words-gather store (touchedBy d x) w))
+      (subst (λ (after : List ℕ). Loops d xs after (executeAll d xs (execute d x store))) (execute-is x store)
+      (loops-run xs (execute d x store) (words-execute x store w)))
+
+  loops-only : {xs : List V3} {store left : List ℕ} → Words store → Loops d xs store left → left ≡ executeAll d xs store
+  unfolding executeAll
+  loops-only w loops-end = refl
+  loops-only {store} w (instance {x} {xs} {vs} ls rest) =
+      let e : scatter store (touchedBy d x) vs ≡ execute d x store =
+      ap (scatter store (touchedBy d x)) (lines-only x a (words-gather store (touchedBy d x) w) ls) ∙ sym (execute-is x store) in
+      loops-only (subst Words (sym e) (words-execute x store w)) rest ∙ ap (executeAll d xs) e
+
+  pub loops-exactly : (xs : List V3) (store left : List ℕ) → Words store → Loops d xs store left ↔ (left ≡ executeAll d xs store)
+  loops-exactly xs store left w = (loops-only w, λ e. subst (Loops d xs store) (sym e) (loops-run xs store w))
