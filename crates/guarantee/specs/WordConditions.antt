@@ -39,7 +39,7 @@ refuses3 s z =
 -- ---- 4: a place of a list is place j of its part i
 
 -- part i of m parts of w words ends with the last or before it
-part : {i m : ℕ} → i < m → (w : ℕ) → i * w + w ≤ m * w
+pub part : {i m : ℕ} → i < m → (w : ℕ) → i * w + w ≤ m * w
 part {i} {m} h w = let e : i * w + w ≡ suc i * w = omega arith in subst (λ (n : ℕ). n ≤ m * w) (sym e) (mul-le-mul-right w h)
 
 in-part : (P : ℕ → Type 0) (a n k : ℕ) → a ≤ k → k < a + n → ((j : ℕ) → j < n → P (a + j)) → P k
@@ -137,7 +137,7 @@ module _ (s : List ℕ) (z : Sizes) where
       → Says (Between (negsuc 0) (pos 1) (wordAt s (loadingAt z i + j))) (ok (loadingAt z i + j))
   loading-word i j g h = in-loading z (loadingAt z i + j) _ (omega arith) (omega arith) (omega (arith, part g (z .loops - 1)))
 
-  operation-word : (i : ℕ) → Says (Between (pos 0) (pos lastOperation) (wordAt s (lineAt z i))) (ok (lineAt z i))
+  pub operation-word : (i : ℕ) → Says (Between (pos 0) (pos lastOperation) (wordAt s (lineAt z i))) (ok (lineAt z i))
   operation-word i = in-operations z (lineAt z i) _ (omega arith) (omega arith) (omega arith) (omega arith)
 
   operand-word : (i j : ℕ) → 1 ≤ j → j < 4 → Says (Between (pos 0) (pos (z .streams + 1)) (wordAt s (lineAt z i + j))) (ok (lineAt z i + j))

@@ -7,6 +7,8 @@ use mathlib.Core.List.{List, [], _∷_, _++_, List·Memᴰ as In}
 use Prim.Native.Nat.{ℕ, suc, _+_, _*_, _^_, _≤_, _<_}
 use lib.Dec.{eqb}
 use lib.ListN.{length, getD, set}
+use lib.IntN.{pos}
+use Rattle.integers.specs.Bytes.{bitsAt, wordAt}
 use Rattle.integers.specs.declared.V3.{V3}
 use Rattle.meaning.specs.declared.Limits.{Limits}
 use Rattle.meaning.specs.declared.Line.{Line}
@@ -18,8 +20,9 @@ use Rattle.meaning.specs.declared.Answer.the-variants.{Done}
 use Rattle.meaning.specs.Lists.{any, each, numbers}
 use Rattle.meaning.specs.Tests.{Test, _if_, refusal}
 use Rattle.meaning.specs.Loops.{instances}
+use Rattle.meaning.specs.Points.{Between}
 use Rattle.meaning.specs.Operations.{modulus}
-use Rattle.meaning.specs.Description.{sizesOf, descriptionOf, streamsOf, linesOf}
+use Rattle.meaning.specs.Description.{sizesOf, lineAt, descriptionOf, streamsOf, linesOf}
 use Rattle.meaning.specs.Body.{touchedBy, gather, scatter}
 use Rattle.meaning.specs.Accept.{byteTests, nestTests, testsFrom, answerOf, accept}
 use Rattle.meaning.specs.Rules.{Memory}
@@ -59,6 +62,14 @@ conditionsAfter streams = Bounds-fit ∷ Instances ∷ Place-rank ∷ Increment 
 pub record WasFour (l : Limits) (s : List ℕ) : Type 0 where
   pub held : (c : Condition) → In c conditionsBefore → Asks l s c
   pub six : HasSix (descriptionOf s)
+
+-- ---- two descriptions that differ at most in the operations of their lines, all from 0 to 6
+
+pub record OtherOperations (s t : List ℕ) : Type 0 where
+  pub long : length s ≡ length t
+  pub same : (k : ℕ) → ((i : ℕ) → i < sizesOf s .lines → k ≡ lineAt (sizesOf s) i → ⊥) → bitsAt s k ≡ bitsAt t k
+  pub operations : (i : ℕ) → i < sizesOf s .lines
+      → Between (pos 0) (pos 6) (wordAt s (lineAt (sizesOf s) i)) × Between (pos 0) (pos 6) (wordAt t (lineAt (sizesOf s) i))
 
 -- ---- what a line puts into its target
 
@@ -103,7 +114,9 @@ abbrev pub Words : List ℕ → Type 0
 Words values = (v : ℕ) → In v values → v < modulus
 
 pub record Fixed (l : Limits) (s : List ℕ) : Type 0 where
-  -- "an operation word of 6 no longer meets refusal 4": what met it for that alone is answered by what comes after, all else as before
+  -- "an operation word of 6 no longer meets refusal 4": Accept answers as it does to any other operation
+  pub any-operation : (t : List ℕ) → OtherOperations s t → accept l s ≡ accept l t
+  -- what met 4 for a 6 alone is answered by what comes after, all else as before
   pub was-four : WasFour l s → formerAccept l s ≡ Refused 4
   pub answered-after : WasFour l s → AnsweredBy l s (conditionsAfter (sizesOf s .streams))
   pub as-before : (WasFour l s → ⊥) → accept l s ≡ formerAccept l s

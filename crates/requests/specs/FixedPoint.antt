@@ -3,12 +3,11 @@
 use mathlib.Core.Path.{_≡_, refl, sym, _∙_, ap, subst}
 use mathlib.Core.Logic.{_↔_}
 use mathlib.Core.Bool.{Bool, true, false}
-use mathlib.Core.List.{List, _++_, map, List·Memᴰ as In}
+use mathlib.Core.List.{List, List·Memᴰ as In}
 use Prim.Native.Nat.{ℕ, suc, _-_, _^_, _≤_}
 use native.Mathlib.Omega.{arith}
 use lib.Dec.{T, ltb, eqb, eqb→eq, eqb-refl}
-use lib.ListN.{length, take, replicate}
-use lib.Seq.{take-append-seam}
+use lib.ListN.{length}
 use lib.IntN.{pos, negsuc}
 use mir.Syntax.{w32}
 use mir.Val.{toZ, sel}
@@ -24,7 +23,7 @@ use Rattle.meaning.specs.Tests.{refusal}
 use Rattle.meaning.specs.Loops.{instances}
 use Rattle.meaning.specs.Points.{Between}
 use Rattle.meaning.specs.Operations.{lastOperation}
-use Rattle.meaning.specs.Description.{sizesOf, lineAt, bodyLine, noLine, descriptionOf, linesOf}
+use Rattle.meaning.specs.Description.{sizesOf, lineAt, bodyLine, descriptionOf, linesOf}
 use Rattle.meaning.specs.Accept.{byteTests, refusalOf, answerOf, accept}
 use Rattle.meaning.specs.Lists.{numbers}
 use Rattle.meaning.specs.Rules.{Memory}
@@ -34,7 +33,6 @@ use Rattle.meaning.specs.Demand3.{Call, memoryAfter, grantedBy, allReceived}
 use Rattle.meaning.specs.FixedPoint.{HasSix, hasSix, testsAfter, formerTests, formerAccept, conditionsBefore, conditionsAfter, WasFour, Loops, Words, FixedPoint}
 use Rattle.geometry.specs.Tests.{numbered}
 use Rattle.geometry.specs.Members.{map-in, numbers-in, any-yes, yes-any}
-use Rattle.network.specs.Lists.{length-numbers}
 use Rattle.network.specs.Decide.{Says}
 use Rattle.network.specs.Starts.{proper}
 use Rattle.guarantee.specs.Refusals.{says-by}
@@ -42,6 +40,7 @@ use Rattle.guarantee.specs.Acceptance.{tries, accepted-not-refused, accepted-ex
 use Rattle.guarantee.specs.Demand2.{plain-done}
 use Rattle.guarantee.specs.Guarantee.{guarantee}
 use Rattle.requests.specs.Dropped.{Compared, Compared.same, Compared.given, Dropped, dropped}
+use Rattle.requests.specs.AnyOperation.{lines-are, any-operation}
 use Rattle.requests.specs.PlainLoops.{Allowed, loops-exactly}
 
 -- ---- Accept
@@ -80,22 +79,15 @@ module _ (l : Limits) (s : List ℕ) where
       go true h = omega (arith, le-out (h .hi))
       go false h = absurd (omega (arith, le-out (h .lo)))
 
-  lines-are : linesOf d ≡ map (bodyLine s (sizesOf s)) (numbers (sizesOf s .lines))
-  unfolding descriptionOf
-  lines-are =
-      let ls = map (bodyLine s (sizesOf s)) (numbers (sizesOf s .lines)) in
-      let rest = replicate (8 - sizesOf s .lines) noLine in
-      subst (λ (n : ℕ). take n (ls ++ rest) ≡ ls) (length-numbers (bodyLine s (sizesOf s)) 0 (sizesOf s .lines)) (take-append-seam ls rest)
-
   accepted-meets : refusalOf l s ≡ 0 → Meets l s
   unfolding accept
   accepted-meets ok = accepted-exactly l s .0 (ap (answerOf s) ok)
 
   allowed : Meets l s → Allowed (linesOf d)
-  unfolding bodyLine wordAt
+  unfolding descriptionOf bodyLine wordAt
   allowed m t k =
       let z = sizesOf s in
-      let r = map-in (bodyLine s z) (numbers (z .lines)) (subst (In t) lines-are k) in
+      let r = map-in (bodyLine s z) (numbers (z .lines)) (subst (In t) (lines-are s z) k) in
       let b = numbers-in 0 (z .lines) (r .mem) in
       let h = bits-most (bitsAt s (lineAt z (r .from))) lastOperation (m .words .operation (r .from) (omega (arith, b .1))) in
       omega (arith, h, ap (λ (u : Line). u .operation) (r .is))
@@ -124,6 +116,7 @@ module _ (l : Limits) (s : List ℕ) where
 pub fixed-point : FixedPoint
 fixed-point l s =
     record {
+      any-operation = λ t o. any-operation o l;
       was-four = λ w. ap (answerOf s) (four l s .was-given (w .held) (w .six));
       answered-after = λ w. four l s .answered-after (w .held);
       as-before = as-before l s;

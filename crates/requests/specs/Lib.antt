@@ -4,6 +4,7 @@ pub mod FivePlaces
 pub mod Dropped
 pub mod Outermost
 pub mod LongerStrides
+pub mod AnyOperation
 pub mod Operations
 pub mod PlainLoops
 pub mod FixedPoint
