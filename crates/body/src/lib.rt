@@ -6,7 +6,7 @@
 //   Store      gather and scatter in turn
 //   Execute    one instance on a store, as the plain run and as firing have it
 ghost use mathlib.Core.Path.{_≡_};
-ghost use Prim.Native.Nat.{_*_, _%_, _≤_};
+ghost use Prim.Native.Nat.{_*_, _-_, _%_, _≤_};
 ghost use lib.ListN.{length, take};
 ghost use Rattle.meaning.specs.Operations.{modulus, fixedProduct, operate};
 ghost use Rattle.meaning.specs.Body.{runLine, runLines, gather, scatter};
@@ -18,7 +18,7 @@ use meaning::Line;
 
 // The exact product.
 fn exact(a: u32, b: u32) -> u64
-    ensures { λ r. ⌜ (r ≡ a * b) × (r ≤ 18446744065119617025) ⌝ }
+    ensures { λ r. ⌜ (r ≡ a * b) × (r ≤ (modulus - 1) * (modulus - 1)) ⌝ }
 {
     a as u64 * b as u64
 }

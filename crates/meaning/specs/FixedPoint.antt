@@ -96,16 +96,16 @@ pub data Puts (a b : ℕ) : ℕ → ℕ → Type 0 where
   fixed : {q r : ℕ} → Divided (a * b) q → Modulo q r → Puts a b 6 r
 
 -- lines in order, on the values of the streams and the two scratch values
-pub data Lines : List Line → List ℕ → List ℕ → Type 0 where
-  none : {vs : List ℕ} → Lines [] vs vs
+pub data LinesLeave : List Line → List ℕ → List ℕ → Type 0 where
+  none : {vs : List ℕ} → LinesLeave [] vs vs
   next : {t : Line} {ts : List Line} {vs ws : List ℕ} {r : ℕ} → Puts (getD vs (t .first) 0) (getD vs (t .second) 0) (t .operation) r
-      → Lines ts (set vs (t .target) r) ws → Lines (t ∷ ts) vs ws
+      → LinesLeave ts (set vs (t .target) r) ws → LinesLeave (t ∷ ts) vs ws
 
 -- instances in order, on a value for each element; scratch is "zero at the start of every instance"
-pub data Loops (d : Description) : List V3 → List ℕ → List ℕ → Type 0 where
-  none : {store : List ℕ} → Loops d [] store store
-  next : {x : V3} {xs : List V3} {store vs left : List ℕ} → Lines (linesOf d) (gather store (touchedBy d x) ++ (0 ∷ 0 ∷ [])) vs
-      → Loops d xs (scatter store (touchedBy d x) vs) left → Loops d (x ∷ xs) store left
+pub data LoopsLeave (d : Description) : List V3 → List ℕ → List ℕ → Type 0 where
+  none : {store : List ℕ} → LoopsLeave d [] store store
+  next : {x : V3} {xs : List V3} {store vs left : List ℕ} → LinesLeave (linesOf d) (gather store (touchedBy d x) ++ (0 ∷ 0 ∷ [])) vs
+      → LoopsLeave d xs (scatter store (touchedBy d x) vs) left → LoopsLeave d (x ∷ xs) store left
 
 -- ---- REQUEST 2.1, for every description and all limits
 
@@ -123,7 +123,7 @@ pub record Fixed (l : Limits) (s : List ℕ) : Type 0 where
   -- "the plain run": it writes what the loops leave, and they leave nothing else
   pub plain : (f : Figures) → accept l s ≡ Accepted f → (values output : List ℕ) → Words values → length values ≡ lengthOf (descriptionOf s)
       → length output ≡ lengthOf (descriptionOf s) → (left : List ℕ)
-      → Loops (descriptionOf s) (instances (descriptionOf s .nest)) values left ↔ (plainRun l s values output ≡ record { answer = Done; output = left })
+      → LoopsLeave (descriptionOf s) (instances (descriptionOf s .nest)) values left ↔ (plainRun l s values output ≡ record { answer = Done; output = left })
   -- "and the network both have it": after a start and any calls, when all values are out, Result answers and writes what Plain run does
   pub network : (values : List ℕ) (M : Memory) → start l s values M .answer ≡ Done → (cs : List Call)
       → allReceived (descriptionOf s) (grantedBy l s (start l s values M .memory) cs) ≡ true → (output : List ℕ)

@@ -30,7 +30,7 @@ use Rattle.meaning.specs.Rules.{Memory}
 use Rattle.meaning.specs.Calls.{lengthOf, start, result, Written, plainRun}
 use Rattle.meaning.specs.Conditions.{Meets}
 use Rattle.meaning.specs.Demand3.{Call, memoryAfter, grantedBy, allReceived}
-use Rattle.meaning.specs.FixedPoint.{HasSix, hasSix, testsAfter, formerTests, formerAccept, conditionsBefore, conditionsAfter, WasFour, Loops, Words, FixedPoint}
+use Rattle.meaning.specs.FixedPoint.{HasSix, hasSix, testsAfter, formerTests, formerAccept, conditionsBefore, conditionsAfter, WasFour, LoopsLeave, Words, FixedPoint}
 use Rattle.geometry.specs.Tests.{numbered}
 use Rattle.geometry.specs.Members.{map-in, numbers-in, any-yes, yes-any}
 use Rattle.network.specs.Decide.{Says}
@@ -94,7 +94,7 @@ module _ (l : Limits) (s : List ℕ) where
 
   plain : (f : Figures) → accept l s ≡ Accepted f → (values output : List ℕ) → Words values → length values ≡ lengthOf d
       → length output ≡ lengthOf d → (left : List ℕ)
-      → Loops d (instances (d .nest)) values left ↔ (plainRun l s values output ≡ record { answer = Done; output = left })
+      → LoopsLeave d (instances (d .nest)) values left ↔ (plainRun l s values output ≡ record { answer = Done; output = left })
   plain f e values output w h k left =
       let ok = accepted-not-refused l s f e in
       let done = plain-done l s ok values output h k in

@@ -11,7 +11,7 @@ use Rattle.meaning.specs.declared.Description.{Description}
 use Rattle.meaning.specs.Operations.{modulus, lastOperation, operate}
 use Rattle.meaning.specs.Description.{linesOf}
 use Rattle.meaning.specs.Body.{runLine, runLines, touchedBy, gather, scatter, execute, executeAll}
-use Rattle.meaning.specs.FixedPoint.{Lines, Lines.none as lines-end, Lines.next as line, Loops, Loops.none as loops-end, Loops.next as instance, Words}
+use Rattle.meaning.specs.FixedPoint.{LinesLeave, LinesLeave.none as lines-end, LinesLeave.next as line, LoopsLeave, LoopsLeave.none as loops-end, LoopsLeave.next as instance, Words}
 use Rattle.geometry.specs.Members.{map-in}
 use Rattle.requests.specs.Operations.{word-result, puts-exactly}
 
@@ -65,7 +65,7 @@ module _ (x : V3) where
   words-lines [] vs a w = w
   words-lines (t ∷ ts) vs a w = words-lines ts (runLine x t vs) (λ u k. a u (there k)) (words-line t vs (a t (here refl)) w)
 
-  lines-run : (ts : List Line) (vs : List ℕ) → Allowed ts → Words vs → Lines ts vs (runLines x ts vs)
+  lines-run : (ts : List Line) (vs : List ℕ) → Allowed ts → Words vs → LinesLeave ts vs (runLines x ts vs)
   unfolding runLines
   lines-run [] vs a w = lines-end
   lines-run (t ∷ ts) vs a w =
@@ -73,7 +73,7 @@ module _ (x : V3) where
       line (puts-exactly (word-at vs w (t .first)) (word-at vs w (t .second)) h .1 refl)
       (lines-run ts (runLine x t vs) (λ u k. a u (there k)) (words-line t vs h w))
 
-  lines-only : {ts : List Line} {vs ws : List ℕ} → Allowed ts → Words vs → Lines ts vs ws → ws ≡ runLines x ts vs
+  lines-only : {ts : List Line} {vs ws : List ℕ} → Allowed ts → Words vs → LinesLeave ts vs ws → ws ≡ runLines x ts vs
   unfolding runLines
   lines-only a w lines-end = refl
   lines-only {vs} a w (line {t} {ts} {r} p rest) =
@@ -107,15 +107,15 @@ module _ (d : Description) (a : Allowed (linesOf d)) where
       subst Words (sym (execute-is x store))
       (words-scatter store (touchedBy d x) (ended x store) w (words-lines x (linesOf d) _ a (words-gather store (touchedBy d x) w)))
 
-  loops-run : (xs : List V3) (store : List ℕ) → Words store → Loops d xs store (executeAll d xs store)
+  loops-run : (xs : List V3) (store : List ℕ) → Words store → LoopsLeave d xs store (executeAll d xs store)
   unfolding executeAll
   loops-run [] store w = loops-end
   loops-run (x ∷ xs) store w =
       instance (lines-run x (linesOf d) _ a (words-gather store (touchedBy d x) w))
-      (subst (λ (after : List ℕ). Loops d xs after (executeAll d xs (execute d x store))) (execute-is x store)
+      (subst (λ (after : List ℕ). LoopsLeave d xs after (executeAll d xs (execute d x store))) (execute-is x store)
       (loops-run xs (execute d x store) (words-execute x store w)))
 
-  loops-only : {xs : List V3} {store left : List ℕ} → Words store → Loops d xs store left → left ≡ executeAll d xs store
+  loops-only : {xs : List V3} {store left : List ℕ} → Words store → LoopsLeave d xs store left → left ≡ executeAll d xs store
   unfolding executeAll
   loops-only w loops-end = refl
   loops-only {store} w (instance {x} {xs} {vs} ls rest) =
@@ -123,5 +123,5 @@ module _ (d : Description) (a : Allowed (linesOf d)) where
       ap (scatter store (touchedBy d x)) (lines-only x a (words-gather store (touchedBy d x) w) ls) ∙ sym (execute-is x store) in
       loops-only (subst Words (sym e) (words-execute x store w)) rest ∙ ap (executeAll d xs) e
 
-  pub loops-exactly : (xs : List V3) (store left : List ℕ) → Words store → Loops d xs store left ↔ (left ≡ executeAll d xs store)
-  loops-exactly xs store left w = (loops-only w, λ e. subst (Loops d xs store) (sym e) (loops-run xs store w))
+  pub loops-exactly : (xs : List V3) (store left : List ℕ) → Words store → LoopsLeave d xs store left ↔ (left ≡ executeAll d xs store)
+  loops-exactly xs store left w = (loops-only w, λ e. subst (LoopsLeave d xs store) (sym e) (loops-run xs store w))

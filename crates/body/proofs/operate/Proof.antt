@@ -15,7 +15,14 @@ difference r a b h k e = omega arith
 -- past the operations that the code names
 last : (op a b : ℕ) → 5 < op → operate op a b ≡ fixedProduct a b
 last op a b h =
-    rw (ne-eqb op 0 (omega arith), ne-eqb op 1 (omega arith), ne-eqb op 2 (omega arith), ne-eqb op 3 (omega arith), ne-eqb op 4 (omega arith), ne-eqb op 5 (omega arith)) refl
+    rw (
+      ne-eqb op 0 (omega arith),
+      ne-eqb op 1 (omega arith),
+      ne-eqb op 2 (omega arith),
+      ne-eqb op 3 (omega arith),
+      ne-eqb op 4 (omega arith),
+      ne-eqb op 5 (omega arith),
+    ) refl
 
 wrapping-add-u32-requires : tie.Need-wrapping-add-u32-requires
 wrapping-add-u32-requires c κs = search needs
