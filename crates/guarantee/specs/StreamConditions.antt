@@ -1,6 +1,7 @@
 -- Conditions 13 to 17 of a stream that has a line, against their tests. Assumes nothing.
 use mathlib.Core.Path.{_≡_, subst}
 use mathlib.Core.Bool.{Bool, true, false, not, cond, _&&_}
+use mathlib.Core.List.{List, List·Memᴰ as In}
 use Prim.Native.Nat.{ℕ, _≤_}
 use native.Mathlib.Omega.{arith}
 use lib.Dec.{T, T-not, ltb, eqb, eqb→eq, eqb-refl}
@@ -15,6 +16,7 @@ use Rattle.meaning.specs.declared.Nest.{Nest}
 use Rattle.meaning.specs.declared.Stream.{Stream}
 use Rattle.meaning.specs.declared.Line.{Line}
 use Rattle.meaning.specs.declared.Description.{Description}
+use Rattle.meaning.specs.Lists.{any}
 use Rattle.meaning.specs.Loops.{stepOf, placeOf}
 use Rattle.meaning.specs.Space.{eq2, boxOf}
 use Rattle.meaning.specs.Streams.{line, stationary, elements, touches, touched}
@@ -31,13 +33,18 @@ use Rattle.network.specs.Decide.{Says, Says.holds, Says.fails, says-and}
 use Rattle.guarantee.specs.Refusals.{Refuses, Refuses.met, Refuses.broken, refuses-as, refuses-not, says-by, says-eq2, says-small, refuses-less}
 use Rattle.guarantee.specs.NestConditions.{refuses-each, refuses-box}
 
-pub says-written : (d : Description) (i : ℕ) → Says (Written d i) (written d i)
-says-written d i =
-    says-by (written d i) (λ t. let r = any-yes is (linesOf d) t in (r .it, r .mem, eqb→eq (r .it .target) i (r .ok)))
-    (λ p. yes-any is (p .1) (subst (λ (k : ℕ). T (eqb (p .0 .target) k)) (p .2) (eqb-refl (p .0 .target))))
+-- some line has k for a word of its own
+pub says-line : (word : Line → ℕ) (k : ℕ) (ls : List Line)
+    → Says ((t : Line) × In t ls × (word t ≡ k)) (any (λ t. eqb (word t) k) ls)
+says-line word k ls =
+    says-by (any is ls) (λ t. let r = any-yes is ls t in (r .it, r .mem, eqb→eq (word (r .it)) k (r .ok)))
+    (λ p. yes-any is (p .1) (subst (λ (k : ℕ). T (eqb (word (p .0)) k)) (p .2) (eqb-refl (word (p .0)))))
   where
     is : Line → Bool
-    is t = eqb (t .target) i
+    is t = eqb (word t) k
+
+pub says-written : (d : Description) (i : ℕ) → Says (Written d i) (written d i)
+says-written d i = says-line (λ t. t .target) i (linesOf d)
 
 module _ {n : Nest} (s : Stream) (h : IsLine n (s .map) (line n s)) where
   -- ---- 13 and 14

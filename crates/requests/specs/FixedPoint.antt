@@ -6,7 +6,7 @@ use mathlib.Core.Bool.{Bool, true, false}
 use mathlib.Core.List.{List, List·Memᴰ as In}
 use Prim.Native.Nat.{ℕ, suc, _-_, _^_, _≤_}
 use native.Mathlib.Omega.{arith}
-use lib.Dec.{T, ltb, eqb, eqb→eq, eqb-refl}
+use lib.Dec.{ltb}
 use lib.ListN.{length}
 use lib.IntN.{pos, negsuc}
 use mir.Syntax.{w32}
@@ -32,10 +32,10 @@ use Rattle.meaning.specs.Conditions.{Meets}
 use Rattle.meaning.specs.Demand3.{Call, memoryAfter, grantedBy, allReceived}
 use Rattle.meaning.specs.FixedPoint.{HasSix, hasSix, testsAfter, formerTests, formerAccept, conditionsBefore, conditionsAfter, WasFour, LoopsLeave, Words, FixedPoint}
 use Rattle.geometry.specs.Tests.{numbered}
-use Rattle.geometry.specs.Members.{map-in, numbers-in, any-yes, yes-any}
+use Rattle.geometry.specs.Members.{map-in, numbers-in}
 use Rattle.network.specs.Decide.{Says}
 use Rattle.network.specs.Starts.{proper}
-use Rattle.guarantee.specs.Refusals.{says-by}
+use Rattle.guarantee.specs.StreamConditions.{says-line}
 use Rattle.guarantee.specs.Acceptance.{tries, accepted-not-refused, accepted-exactly}
 use Rattle.guarantee.specs.Demand2.{plain-done}
 use Rattle.guarantee.specs.Guarantee.{guarantee}
@@ -46,12 +46,7 @@ use Rattle.requests.specs.PlainLoops.{Allowed, loops-exactly}
 -- ---- Accept
 
 says-six : (d : Description) → Says (HasSix d) (hasSix d)
-says-six d =
-    says-by (hasSix d) (λ t. let r = any-yes is (linesOf d) t in (r .it, r .mem, eqb→eq (r .it .operation) 6 (r .ok)))
-    (λ p. yes-any is (p .1) (subst (λ (k : ℕ). T (eqb (p .0 .operation) k)) (p .2) (eqb-refl (p .0 .operation))))
-  where
-    is : Line → Bool
-    is t = eqb (t .operation) 6
+says-six d = says-line (λ t. t .operation) 6 (linesOf d)
 
 module _ (l : Limits) (s : List ℕ) where
   abbrev d : Description
