@@ -262,7 +262,7 @@ fn fixed_point() -> Vec<Description> {
     products
 }
 
-/// Design one with operation 7, which there is none.
+/// Design one with operation word 7, the first that is out of range.
 fn operation_seven() -> Vec<u8> {
     let mut words = designs::fixed_one(2).words();
     let last = words.len();

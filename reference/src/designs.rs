@@ -8,7 +8,7 @@ fn multiply_and_add(first: usize, second: usize, sum: usize) -> Vec<Line> {
     sum_of(Operation::Multiply, first, second, sum)
 }
 
-/// Scratch := first and second by an operation, sum := sum + scratch, of three streams.
+/// Scratch := first times second by an operation, sum := sum + scratch, of three streams.
 fn sum_of(operation: Operation, first: usize, second: usize, sum: usize) -> Vec<Line> {
     let scratch = 3;
     vec![

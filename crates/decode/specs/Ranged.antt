@@ -4,7 +4,6 @@ use mathlib.Core.Bool.{Bool, true, false, cond, _||_}
 use mathlib.Core.Logic.{_⊎_, inl, inr}
 use mathlib.Core.List.{List}
 use Prim.Native.Nat.{ℕ, suc, _+_, _*_, _-_, _≤_, _<_}
-use native.Mathlib.Nat.{mul-le-mul-right}
 use native.Mathlib.Omega.{arith}
 use lib.Dec.{leb, eqb}
 use borrow.Author.Tests.{leb-true, eqb-true, eq-eqb, ne-eqb, not-false}
@@ -15,6 +14,7 @@ use Rattle.integers.specs.declared.V3.{V3}
 use Rattle.integers.specs.declared.V2.{V2}
 use Rattle.integers.specs.declared.Matrix.{Matrix}
 use Rattle.integers.specs.Differences.{Abs}
+use Rattle.integers.specs.Order.{part}
 use Rattle.integers.specs.Vectors.{zero3}
 use Rattle.integers.specs.Bytes.{bitsAt, wordAt}
 use Rattle.integers.specs.Words.{not-less}
@@ -100,10 +100,6 @@ abs-of {w} {n} e = record { abs = leb-true (natAbs w) n e }
 direction-of : (w : ℤ) → eqb (natAbs w) 1 ≡ true → Direction w
 direction-of (pos a) e = inl (ap pos (eqb-true a 1 e))
 direction-of (negsuc a) e = let g : a ≡ 0 = omega (arith, eqb-true (suc a) 1 e) in inr (ap negsuc g)
-
--- part i of m parts of w words ends with the last or before it
-part : {i m : ℕ} → i < m → (w : ℕ) → i * w + w ≤ m * w
-part {i} {m} h w = let e : i * w + w ≡ suc i * w = omega arith in subst (λ (n : ℕ). n ≤ m * w) (sym e) (mul-le-mul-right w h)
 
 module _ (s : List ℕ) (z : Sizes) (h : Sized z) (good : refused4 s z ≡ false) where
   -- the parts stand in this order

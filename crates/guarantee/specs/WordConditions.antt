@@ -4,12 +4,12 @@ use mathlib.Core.Logic.{_⊎_, inl, inr}
 use mathlib.Core.Bool.{Bool, true, false, cond, _||_}
 use mathlib.Core.List.{List}
 use Prim.Native.Nat.{ℕ, zero, suc, _+_, _*_, _-_, _%_, _≤_, _<_}
-use native.Mathlib.Nat.{mul-le-mul-right}
 use native.Mathlib.Omega.{arith}
 use lib.Dec.{eqb}
 use lib.ListN.{length}
 use lib.IntN.{ℤ, pos, negsuc}
 use borrow.Author.Tests.{lt-ltb, le-ltb, eq-eqb, ne-eqb, eqb-false}
+use Rattle.integers.specs.Order.{part}
 use Rattle.integers.specs.Bytes.{wordAt}
 use Rattle.integers.specs.Words.{eqZ}
 use Rattle.meaning.specs.declared.Sizes.{Sizes}
@@ -37,10 +37,6 @@ refuses3 s z =
     subst (λ (w : ℕ). Refuses (length s ≡ 4 * w) (refused3 s z)) (sym e) (refuses-not (says-eq (length s) (4 * wordsOf z)))
 
 -- ---- 4: a place of a list is place j of its part i
-
--- part i of m parts of w words ends with the last or before it
-pub part : {i m : ℕ} → i < m → (w : ℕ) → i * w + w ≤ m * w
-part {i} {m} h w = let e : i * w + w ≡ suc i * w = omega arith in subst (λ (n : ℕ). n ≤ m * w) (sym e) (mul-le-mul-right w h)
 
 in-part : (P : ℕ → Type 0) (a n k : ℕ) → a ≤ k → k < a + n → ((j : ℕ) → j < n → P (a + j)) → P k
 in-part P a n k l m f = let e : a + (k - a) ≡ k = omega arith in subst P e (f (k - a) (omega arith))

@@ -1,7 +1,7 @@
--- Products and the order on ℤ: signs, monotony, cancelling. Assumes nothing.
+-- Products and the order on ℤ: signs, monotony, cancelling; parts of equal length one behind the other. Assumes nothing.
 use mathlib.Core.Path.{_≡_, refl, sym, _∙_}
-use Prim.Native.Nat.{ℕ, zero, suc, _+_}
-use native.Mathlib.Nat.{mul-le-mul-left, mul-lt-mul-of-pos-left, le-of-mul-le-mul-left, eq-of-mul-eq-mul-left}
+use Prim.Native.Nat.{ℕ, zero, suc, _+_, _*_, _≤_, _<_}
+use native.Mathlib.Nat.{mul-le-mul-left, mul-le-mul-right, mul-lt-mul-of-pos-left, le-of-mul-le-mul-left, eq-of-mul-eq-mul-left}
 use native.Mathlib.Omega.{arith}
 use lib.IntN.{ℤ, pos, negsuc, negℤ, _*ℤ_}
 use lib.Signed.{_≤ℤ_, _<ℤ_}
@@ -70,3 +70,9 @@ cancel-zero c a h e = cancel c a (pos 0) h (e ∙ sym (times-zero c))
   where
     times-zero : (c : ℤ) → c *ℤ pos 0 ≡ pos 0
     times-zero = linear 0 1 _ λ p m. simp gaps (omega arith)
+
+-- ---- parts of equal length
+
+-- part i of m parts of w words ends with the last or before it
+pub part : {i m : ℕ} → i < m → (w : ℕ) → i * w + w ≤ m * w
+part {i} {m} h w = omega (arith, mul-le-mul-right w h)

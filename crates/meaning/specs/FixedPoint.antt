@@ -27,7 +27,7 @@ use Rattle.meaning.specs.Body.{touchedBy, gather, scatter}
 use Rattle.meaning.specs.Accept.{byteTests, nestTests, testsFrom, answerOf, accept}
 use Rattle.meaning.specs.Rules.{Memory}
 use Rattle.meaning.specs.Calls.{lengthOf, start, result, plainRun}
-use Rattle.meaning.specs.Conditions.{Condition, Condition.Begins, Condition.Sizes-fit, Condition.Long, Condition.Words-fit, Condition.Bounds-fit, Condition.Instances, Condition.Place-rank, Condition.Increment, Condition.Processes, Asks, ofStream, AnsweredBy}
+use Rattle.meaning.specs.Conditions.{Condition, Condition.Begins, Condition.Sizes-fit, Condition.Long, Condition.Words-fit, Condition.Bounds-fit, Condition.Instances, Condition.Place-rank, Condition.Increment, Condition.Processes, WordsFit, Asks, ofStream, AnsweredBy}
 use Rattle.meaning.specs.Demand3.{Call, memoryAfter, grantedBy, allReceived}
 
 -- ---- Accept before the request
@@ -39,10 +39,11 @@ HasSix d = (t : Line) × In t (linesOf d) × (t .operation ≡ 6)
 abbrev pub hasSix : Description → Bool
 hasSix d = any (λ t. eqb (t .operation) 6) (linesOf d)
 
--- 4, as it was, with "operations 0 to 5", was given to an operation word of 6 too
+-- what came and comes after 4
 abbrev pub testsAfter : Limits → List ℕ → List Test
 testsAfter l s = let d = descriptionOf s in nestTests l (d .nest) ++ testsFrom l d 0 (streamsOf d)
 
+-- 4, as it was, with "operations 0 to 5", was given to an operation word of 6 too (`former-four` below)
 abbrev pub formerTests : Limits → List ℕ → List Test
 formerTests l s = byteTests s ++ ((4 if hasSix (descriptionOf s)) ∷ testsAfter l s)
 
@@ -67,6 +68,7 @@ pub record WasFour (l : Limits) (s : List ℕ) : Type 0 where
 
 pub record OtherOperations (s t : List ℕ) : Type 0 where
   pub long : length s ≡ length t
+  -- every word that is no line's operation
   pub same : (k : ℕ) → ((i : ℕ) → i < sizesOf s .lines → k ≡ lineAt (sizesOf s) i → ⊥) → bitsAt s k ≡ bitsAt t k
   pub operations : (i : ℕ) → i < sizesOf s .lines
       → Between (pos 0) (pos 6) (wordAt s (lineAt (sizesOf s) i)) × Between (pos 0) (pos 6) (wordAt t (lineAt (sizesOf s) i))
@@ -116,7 +118,10 @@ Words values = (v : ℕ) → In v values → v < modulus
 pub record Fixed (l : Limits) (s : List ℕ) : Type 0 where
   -- "an operation word of 6 no longer meets refusal 4": Accept answers as it does to any other operation
   pub any-operation : (t : List ℕ) → OtherOperations s t → accept l s ≡ accept l t
-  -- what met 4 for a 6 alone is answered by what comes after, all else as before
+  -- the former 4: words that fit have no operation 6 exactly if operations are "0 to 5"
+  pub former-four : WordsFit s (sizesOf s)
+      → (HasSix (descriptionOf s) → ⊥) ↔ ((i : ℕ) → i < sizesOf s .lines → Between (pos 0) (pos 5) (wordAt s (lineAt (sizesOf s) i)))
+  -- what met it for a 6 alone is answered by what comes after, all else as before
   pub was-four : WasFour l s → formerAccept l s ≡ Refused 4
   pub answered-after : WasFour l s → AnsweredBy l s (conditionsAfter (sizesOf s .streams))
   pub as-before : (WasFour l s → ⊥) → accept l s ≡ formerAccept l s

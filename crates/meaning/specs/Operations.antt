@@ -16,7 +16,7 @@ fixedProduct a b = (a * b / 2 ^ 16) % modulus
 abbrev pub lastOperation : ℕ
 lastOperation = 6
 
--- "0 copy the first, 1 add, 2 subtract, 3 multiply, 4 smaller, 5 larger"; 6 the fixed point product
+-- "0 copy the first, 1 add, 2 subtract, 3 multiply, 4 smaller, 5 larger"; 6, what is left, the fixed point product
 abbrev pub operate : ℕ → ℕ → ℕ → ℕ
 operate op a b =
     cond (eqb op 0) a

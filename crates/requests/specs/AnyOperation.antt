@@ -12,6 +12,7 @@ use lib.Seq.{take-append-seam}
 use mir.Syntax.{w32}
 use mir.Val.{toZ}
 use borrow.Author.Tests.{eqb-true, eqb-false}
+use Rattle.integers.specs.Order.{part}
 use Rattle.integers.specs.Bytes.{bitsAt, wordAt}
 use Rattle.integers.specs.declared.V3.{V3}
 use Rattle.integers.specs.declared.V2.{V2}
@@ -33,7 +34,7 @@ use Rattle.network.specs.Cases.{Order, less, atLeast, order}
 use Rattle.network.specs.Lists.{length-numbers, same-numbers, same-every}
 use Rattle.network.specs.Decide.{says-true}
 use Rattle.guarantee.specs.Refusals.{Refuses, Refuses.met, Refuses.broken}
-use Rattle.guarantee.specs.WordConditions.{refuses2, part, operation-word}
+use Rattle.guarantee.specs.WordConditions.{refuses2, operation-word}
 
 -- ---- what bytes and sizes decode to, and what Accept makes of it
 
@@ -129,6 +130,12 @@ module _ {s t : List ℕ} (o : OtherOperations s t) where
   -- ---- what stands before the body
 
   module _ (h : SizesFit z) where
+    three : (z .loops ≡ 2 → ⊥) → z .loops ≡ 3
+    three f = go (z .loops) (h .loops .0) (h .loops .1) f
+      where
+        go : (r : ℕ) → 2 ≤ r → r ≤ 3 → (r ≡ 2 → ⊥) → r ≡ 3
+        go r a b f = omega arith
+
     vector-same : (k : ℕ) (pad : ℤ) → k + z .loops ≤ lineAt z 0 → vectorAt s z k pad ≡ vectorAt t z k pad
     vector-same k pad m = go (eqb (z .loops) 2) (eqb-false (z .loops) 2)
       where
@@ -136,25 +143,17 @@ module _ {s t : List ℕ} (o : OtherOperations s t) where
             → _≡_ {A = V3} (record { x = wordAt s k; y = wordAt s (k + 1); z = cond b pad (wordAt s (k + 2)) })
             (record { x = wordAt t k; y = wordAt t (k + 1); z = cond b pad (wordAt t (k + 2)) })
         go true f = rw (word k (omega (arith, h .loops)), word (k + 1) (omega (arith, h .loops)))
-        go false f =
-            let g : (z .loops ≡ 2 → ⊥) = f refl in
-            rw (word k (omega (arith, h .loops)), word (k + 1) (omega (arith, h .loops)), word (k + 2) (three g))
-          where
-            three : (z .loops ≡ 2 → ⊥) → k + 2 < lineAt z 0
-            three g = omega (arith, h .loops)
+        go false f = let n = three (f refl) in rw (word k (omega arith), word (k + 1) (omega arith), word (k + 2) (omega arith))
 
     matrix-same : (k : ℕ) → k + matrixWords z ≤ lineAt z 0 → matrixAt s z k ≡ matrixAt t z k
     matrix-same k m = go (eqb (z .loops) 2) (eqb-true (z .loops) 2) (eqb-false (z .loops) 2)
       where
-        loops : (r : ℕ) → 2 ≤ r → r ≤ 3 → (r ≡ 2 → ⊥) → r ≡ 3
-        loops r a b f = omega arith
-
         go : (b : Bool) → (b ≡ true → z .loops ≡ 2) → (b ≡ false → z .loops ≡ 2 → ⊥)
             → _≡_ {A = Matrix} (record { top = vectorAt s z k (pos 0); low = cond b unit3 (vectorAt s z (k + 3) (pos 0)) })
             (record { top = vectorAt t z k (pos 0); low = cond b unit3 (vectorAt t z (k + 3) (pos 0)) })
         go true e f = let g : matrixWords z ≡ 2 = rw (e refl) refl in rw (vector-same k (pos 0) (omega (arith, e refl)))
         go false e f =
-            let n : z .loops ≡ 3 = loops (z .loops) (h .loops .0) (h .loops .1) (f refl) in
+            let n = three (f refl) in
             let g : matrixWords z ≡ 6 = rw n refl in
             rw (vector-same k (pos 0) (omega arith), vector-same (k + 3) (pos 0) (omega arith))
 
@@ -180,10 +179,7 @@ module _ {s t : List ℕ} (o : OtherOperations s t) where
             go : (b : Bool) → (b ≡ false → z .loops ≡ 2 → ⊥)
                 → _≡_ {A = V2} (record { a = wordAt s k; b = cond b (pos 0) (wordAt s (k + 1)) }) (record { a = wordAt t k; b = cond b (pos 0) (wordAt t (k + 1)) })
             go true f = rw (word k (omega (arith, h .loops)))
-            go false f = rw (word k (omega (arith, h .loops)), word (k + 1) (three (f refl)))
-              where
-                three : (z .loops ≡ 2 → ⊥) → k + 1 < lineAt z 0
-                three g = omega (arith, h .loops)
+            go false f = let n = three (f refl) in rw (word k (omega arith), word (k + 1) (omega arith))
 
     streams-same : decoded s z .streams ≡ decoded t z .streams
     streams-same =

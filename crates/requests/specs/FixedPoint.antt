@@ -3,17 +3,19 @@
 use mathlib.Core.Path.{_≡_, refl, sym, _∙_, ap, subst}
 use mathlib.Core.Logic.{_↔_}
 use mathlib.Core.Bool.{Bool, true, false}
-use mathlib.Core.List.{List, List·Memᴰ as In}
-use Prim.Native.Nat.{ℕ, suc, _-_, _^_, _≤_}
+use mathlib.Core.List.{List, List·Memᴰ as In, Memᴰ·map as in-map}
+use Prim.Native.Nat.{ℕ, suc, _-_, _^_, _≤_, _<_}
 use native.Mathlib.Omega.{arith}
 use lib.Dec.{ltb}
 use lib.ListN.{length}
 use lib.IntN.{pos, negsuc}
+use borrow.Author.Tests.{lt-ltb}
 use mir.Syntax.{w32}
 use mir.Val.{toZ, sel}
-use Rattle.integers.specs.Differences.{le-out}
+use Rattle.integers.specs.Differences.{le-out, le-in}
 use Rattle.integers.specs.Bytes.{bitsAt, wordAt}
 use Rattle.meaning.specs.declared.Limits.{Limits}
+use Rattle.meaning.specs.declared.Sizes.{Sizes}
 use Rattle.meaning.specs.declared.Line.{Line}
 use Rattle.meaning.specs.declared.Description.{Description}
 use Rattle.meaning.specs.declared.Figures.{Figures}
@@ -28,11 +30,11 @@ use Rattle.meaning.specs.Accept.{byteTests, refusalOf, answerOf, accept}
 use Rattle.meaning.specs.Lists.{numbers}
 use Rattle.meaning.specs.Rules.{Memory}
 use Rattle.meaning.specs.Calls.{lengthOf, start, result, Written, plainRun}
-use Rattle.meaning.specs.Conditions.{Meets}
+use Rattle.meaning.specs.Conditions.{WordsFit, Meets}
 use Rattle.meaning.specs.Demand3.{Call, memoryAfter, grantedBy, allReceived}
 use Rattle.meaning.specs.FixedPoint.{HasSix, hasSix, testsAfter, formerTests, formerAccept, conditionsBefore, conditionsAfter, WasFour, LoopsLeave, Words, FixedPoint}
 use Rattle.geometry.specs.Tests.{numbered}
-use Rattle.geometry.specs.Members.{map-in, numbers-in}
+use Rattle.geometry.specs.Members.{map-in, in-numbers, numbers-in}
 use Rattle.network.specs.Decide.{Says}
 use Rattle.network.specs.Starts.{proper}
 use Rattle.guarantee.specs.StreamConditions.{says-line}
@@ -43,6 +45,18 @@ use Rattle.requests.specs.Dropped.{Compared, Compared.same, Compared.giv
 use Rattle.requests.specs.AnyOperation.{lines-are, any-operation}
 use Rattle.requests.specs.PlainLoops.{Allowed, loops-exactly}
 
+-- ---- a word from 0 to n as bits
+
+bits-most : (u n : ℕ) → Between (pos 0) (pos n) (toZ w32 u) → u ≤ n
+bits-most u n h = go (ltb u (2 ^ 31)) h
+  where
+    go : (b : Bool) → Between (pos 0) (pos n) (sel b (pos u) (negsuc (2 ^ 32 - suc u))) → u ≤ n
+    go true h = omega (arith, le-out (h .hi))
+    go false h = absurd (omega (arith, le-out (h .lo)))
+
+between-bits : (u n : ℕ) → u ≤ n → n < 2 ^ 31 → Between (pos 0) (pos n) (toZ w32 u)
+between-bits u n h k = rw (lt-ltb u (2 ^ 31) (omega arith)) (record { lo = le-in (omega arith); hi = le-in (omega arith) })
+
 -- ---- Accept
 
 says-six : (d : Description) → Says (HasSix d) (hasSix d)
@@ -51,6 +65,9 @@ says-six d = says-line (λ t. t .operation) 6 (linesOf d)
 module _ (l : Limits) (s : List ℕ) where
   abbrev d : Description
   d = descriptionOf s
+
+  abbrev z : Sizes
+  z = sizesOf s
 
   four : Dropped l s conditionsBefore (conditionsAfter (sizesOf s .streams)) (HasSix d) 4 (refusal (formerTests l s))
   unfolding refusalOf numbered
@@ -64,28 +81,43 @@ module _ (l : Limits) (s : List ℕ) where
       go (same g) = ap (answerOf s) (sym g)
       go (given h six g) = absurd (other (record { held = h; six = six }))
 
-  -- ---- Plain run
+  -- ---- the former 4
 
-  -- the operation words of a description that meets the conditions
-  bits-most : (u n : ℕ) → Between (pos 0) (pos n) (toZ w32 u) → u ≤ n
-  bits-most u n h = go (ltb u (2 ^ 31)) h
+  -- a line of the description is that of its number
+  line-of : {t : Line} → In t (linesOf d) → (i : ℕ) × (i < z .lines) × (t .operation ≡ bitsAt s (lineAt z i))
+  unfolding descriptionOf bodyLine
+  line-of {t} k =
+      let r = map-in (bodyLine s z) (numbers (z .lines)) (subst (In t) (lines-are s z) k) in
+      let b = numbers-in 0 (z .lines) (r .mem) in (r .from, omega (arith, b .1), ap (λ (u : Line). u .operation) (r .is))
+
+  of-line : (i : ℕ) → i < z .lines → In (bodyLine s z i) (linesOf d)
+  unfolding descriptionOf
+  of-line i h = subst (In (bodyLine s z i)) (sym (lines-are s z)) (in-map (bodyLine s z) (in-numbers 0 (z .lines) i (omega arith) (omega arith)))
+
+  former-four : WordsFit s z → (HasSix d → ⊥) ↔ ((i : ℕ) → i < z .lines → Between (pos 0) (pos 5) (wordAt s (lineAt z i)))
+  unfolding bodyLine wordAt
+  former-four f = (
+    λ none i h.
+        let u = bitsAt s (lineAt z i) in
+        let m : u ≤ 6 = bits-most u 6 (f .operation i h) in
+        between-bits u 5 (not-six u m (λ e. none (bodyLine s z i, of-line i h, e))) (omega arith),
+    λ five p. let r = line-of (p .1) in omega (arith, bits-most (bitsAt s (lineAt z (r .0))) 5 (five (r .0) (r .1)), r .2, p .2),
+  )
     where
-      go : (b : Bool) → Between (pos 0) (pos n) (sel b (pos u) (negsuc (2 ^ 32 - suc u))) → u ≤ n
-      go true h = omega (arith, le-out (h .hi))
-      go false h = absurd (omega (arith, le-out (h .lo)))
+      not-six : (u : ℕ) → u ≤ 6 → (u ≡ 6 → ⊥) → u ≤ 5
+      not-six u h n = omega arith
+
+  -- ---- Plain run
 
   accepted-meets : refusalOf l s ≡ 0 → Meets l s
   unfolding accept
   accepted-meets ok = accepted-exactly l s .0 (ap (answerOf s) ok)
 
   allowed : Meets l s → Allowed (linesOf d)
-  unfolding descriptionOf bodyLine wordAt
+  unfolding wordAt
   allowed m t k =
-      let z = sizesOf s in
-      let r = map-in (bodyLine s z) (numbers (z .lines)) (subst (In t) (lines-are s z) k) in
-      let b = numbers-in 0 (z .lines) (r .mem) in
-      let h = bits-most (bitsAt s (lineAt z (r .from))) lastOperation (m .words .operation (r .from) (omega (arith, b .1))) in
-      omega (arith, h, ap (λ (u : Line). u .operation) (r .is))
+      let r = line-of k in
+      omega (arith, bits-most (bitsAt s (lineAt z (r .0))) lastOperation (m .words .operation (r .0) (r .1)), r .2)
 
   plain : (f : Figures) → accept l s ≡ Accepted f → (values output : List ℕ) → Words values → length values ≡ lengthOf d
       → length output ≡ lengthOf d → (left : List ℕ)
@@ -111,6 +143,7 @@ module _ (l : Limits) (s : List ℕ) where
 pub fixed-point : FixedPoint
 fixed-point l s =
     record {
+      former-four = former-four l s;
       any-operation = λ t o. any-operation o l;
       was-four = λ w. ap (answerOf s) (four l s .was-given (w .held) (w .six));
       answered-after = λ w. four l s .answered-after (w .held);

@@ -36,7 +36,7 @@ each-operation P p0 p1 p2 p3 p4 p5 p6 (suc (suc (suc (suc (suc zero))))) h = p5
 each-operation P p0 p1 p2 p3 p4 p5 p6 (suc (suc (suc (suc (suc (suc zero)))))) h = p6
 each-operation P p0 p1 p2 p3 p4 p5 p6 (suc (suc (suc (suc (suc (suc (suc op))))))) h = absurd (omega arith)
 
--- x if a is below b, else y; with x and y below a bound
+-- of x if a is below b, else of y
 chosen : (P : ℕ → Type 0) (a b x y : ℕ) → (a < b → P x) → (b ≤ a → P y) → P (cond (ltb a b) x y)
 chosen P a b x y f g = go (ltb a b) refl
   where

@@ -50,7 +50,7 @@ abbrev pub Allowed : List Line → Type 0
 Allowed ts = (t : Line) → In t ts → t .operation ≤ lastOperation
 
 module _ (x : V3) where
-  -- what a line puts, and the registers after it
+  -- what a line puts
   abbrev result : Line → List ℕ → ℕ
   result t vs = operate (t .operation) (getD vs (t .first) 0) (getD vs (t .second) 0)
 
