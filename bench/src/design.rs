@@ -3,6 +3,7 @@
 
 use reference::body::Line;
 use reference::calls::{Calls, Lent};
+use reference::geometry::Process;
 use reference::network::{Network, Step};
 use reference::pipes::{Pipe, Station};
 
@@ -20,6 +21,21 @@ const LAST_LINK: usize = 2;
 
 /// Six streams and two numbers of scratch.
 const REGISTERS: usize = 8;
+
+/// An instance or an increment; indices past the loops in use are 0.
+type Instance = [i32; 3];
+
+fn instance(point: &[i32]) -> Instance {
+    let mut instance = [0; 3];
+    instance[..point.len()].copy_from_slice(point);
+    instance
+}
+
+/// The first instance of a process.
+fn first(process: &Process) -> Instance {
+    let first = process.instances.first();
+    first.map_or([0; 3], |first| instance(first))
+}
 
 // Rows.
 
@@ -306,6 +322,9 @@ pub struct Design {
     processes: usize,
     streams: usize,
     lines: Vec<Line>,
+    /// By process; the origin for a null one.
+    firsts: Vec<Instance>,
+    increment: Instance,
     /// By process, then stream.
     seats: Vec<Seat>,
     /// By pipe.
@@ -329,6 +348,8 @@ impl Design {
             processes,
             streams,
             lines: array.description.body.clone(),
+            firsts: array.processes.iter().map(first).collect(),
+            increment: instance(&array.increment),
             seats: seats.collect(),
             ends: ends.collect(),
             watch: vec![None; network.words()],
@@ -446,13 +467,23 @@ impl Design {
         }
     }
 
+    /// The instance of a process after so many firings.
+    fn instance(&self, process: usize, fired: u32) -> Instance {
+        let mut instance = self.firsts[process];
+        for (index, step) in instance.iter_mut().zip(self.increment) {
+            *index += fired as i32 * step;
+        }
+        instance
+    }
+
     fn fire(&self, state: &mut [u32], process: usize) {
         let seats = self.seats(process);
         let mut registers = [0; REGISTERS];
         for (register, seat) in registers.iter_mut().zip(seats) {
             *register = state[seat.used()];
         }
-        for line in &self.lines {
+        let next = self.instance(process, state[seats[0].fired]);
+        for line in self.lines.iter().filter(|line| line.guard.lets_run(&next)) {
             let (first, second) = (registers[line.first], registers[line.second]);
             registers[line.target] = line.operation.apply(first, second);
         }

@@ -3,8 +3,9 @@
 use std::fmt::Display;
 
 use crate::calls::{Calls, Row};
-use crate::description::{bytes_of, Description};
+use crate::description::{bytes_of, Description, LINE_WORDS};
 use crate::designs;
+use crate::guard_words::{guard_words, older_lengths};
 use crate::random::Random;
 use crate::random_description::{self, given};
 use crate::random_stride;
@@ -171,16 +172,20 @@ fn row_words(row: &Row) -> Vec<u32> {
     numbers.into_iter().map(|number| number as u32).collect()
 }
 
-/// About 3,500 descriptions: the report's designs, document 01's cases, decimating filters, fixed point products, arrays at the limits, every refusal,
-/// accepted ones, such with a longer stride, and such with a word changed.
+/// About 3,600 descriptions: the report's designs, document 01's cases, decimating filters, fixed point products, cleared accumulators, arrays at the
+/// limits, words of lines at the ends of their ranges, descriptions of the older length, every refusal, accepted ones, such with a longer stride, and such
+/// with a word changed.
 pub fn descriptions() -> Vec<Vec<u8>> {
     let mut designs = report_designs();
     designs.extend(worked_cases());
     designs.extend(strides());
     designs.extend(fixed_point());
+    designs.extend(cleared());
     designs.extend(limit_designs());
     let mut descriptions: Vec<Vec<u8>> = designs.iter().map(Description::bytes).collect();
     descriptions.push(operation_seven());
+    descriptions.extend(guard_words());
+    descriptions.extend(older_lengths());
     let mut random = Random::new(3);
     for number in given() {
         // Large arrays take long to make, and most of those that are tried are declined by 6.
@@ -265,9 +270,22 @@ fn fixed_point() -> Vec<Description> {
 /// Design one with operation word 7, the first that is out of range.
 fn operation_seven() -> Vec<u8> {
     let mut words = designs::fixed_one(2).words();
-    let last = words.len();
-    words[last - 8] = 7;
+    let first = words.len() - 2 * LINE_WORDS;
+    words[first] = 7;
     bytes_of(&words)
+}
+
+/// Request 2.5's products that clear what they add to, in some sizes.
+fn cleared() -> Vec<Description> {
+    let mut products: Vec<Description> = (0..=4).map(designs::cleared_one).collect();
+    products.extend((0..=2).map(designs::cleared_matrix));
+    products.extend([
+        designs::cleared_turned(),
+        designs::cleared_column(),
+        designs::cleared_one(63),
+        designs::cleared_matrix(15),
+    ]);
+    products
 }
 
 /// The report's designs as large as they may be and one size larger, and 1,024 processes with 4,096 instances.

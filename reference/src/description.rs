@@ -1,10 +1,13 @@
 //! The description: bytes, then words, then a `Description`. Refusals 1 to 5.
 
-use crate::body::{Line, Operation};
+use crate::body::{Comparison, Guard, Line, Operation};
 use crate::{demand, Refusal};
 
 /// Rows of words.
 pub type Matrix = Vec<Vec<i32>>;
+
+/// The words of a body line: operation, target, first and second operand, and its guard's loop number, comparison and bound.
+pub const LINE_WORDS: usize = 7;
 
 /// A loop nest with its layout in time and place, every word within its range.
 #[derive(Clone, Debug, PartialEq, Eq)]
@@ -68,10 +71,7 @@ impl Description {
         words.extend(self.place.iter().flatten());
         words.extend(self.maps.iter().flatten().flatten());
         words.extend(self.loading.iter().flatten());
-        for line in &self.body {
-            words.push(line.operation.word());
-            words.extend([line.target, line.first, line.second].map(|number| number as i32));
-        }
+        words.extend(self.body.iter().flat_map(line_words));
         words
     }
 
@@ -79,6 +79,19 @@ impl Description {
     pub fn bytes(&self) -> Vec<u8> {
         bytes_of(&self.words())
     }
+}
+
+/// The words of a line in file order.
+fn line_words(line: &Line) -> [i32; LINE_WORDS] {
+    [
+        line.operation.word(),
+        line.target as i32,
+        line.first as i32,
+        line.second as i32,
+        line.guard.loop_number as i32,
+        line.guard.comparison.word(),
+        line.guard.bound,
+    ]
 }
 
 /// Words as bytes, least byte first.
@@ -117,7 +130,7 @@ impl Sizes {
         let vectors = 4 * self.loops;
         let matrix = (self.loops - 1) * self.loops;
         let loading = self.loops - 1;
-        3 + vectors + matrix + self.streams * (matrix + loading) + 4 * self.lines
+        3 + vectors + matrix + self.streams * (matrix + loading) + LINE_WORDS * self.lines
     }
 }
 
@@ -135,7 +148,7 @@ fn read_words(sizes: &Sizes, words: &[i32]) -> Result<Description, Refusal> {
     let maps = maps.collect::<Result<_, _>>()?;
     let loading = (0..sizes.streams).map(|_| reader.list(rows, -1, 1));
     let loading = loading.collect::<Result<_, _>>()?;
-    let body = (0..sizes.lines).map(|_| reader.line(sizes.streams));
+    let body = (0..sizes.lines).map(|_| reader.line(sizes));
     let body = body.collect::<Result<_, _>>()?;
     Ok(Description {
         left,
@@ -172,15 +185,28 @@ impl Reader<'_> {
         (0..rows).map(|_| self.list(columns, -4, 4)).collect()
     }
 
+    /// A word that names something, from 0 to the last.
+    fn number(&mut self, last: usize) -> Result<usize, Refusal> {
+        self.word(0, last as i32).map(|word| word as usize)
+    }
+
     /// A body line; targets and operands run from 0 to m+1.
-    fn line(&mut self, streams: usize) -> Result<Line, Refusal> {
-        let operation = Operation::of_word(self.word(0, 6)?).ok_or(Refusal(4))?;
-        let mut number = || self.word(0, streams as i32 + 1).map(|word| word as usize);
+    fn line(&mut self, sizes: &Sizes) -> Result<Line, Refusal> {
         Ok(Line {
-            operation,
-            target: number()?,
-            first: number()?,
-            second: number()?,
+            operation: Operation::of_word(self.word(0, 6)?).ok_or(Refusal(4))?,
+            target: self.number(sizes.streams + 1)?,
+            first: self.number(sizes.streams + 1)?,
+            second: self.number(sizes.streams + 1)?,
+            guard: self.guard(sizes.loops)?,
+        })
+    }
+
+    /// A line's guard; loop number and bound have their ranges under comparison 0 too.
+    fn guard(&mut self, loops: usize) -> Result<Guard, Refusal> {
+        Ok(Guard {
+            loop_number: self.number(loops - 1)?,
+            comparison: Comparison::of_word(self.word(0, 3)?).ok_or(Refusal(4))?,
+            bound: self.word(-64, 64)?,
         })
     }
 }

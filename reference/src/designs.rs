@@ -1,7 +1,10 @@
 //! The designs of document 01, of document 02 and of the report, as descriptions; `bytes` gives their bytes.
 
-use crate::body::{Line, Operation};
+use crate::body::{Comparison, Guard, Line, Operation};
 use crate::description::{Description, Matrix};
+
+/// The first scratch number of three streams.
+const SCRATCH: usize = 3;
 
 /// Scratch := first times second, sum := sum + scratch, of three streams.
 fn multiply_and_add(first: usize, second: usize, sum: usize) -> Vec<Line> {
@@ -10,25 +13,24 @@ fn multiply_and_add(first: usize, second: usize, sum: usize) -> Vec<Line> {
 
 /// Scratch := first times second by an operation, sum := sum + scratch, of three streams.
 fn sum_of(operation: Operation, first: usize, second: usize, sum: usize) -> Vec<Line> {
-    let scratch = 3;
     vec![
-        Line {
-            operation,
-            target: scratch,
-            first,
-            second,
-        },
-        add(sum, sum, scratch),
+        Line::always(operation, SCRATCH, first, second),
+        add(sum, sum, SCRATCH),
     ]
 }
 
 /// Target := first + second.
 fn add(target: usize, first: usize, second: usize) -> Line {
-    Line {
-        operation: Operation::Add,
-        target,
-        first,
-        second,
+    Line::always(Operation::Add, target, first, second)
+}
+
+/// Request 2.5: a product of three streams with c := scratch under each of the guards before its lines.
+fn cleared(guards: &[Guard], product: Description) -> Description {
+    let clear = Line::always(Operation::Copy, 2, SCRATCH, SCRATCH);
+    let clears = guards.iter().map(|&guard| clear.under(guard));
+    Description {
+        body: clears.chain(product.body).collect(),
+        ..product
     }
 }
 
@@ -99,6 +101,32 @@ pub fn smoothing(m: i32, n: i32) -> Description {
     }
 }
 
+/// Request 2.5: design one that clears c itself, where i = 0 or j = n: each c is first used there.
+pub fn cleared_one(n: i32) -> Description {
+    let guards = [
+        Guard::new(0, Comparison::Equal, 0),
+        Guard::new(1, Comparison::Equal, n),
+    ];
+    cleared(&guards, polynomial_one(n))
+}
+
+/// Request 2.5: the polynomial product with loops i 1..3 and j −1..1, both in direction −1, and step −2i−j, which clears c where i is at least 3 or j at
+/// most −1.
+pub fn cleared_turned() -> Description {
+    let guards = [
+        Guard::new(0, Comparison::AtLeast, 3),
+        Guard::new(1, Comparison::AtMost, -1),
+    ];
+    let turned = Description {
+        left: vec![1, -1],
+        right: vec![3, 1],
+        directions: vec![-1, -1],
+        step: vec![-2, -1],
+        ..polynomial_one(2)
+    };
+    cleared(&guards, turned)
+}
+
 /// The matrix product with loops 0..n: streams a: (i,k), b: (k,j), c: (i,j), step i+j+k.
 fn matrix(n: i32, place: Rows, loading_of_c: [i32; 2]) -> Description {
     let maps = [
@@ -125,6 +153,25 @@ pub fn matrix_moving(n: i32) -> Description {
 /// working ones.
 pub fn matrix_slanted(n: i32) -> Description {
     matrix(n, [[1, 1, 0], [1, -1, 0]], [1, 0])
+}
+
+/// Request 2.5: the matrix product with place (i,j) that clears c itself, where k = 0.
+pub fn cleared_matrix(n: i32) -> Description {
+    let guards = [Guard::new(2, Comparison::Equal, 0)];
+    cleared(&guards, matrix_straight(n))
+}
+
+/// Request 2.5: a matrix of two rows times a column of two, loops 0..1, 0..0 and 0..1, the last from right to left, with place (i,j) and step i+j−k, that
+/// clears c itself, where k = 1.
+pub fn cleared_column() -> Description {
+    let guards = [Guard::new(2, Comparison::Equal, 1)];
+    let column = Description {
+        right: vec![1, 0, 1],
+        directions: vec![1, 1, -1],
+        step: vec![1, 1, -1],
+        ..matrix_straight(1)
+    };
+    cleared(&guards, column)
 }
 
 /// Request 2.2's decimating filter with loops 0..m and 0..n: place 2i+j, step 3i+j, streams y: i, x: 2i+j with loading 1, w: i+j.

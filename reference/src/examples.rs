@@ -1,4 +1,5 @@
-//! The files of `examples/`: the report's designs, decimating filters and a filter with fractional coefficients as descriptions, and replay scripts.
+//! The files of `examples/`: the report's designs, decimating filters, a filter with fractional coefficients and a product that clears its accumulators as
+//! descriptions, and replay scripts.
 
 use crate::description::Description;
 use crate::designs;
@@ -17,7 +18,7 @@ pub struct ExampleScript {
 }
 
 /// The polynomial product in designs one and two and the matrix product on three layouts, the small ones of document 01 and large ones, request 2.2's
-/// decimating filter, for one channel and for several, and request 2.1's fractional coefficients.
+/// decimating filter, for one channel and for several, request 2.1's fractional coefficients, and request 2.5's cleared accumulators.
 pub fn examples() -> Vec<Example> {
     [
         ("polynomial-one", designs::polynomial_one(2)),
@@ -31,13 +32,15 @@ pub fn examples() -> Vec<Example> {
         ("decimating", designs::decimating(2, 2)),
         ("decimating-channels", designs::decimating_channels()),
         ("smoothing", designs::smoothing(5, 2)),
+        ("cleared", designs::cleared_one(2)),
     ]
     .into_iter()
     .map(|(name, description)| Example { name, description })
     .collect()
 }
 
-/// Document 01's polynomial product in design two, and the fractional filter on 16.16 numbers: forty steps, who is ready, all the others, and the result.
+/// Document 01's polynomial product in design two, the fractional filter on 16.16 numbers, and the product that clears what c held: forty steps, who is
+/// ready, all the others, and the result.
 pub fn example_scripts() -> Vec<ExampleScript> {
     [
         (
@@ -46,6 +49,11 @@ pub fn example_scripts() -> Vec<ExampleScript> {
             vec![1, 2, 3, 4, 5, 6, 0, 0, 0, 0, 0],
         ),
         ("smoothing", designs::smoothing(5, 2), smoothing_values()),
+        (
+            "cleared",
+            designs::cleared_one(2),
+            vec![1, 2, 3, 4, 5, 6, 9, 8, 7, 6, 5],
+        ),
     ]
     .into_iter()
     .map(|(name, description, values)| ExampleScript {

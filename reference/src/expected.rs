@@ -12,7 +12,7 @@ use crate::divisor::shorten;
 use crate::examples::{example_scripts, examples};
 use crate::random::Random;
 use crate::random_script::scripts;
-use crate::replay::{bundle, replay, Script};
+use crate::replay::{bundle, replay, step_call, Call, Script};
 use crate::table::table_text;
 
 /// A program's standard input and the output that it should print.
@@ -178,7 +178,7 @@ fn compare_case() -> Case {
 /// How many random scripts are replayed.
 const SCRIPTS: usize = 1000;
 
-/// The replay of the examples, run to their end, of the example scripts, and of random scripts, in one bundle.
+/// The replay of the examples, run to their end, of the example scripts, of request 2.5's designs in two orders, and of random scripts, in one bundle.
 fn replay_case() -> Case {
     let stdin = bundle(&replay_scripts());
     Case {
@@ -194,29 +194,66 @@ pub fn replay_scripts() -> Vec<Vec<u8>> {
         .into_iter()
         .map(|it| run_to_the_end(&it.description));
     let named = example_scripts().into_iter().map(|it| it.script.bytes());
-    ends.chain(named).chain(scripts(1, SCRIPTS)).collect()
+    let guarded = guarded().into_iter().flat_map(|it| in_two_orders(&it));
+    ends.chain(named)
+        .chain(guarded)
+        .chain(scripts(1, SCRIPTS))
+        .collect()
 }
 
-/// A script that runs a description to its end and asks for all that came out.
+/// Request 2.5's designs that are run in two orders.
+fn guarded() -> [Description; 4] {
+    [
+        designs::cleared_one(2),
+        designs::cleared_turned(),
+        designs::cleared_column(),
+        designs::cleared_matrix(1),
+    ]
+}
+
+/// A script that runs a description to its end, and one that does it by the highest ready step.
+fn in_two_orders(description: &Description) -> [Vec<u8>; 2] {
+    [
+        run_to_the_end(description),
+        to_the_end_by(description, highest_first(description)),
+    ]
+}
+
+/// A script that runs a description to its end, in two pieces.
 fn run_to_the_end(description: &Description) -> Vec<u8> {
+    let calls = vec![[1, 100, 0, 0], [2, 0, 0, 0], [1, u32::MAX, 0, 0]];
+    to_the_end_by(description, calls)
+}
+
+/// A script that comes to a description's end by some calls and asks for all that came out.
+fn to_the_end_by(description: &Description, mut calls: Vec<Call>) -> Vec<u8> {
     let description = description.bytes();
     let elements = Calls::on(&description)
         .accept()
         .map_or(0, |found| found.elements);
-    let values = Random::new(elements as u64).values(elements);
-    let calls = vec![
-        [1, 100, 0, 0],
-        [2, 0, 0, 0],
-        [1, u32::MAX, 0, 0],
-        [2, 0, 0, 0],
-        [3, 0, 1, 0],
-        [4, 0, 0, 0],
-        [6, 0, 0, 0],
-    ];
+    calls.extend([[2, 0, 0, 0], [3, 0, 1, 0], [4, 0, 0, 0], [6, 0, 0, 0]]);
     Script {
         description,
-        values,
+        values: Random::new(elements as u64).values(elements),
         calls,
     }
     .bytes()
+}
+
+/// The steps of a whole run, always the highest ready; none if the description is refused. Which are ready does not depend on the values.
+fn highest_first(description: &Description) -> Vec<Call> {
+    let calls = Calls::on(&description.bytes());
+    let Ok(network) = calls.network() else {
+        return Vec::new();
+    };
+    let waiting = vec![0; network.array.number_of_elements()];
+    let mut received = waiting.clone();
+    let mut state = vec![0; network.words()];
+    let highest = |state: &[u32]| network.ready_steps(state).next_back();
+    let mut steps = Vec::new();
+    while let Some(step) = highest(&state) {
+        network.apply(&waiting, &mut received, &mut state, step);
+        steps.push(step_call(step, 0));
+    }
+    steps
 }

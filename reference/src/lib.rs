@@ -9,6 +9,7 @@ pub mod divisor;
 pub mod examples;
 pub mod expected;
 pub mod geometry;
+pub mod guard_words;
 pub mod network;
 pub mod pipes;
 pub mod random;

@@ -63,12 +63,18 @@ impl Network {
         &self.steps
     }
 
+    /// Every ready step in Run's order.
+    pub fn ready_steps<'a>(
+        &'a self,
+        state: &'a [u32],
+    ) -> impl DoubleEndedIterator<Item = Step> + 'a {
+        let steps = self.steps.iter().copied();
+        steps.filter(|&step| self.ready(state, step))
+    }
+
     /// The lowest ready step.
     pub fn lowest_ready(&self, state: &[u32]) -> Option<Step> {
-        self.steps
-            .iter()
-            .copied()
-            .find(|&step| self.ready(state, step))
+        self.ready_steps(state).next()
     }
 }
 

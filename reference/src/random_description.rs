@@ -1,6 +1,6 @@
 //! Random descriptions: accepted ones, large ones, and ones that Accept declines by a given number.
 
-use crate::body::{Line, Operation};
+use crate::body::{Comparison, Guard, Line, Operation};
 use crate::calls::Calls;
 use crate::description::{bytes_of, Description, Matrix};
 use crate::designs;
@@ -34,7 +34,7 @@ pub fn filled(
     map: impl Fn(&mut Random, &Description) -> Matrix,
 ) -> Option<Description> {
     let mut description = nest;
-    description.body = body(random, streams);
+    description.body = body(random, &description, streams);
     let mut found = Vec::new();
     for number in 0..streams {
         found.push(stream(
@@ -108,7 +108,8 @@ pub fn matrix(random: &mut Random, loops: usize, reach: i32) -> Matrix {
         .collect()
 }
 
-fn body(random: &mut Random, streams: usize) -> Vec<Line> {
+/// Lines for so many streams, with guards for the nest's loops.
+fn body(random: &mut Random, nest: &Description, streams: usize) -> Vec<Line> {
     let lines = random.below(8) + 1;
     (0..lines)
         .map(|_| Line {
@@ -116,8 +117,26 @@ fn body(random: &mut Random, streams: usize) -> Vec<Line> {
             target: random.below(streams + 2),
             first: random.below(streams + 2),
             second: random.below(streams + 2),
+            guard: guard(random, nest),
         })
         .collect()
+}
+
+/// A guard, often of comparison 0. Most bounds are near those of the loop, so that the line runs in some instances and not in others; the rest are any.
+pub fn guard(random: &mut Random, nest: &Description) -> Guard {
+    let loop_number = random.below(nest.loops());
+    let comparison = if random.percent(40) {
+        Comparison::Always
+    } else {
+        random.pick(&Comparison::ALL)
+    };
+    let (left, right) = (nest.left[loop_number], nest.right[loop_number]);
+    let bound = if random.percent(80) {
+        random.between((left - 1).max(-64), (right + 1).min(64))
+    } else {
+        random.between(-64, 64)
+    };
+    Guard::new(loop_number, comparison, bound)
 }
 
 /// An index map and a loading vector that pass refusals 11 to 17, if some are found soon.
@@ -168,23 +187,20 @@ fn tried(nest: &Description, map: &Matrix, loading: &[i32], written: bool) -> Re
     let mut description = nest.clone();
     description.maps = vec![map.clone()];
     description.loading = vec![loading.to_vec()];
-    description.body = vec![Line {
-        operation: Operation::Copy,
-        target,
-        first: 0,
-        second: 0,
-    }];
+    description.body = vec![Line::always(Operation::Copy, target, 0, 0)];
     Array::of(&description, &Limits::NAMED).map(|_| ())
 }
 
 /// A description near the limits of refusals 6 and 10, on either side.
 pub fn large(random: &mut Random) -> Description {
-    let mut description = match random.below(6) {
+    let mut description = match random.below(8) {
         0 => designs::polynomial_one(63),
         1 => designs::polynomial_two(63),
         2 => designs::matrix_straight(15),
         3 => designs::matrix_moving(15),
         4 => designs::matrix_slanted(11),
+        5 => designs::cleared_one(63),
+        6 => designs::cleared_matrix(15),
         _ => {
             let mut wide = designs::matrix_straight(31);
             wide.right[2] = 3;
@@ -244,8 +260,10 @@ fn spoiled_bytes(random: &mut Random, description: &Description, number: u32) ->
     let far = [
         0,
         1,
+        -1,
         2,
         -2,
+        3,
         4,
         5,
         -5,

@@ -6,7 +6,7 @@ use crate::network::{Network, Step};
 use crate::random::Random;
 use crate::random_description as descriptions;
 use crate::random_stride as strides;
-use crate::replay::{Call, Machine, Script};
+use crate::replay::{step_call, Call, Machine, Script};
 
 /// Scripts come in rounds: in each, one for every refusal of Accept and these.
 const REFUSALS: usize = 16;
@@ -169,8 +169,7 @@ impl Writer<'_> {
         if state.len() < network.words() || !network.sound(state) {
             return None;
         }
-        let steps = network.steps().iter().copied();
-        let ready: Vec<Step> = steps.filter(|&step| network.ready(state, step)).collect();
+        let ready: Vec<Step> = network.ready_steps(state).collect();
         (!ready.is_empty()).then(|| self.random.pick(&ready))
     }
 
@@ -305,16 +304,5 @@ impl Writer<'_> {
         for (word, _) in state.iter().enumerate().filter(|(_, &value)| value != 0) {
             self.play([7, word as u32, 0, 0]);
         }
-    }
-}
-
-/// The call of a step; kinds that use no stream are given any.
-fn step_call(step: Step, unused: u32) -> Call {
-    match step {
-        Step::Send { pipe } => [0, 0, pipe as u32, unused],
-        Step::Take { process, stream } => [0, 1, process as u32, stream as u32],
-        Step::Fire { process } => [0, 2, process as u32, unused],
-        Step::Give { process, stream } => [0, 3, process as u32, stream as u32],
-        Step::Receive { pipe } => [0, 4, pipe as u32, unused],
     }
 }

@@ -13,6 +13,7 @@
 //! is played as far as it goes.
 
 use crate::calls::{Accepted, Calls, Lent, READY_WORDS};
+use crate::network::Step;
 use crate::Refusal;
 
 /// The words of each buffer: waiting, received, state, ready words, output.
@@ -27,6 +28,17 @@ const OUTPUT: usize = 4;
 
 /// A call: its number and three words.
 pub type Call = [u32; 4];
+
+/// The call of a step; kinds that use no stream are given any.
+pub fn step_call(step: Step, unused: u32) -> Call {
+    match step {
+        Step::Send { pipe } => [0, 0, pipe as u32, unused],
+        Step::Take { process, stream } => [0, 1, process as u32, stream as u32],
+        Step::Fire { process } => [0, 2, process as u32, unused],
+        Step::Give { process, stream } => [0, 3, process as u32, stream as u32],
+        Step::Receive { pipe } => [0, 4, pipe as u32, unused],
+    }
+}
 
 /// The first word of a bundle.
 const BUNDLE: u32 = u32::MAX;

@@ -119,7 +119,9 @@ impl Network {
             })
             .collect();
         let mut values: Vec<u32> = words.iter().map(|&word| state[word]).collect();
-        run_instance(&self.array.description.body, &mut values);
+        let next = self.firings(state, process) as usize;
+        let instance = &self.array.processes[process].instances[next];
+        run_instance(&self.array.description.body, instance, &mut values);
         for (word, value) in words.into_iter().zip(values) {
             state[word] = value;
         }

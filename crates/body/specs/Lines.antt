@@ -1,20 +1,18 @@
 -- The run of an instance's lines on its registers: line by line, and what the first m registers hold at the end. Assumes nothing.
 use mathlib.Core.Path.{_≡_, refl, sym, _∙_, ap}
-use mathlib.Core.Bool.{Bool, true, false, cond, true≢false}
+use mathlib.Core.Bool.{Bool, true, false, cond}
 use mathlib.Core.List.{List, [], _∷_, _++_, append-assoc}
 use Prim.Native.Nat.{ℕ, zero, suc, _+_, _<_}
 use native.Mathlib.Numerals.{add-one}
 use native.Mathlib.Omega.{arith}
-use lib.Dec.{eqb}
-use lib.ListN.{length, getD, take, length-append, length-set, List·getD-append}
-use lib.Seq.{take-suc, take-append-le, set-append-left, getD-set-other, getD-take, length-take-le}
-use borrow.Author.Tests.{eqb-false}
+use lib.ListN.{length, getD, set, take, length-append, length-set, List·getD-append}
+use lib.Seq.{take-suc, take-append-le, set-append-left}
 use Rattle.integers.specs.declared.V3.{V3}
 use Rattle.meaning.specs.declared.Line.{Line}
-use Rattle.meaning.specs.declared.Description.{Description}
-use Rattle.meaning.specs.Lists.{any}
-use Rattle.meaning.specs.Description.{noLine, linesOf, written}
-use Rattle.meaning.specs.Body.{runLine, runLines, body}
+use Rattle.meaning.specs.Description.{noLine}
+use Rattle.meaning.specs.Operations.{operate}
+use Rattle.meaning.specs.Guards.{admits}
+use Rattle.meaning.specs.Body.{runLine, runLines}
 use Rattle.body.specs.Fit.{Within, Fit}
 
 -- a new instance's scratch values
@@ -32,17 +30,28 @@ module _ (x : V3) where
       → runLines x (take (i + 1) ls) vs ≡ runLine x (getD ls i noLine) (runLines x (take i ls) vs)
   run-next ls i vs h = rw (add-one, take-suc ls i noLine) (run-more (take i ls) (getD ls i noLine) vs)
 
+  line-length : (l : Line) (vs : List ℕ) → length (runLine x l vs) ≡ length vs
+  line-length l vs = go (admits l x) (operate (l .operation) (getD vs (l .first) 0) (getD vs (l .second) 0))
+    where
+      go : (b : Bool) (v : ℕ) → length (cond b (set vs (l .target) v) vs) ≡ length vs
+      go true v = length-set vs (l .target) v
+      go false v = refl
+
   run-length : (ls : List Line) (vs : List ℕ) → length (runLines x ls vs) ≡ length vs
   unfolding runLines
   run-length [] vs = refl
-  run-length (l ∷ ls) vs = run-length ls (runLine x l vs) ∙ length-set vs (l .target) _
+  run-length (l ∷ ls) vs = run-length ls (runLine x l vs) ∙ line-length l vs
 
   -- ---- registers past the scratch values change nothing
 
   line-apart : (m : ℕ) (l : Line) (vs rest : List ℕ) → Within m l → length vs ≡ suc (suc m) → runLine x l (vs ++ rest) ≡ runLine x l vs ++ rest
   line-apart m l vs rest w e =
       rw (List·getD-append vs rest 0 (l .first) (omega (arith, w .first)), List·getD-append vs rest 0 (l .second) (omega (arith, w .second)))
-      (set-append-left vs rest (l .target) _ (omega (arith, w .target)))
+      (go (admits l x) (operate (l .operation) (getD vs (l .first) 0) (getD vs (l .second) 0)))
+    where
+      go : (b : Bool) (v : ℕ) → cond b (set (vs ++ rest) (l .target) v) (vs ++ rest) ≡ cond b (set vs (l .target) v) vs ++ rest
+      go true v = set-append-left vs rest (l .target) v (omega (arith, w .target))
+      go false v = refl
 
   run-apart : (m n : ℕ) (ls : List Line) (vs rest : List ℕ) → ((i : ℕ) → i < n → Within m (getD ls i noLine)) → length vs ≡ suc (suc m)
       → runLines x (take n ls) (vs ++ rest) ≡ runLines x (take n ls) vs ++ rest
@@ -51,7 +60,7 @@ module _ (x : V3) where
   run-apart m (suc n) [] vs rest w e = refl
   run-apart m (suc n) (l ∷ ls) vs rest w e =
       ap (runLines x (take n ls)) (line-apart m l vs rest (w 0 (omega arith)) e)
-      ∙ run-apart m n ls (runLine x l vs) rest (λ i h. w (suc i) (omega arith)) (length-set vs (l .target) _ ∙ e)
+      ∙ run-apart m n ls (runLine x l vs) rest (λ i h. w (suc i) (omega arith)) (line-length l vs ∙ e)
 
   -- the body of an instance whose lines are ls: `body` and `bodyAt` over their own lines
   abbrev pub bodyOf : List Line → List ℕ → List ℕ
@@ -65,29 +74,3 @@ module _ (x : V3) where
       ap (λ (l : List ℕ). take (length vs) (runLines x (take n ls) l)) (sym (append-assoc vs scratch rest))
       ∙ ap (take (length vs)) (run-apart (length vs) n ls (vs ++ scratch) rest (f .within) (omega arith))
       ∙ take-append-le (length vs) _ rest (omega (arith, run-length (take n ls) (vs ++ scratch)))
-
-  -- ---- a register that is no line's target keeps its value
-
-  run-keeps : (ls : List Line) (i : ℕ) (vs : List ℕ) → any (λ l. eqb (l .target) i) ls ≡ false → getD (runLines x ls vs) i 0 ≡ getD vs i 0
-  unfolding runLines any
-  run-keeps [] i vs h = refl
-  run-keeps (l ∷ ls) i vs h = go (eqb (l .target) i) refl h (run-keeps ls i (runLine x l vs))
-    where
-      go : (b : Bool) → eqb (l .target) i ≡ b → cond b true (any (λ l. eqb (l .target) i) ls) ≡ false
-          → (any (λ l. eqb (l .target) i) ls ≡ false → getD (runLines x ls (runLine x l vs)) i 0 ≡ getD (runLine x l vs) i 0)
-          → getD (runLines x ls (runLine x l vs)) i 0 ≡ getD vs i 0
-      go true e h ih = absurd (true≢false h)
-      go false e h ih = ih h ∙ getD-set-other vs (l .target) i _ 0 (λ (k : i ≡ l .target). eqb-false (l .target) i e (sym k))
-
-module _ (d : Description) (x : V3) (vs : List ℕ) where
-  -- of a description: a caller who puts zeros behind the streams' values and runs the lines has the body
-  pub body-runs : (rest : List ℕ) → Fit (length vs) (d .sizes .lines) (d .lines)
-      → take (length vs) (runLines x (linesOf d) (vs ++ (0 ∷ 0 ∷ rest))) ≡ body d x vs
-  body-runs rest f = body-in-registers x (d .sizes .lines) (d .lines) vs rest f
-
-  pub body-length : length (body d x vs) ≡ length vs
-  body-length = length-take-le (length vs) _ (omega (arith, run-length x (linesOf d) (vs ++ scratch), length-append vs scratch))
-
-  -- a stream that is not written keeps its value
-  pub body-keeps : (i : ℕ) → i < length vs → written d i ≡ false → getD (body d x vs) i 0 ≡ getD vs i 0
-  body-keeps i h w = getD-take (length vs) _ i 0 h ∙ run-keeps x (linesOf d) i (vs ++ scratch) w ∙ List·getD-append vs scratch 0 i h

@@ -2,13 +2,14 @@
 // `execute`, one on the values of the elements, the other on the words of a state. In specs/:
 //
 //   Fit        what lines and places have to fit
-//   Lines      the lines in turn; the first registers hold the body; a stream that is not written keeps its value
+//   Lines      the lines in turn; the first registers hold the body
 //   Store      gather and scatter in turn
 //   Execute    one instance on a store, as the plain run and as firing have it
 ghost use mathlib.Core.Path.{_≡_};
 ghost use Prim.Native.Nat.{_*_, _-_, _%_, _≤_};
 ghost use lib.ListN.{length, take};
 ghost use Rattle.meaning.specs.Operations.{modulus, fixedProduct, operate};
+ghost use Rattle.meaning.specs.Guards.{indexOf, compares, admits};
 ghost use Rattle.meaning.specs.Body.{runLine, runLines, gather, scatter};
 ghost use Rattle.body.specs.Fit.{Within, Fit, Places, Runnable};
 ghost use Rattle.body.specs.Store.{registers};
@@ -52,7 +53,37 @@ pub fn operate(op: u32, a: u32, b: u32) -> u32
     }
 }
 
-// One line of instance x.
+// The index of loop i at instance x.
+pub fn index_of(i: u32, x: V3) -> i32
+    ensures { λ r. ⌜ r ≡ indexOf i x ⌝ }
+{
+    match i {
+        0 => x.x,
+        1 => x.y,
+        _ => x.z,
+    }
+}
+
+// How an index compares with a bound: always, equal, at most, at least.
+pub fn compares(c: u32, v: i32, bound: i32) -> bool
+    ensures { λ r. ⌜ r ≡ compares c v bound ⌝ }
+{
+    match c {
+        0 => true,
+        1 => v == bound,
+        2 => v <= bound,
+        _ => bound <= v,
+    }
+}
+
+// Whether the guard of a line lets it run at instance x.
+pub fn admits(l: Line, x: V3) -> bool
+    ensures { λ r. ⌜ r ≡ admits l x ⌝ }
+{
+    compares(l.comparison, index_of(l.index, x), l.bound)
+}
+
+// One line of instance x; one that does not run leaves its target.
 pub fn run_line(x: V3, l: Line, registers: &mut [u32; 8])
     requires { ⌜ Within 6 l ⌝ }
     ensures { λ r. ⌜ now (registers .exit) ≡ runLine x l (now (registers .entry)) ⌝ }
@@ -60,7 +91,9 @@ pub fn run_line(x: V3, l: Line, registers: &mut [u32; 8])
     let target = l.target as usize;
     let first = l.first as usize;
     let second = l.second as usize;
-    registers[target] = operate(l.operation, registers[first], registers[second]);
+    if admits(l, x) {
+        registers[target] = operate(l.operation, registers[first], registers[second]);
+    }
 }
 
 // The first count lines in order.

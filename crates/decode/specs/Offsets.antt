@@ -36,8 +36,8 @@ module _ (z : Sizes) (i : ℕ) where
   pub loading-three : z .loops ≡ 3 → loadingAt z i ≡ 21 + 6 * z .streams + 2 * i
   loading-three e = rw e (omega arith)
 
-  pub line-two : z .loops ≡ 2 → lineAt z i ≡ 13 + 3 * z .streams + 4 * i
+  pub line-two : z .loops ≡ 2 → lineAt z i ≡ 13 + 3 * z .streams + 7 * i
   line-two e = rw e (omega arith)
 
-  pub line-three : z .loops ≡ 3 → lineAt z i ≡ 21 + 8 * z .streams + 4 * i
+  pub line-three : z .loops ≡ 3 → lineAt z i ≡ 21 + 8 * z .streams + 7 * i
   line-three e = rw e (omega arith)

@@ -3,7 +3,7 @@ use mathlib.Core.Path.{_≡_, refl, sym, _∙_, ap, subst}
 use mathlib.Core.Bool.{Bool, true, false, cond, _||_}
 use mathlib.Core.Logic.{_⊎_, inl, inr}
 use mathlib.Core.List.{List}
-use Prim.Native.Nat.{ℕ, suc, _+_, _*_, _-_, _≤_, _<_}
+use Prim.Native.Nat.{ℕ, suc, _+_, _*_, _-_, _%_, _≤_, _<_}
 use native.Mathlib.Omega.{arith}
 use lib.Dec.{leb, eqb}
 use borrow.Author.Tests.{leb-true, eqb-true, eq-eqb, ne-eqb, not-false}
@@ -26,11 +26,12 @@ use Rattle.meaning.specs.declared.Description.{Description}
 use Rattle.meaning.specs.Lists.{every, numbersFrom}
 use Rattle.meaning.specs.Tests.{refusal}
 use Rattle.meaning.specs.Operations.{lastOperation}
-use Rattle.meaning.specs.Description.{sizesOf, matrixWords, leftAt, rightAt, directionAt, stepAt, placeAt, mapAt, loadingAt, lineAt, wordsOf, inRange, vectorAt, unit3, matrixAt, nestOf, loadingOf, streamOf, bodyLine, noStream, noLine, descriptionOf, refused1, refused2, refused3, refused4, refused5}
+use Rattle.meaning.specs.Guards.{lastComparison}
+use Rattle.meaning.specs.Description.{sizesOf, matrixWords, leftAt, rightAt, directionAt, stepAt, placeAt, mapAt, loadingAt, lineWords, lineAt, wordsOf, inRange, vectorAt, unit3, matrixAt, nestOf, loadingOf, streamOf, bodyLine, noStream, noLine, descriptionOf, refused1, refused2, refused3, refused4, refused5}
 use Rattle.decode.specs.Offsets.{Sized, two-or-three}
 use Rattle.decode.specs.Filled.{filled-each}
 use Rattle.decode.specs.Scans.{every-at}
-use Rattle.decode.specs.Ranges.{rangeTest, range-is, in-bounds, in-directions, in-steps, in-matrices, in-loading, in-operations, in-operands}
+use Rattle.decode.specs.Ranges.{rangeTest, range-is, in-bounds, in-directions, in-steps, in-matrices, in-loading, lineTest, in-lines, in-operations, in-operands, in-loops, in-comparisons, in-guards}
 use Rattle.decode.specs.Refusals.{firstTests, neither, passed, sizes-in-range}
 
 -- ---- the record
@@ -75,19 +76,22 @@ pub record RangedStream (t : Stream) : Type 0 where
   pub map : AbsMatrix (t .map) 4
   pub loading : Abs2 (t .loading) 1
 
--- m is the number of streams
-pub record RangedLine (m : ℕ) (l : Line) : Type 0 where
+-- of r loops and m streams
+pub record RangedLine (r m : ℕ) (l : Line) : Type 0 where
   pub operation : l .operation ≤ lastOperation
   pub target : l .target ≤ m + 1
   pub first : l .first ≤ m + 1
   pub second : l .second ≤ m + 1
+  pub index : l .index ≤ r - 1
+  pub comparison : l .comparison ≤ lastComparison
+  pub bound : Abs (l .bound) 64
 
 -- those past the sizes are zero, and so in range too
 pub record Ranged (d : Description) : Type 0 where
   pub sized : Sized (d .sizes)
   pub nest : RangedNest (d .nest)
   pub streams : (i : ℕ) → RangedStream (getD (d .streams) i noStream)
-  pub lines : (i : ℕ) → RangedLine (d .sizes .streams) (getD (d .lines) i noLine)
+  pub lines : (i : ℕ) → RangedLine (d .sizes .loops) (d .sizes .streams) (getD (d .lines) i noLine)
 
 -- ---- the parts, from refusal 4
 
@@ -194,25 +198,31 @@ module _ (s : List ℕ) (z : Sizes) (h : Sized z) (good : refused4 s z ≡ false
       last (inr e) =
           rw (ne-eqb (z .loops) 2 (λ g. omega arith)) (loading-word (loadingAt z i + 1) (omega arith) (omega (arith, part f (z .loops - 1))))
 
-  line-ranged : (i : ℕ) → i < z .lines → RangedLine (z .streams) (bodyLine s z i)
+  line-ranged : (i : ℕ) → i < z .lines → RangedLine (z .loops) (z .streams) (bodyLine s z i)
   unfolding bodyLine
   line-ranged i f =
       record {
         operation =
+            let e : lineAt z i ≡ lineAt z i + 0 = omega arith in
             leb-true (bitsAt s (lineAt z i)) lastOperation
-            (sym (in-operations z (lineAt z i) _ (bitsAt s (lineAt z i)) (omega (arith, order)) (omega (arith, order)) (omega arith) (omega arith))
-            ∙ tested (lineAt z i) (omega arith) (omega arith));
+            (subst (λ (k : ℕ). leb (bitsAt s k) lastOperation ≡ true) (sym e) (sym (in-operations z 0 _ _ refl) ∙ test 0 (omega arith)));
         target = operand 1 (omega arith) (omega arith);
         first = operand 2 (omega arith) (omega arith);
         second = operand 3 (omega arith) (omega arith);
+        index = leb-true _ (z .loops - 1) (sym (in-loops z 4 _ _ refl) ∙ test 4 (omega arith));
+        comparison = leb-true _ lastComparison (sym (in-comparisons z 5 _ _ refl) ∙ test 5 (omega arith));
+        bound = abs-of (sym (in-guards z 6 _ _ (omega arith)) ∙ test 6 (omega arith));
       }
     where
-      operand : (j : ℕ) → 1 ≤ j → j < 4 → bitsAt s (lineAt z i + j) ≤ z .streams + 1
-      operand j l m =
+      test : (j : ℕ) → j < lineWords → lineTest z j (natAbs (wordAt s (lineAt z i + j))) (bitsAt s (lineAt z i + j)) ≡ true
+      test j m =
           let k : ℕ = lineAt z i + j in
-          leb-true (bitsAt s k) (z .streams + 1)
-          (sym (in-operands z k _ (bitsAt s k) (omega (arith, order)) (omega (arith, order)) (omega arith) (λ g. omega arith))
-          ∙ tested k (omega arith) (omega arith))
+          let e : (k - lineAt z 0) % lineWords ≡ j = omega arith in
+          subst (λ (w : ℕ). lineTest z w (natAbs (wordAt s k)) (bitsAt s k) ≡ true) e
+          (sym (in-lines z k _ (bitsAt s k) (omega (arith, order)) (omega (arith, order)) (omega arith)) ∙ tested k (omega arith) (omega (arith, part f lineWords)))
+
+      operand : (j : ℕ) → 1 ≤ j → j < 4 → bitsAt s (lineAt z i + j) ≤ z .streams + 1
+      operand j l m = leb-true _ (z .streams + 1) (sym (in-operands z j _ _ l m) ∙ test j (omega arith))
 
 -- ---- a refusal of 0
 
@@ -227,8 +237,17 @@ no-stream =
       loading = record { a = zero-abs 1; b = zero-abs 1 };
     }
 
-no-line : (m : ℕ) → RangedLine m noLine
-no-line m = record { operation = omega arith; target = omega arith; first = omega arith; second = omega arith }
+no-line : (r m : ℕ) → RangedLine r m noLine
+no-line r m =
+    record {
+      operation = omega arith;
+      target = omega arith;
+      first = omega arith;
+      second = omega arith;
+      index = omega arith;
+      comparison = omega arith;
+      bound = zero-abs 64;
+    }
 
 -- what an answer 0 says of the bytes
 pub record Decoded (s : List ℕ) : Type 0 where
@@ -255,7 +274,7 @@ decoded s e =
             nest = nest-ranged s z h (p4 .0) (p5 .0);
             streams = filled-each (streamOf s z) RangedStream (z .streams) 6 noStream (h .most-streams) no-stream (stream-ranged s z h (p4 .0));
             lines =
-                filled-each (bodyLine s z) (RangedLine (z .streams)) (z .lines) 8 noLine (h .most-lines) (no-line (z .streams))
+                filled-each (bodyLine s z) (RangedLine (z .loops) (z .streams)) (z .lines) 8 noLine (h .most-lines) (no-line (z .loops) (z .streams))
                 (line-ranged s z h (p4 .0));
           };
     }

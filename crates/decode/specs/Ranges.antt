@@ -13,8 +13,18 @@ use mir.Val.{toZ, sel}
 use Rattle.integers.specs.Words.{eqZ}
 use Rattle.meaning.specs.declared.Sizes.{Sizes}
 use Rattle.meaning.specs.Operations.{lastOperation}
-use Rattle.meaning.specs.Description.{directionAt, stepAt, placeAt, loadingAt, lineAt, between, inRange}
+use Rattle.meaning.specs.Guards.{lastComparison}
+use Rattle.meaning.specs.Description.{directionAt, stepAt, placeAt, loadingAt, lineWords, lineAt, between, inRange}
 use Rattle.decode.specs.Offsets.{Sized}
+
+-- word j of a line, of magnitude n and bits u
+unfoldable pub lineTest : Sizes → ℕ → ℕ → ℕ → Bool
+lineTest z j n u =
+    cond (eqb j 0) (leb u lastOperation)
+    (cond (ltb j 4) (leb u (z .streams + 1))
+    (cond (eqb j 4) (leb u (z .loops - 1))
+    (cond (eqb j 5) (leb u lastComparison)
+    (leb n 64))))
 
 -- word k, of magnitude n and bits u
 unfoldable pub rangeTest : Sizes → ℕ → ℕ → ℕ → Bool
@@ -24,8 +34,7 @@ rangeTest z k n u =
     (cond (ltb k (placeAt z)) (leb n 8)
     (cond (ltb k (loadingAt z 0)) (leb n 4)
     (cond (ltb k (lineAt z 0)) (leb n 1)
-    (cond (eqb ((k - lineAt z 0) % 4) 0) (leb u lastOperation)
-    (leb u (z .streams + 1)))))))
+    (lineTest z ((k - lineAt z 0) % lineWords) n u)))))
 
 -- ---- magnitudes and bits for signed words
 
@@ -58,15 +67,17 @@ bits-are u n h = go (ltb u (2 ^ 31)) refl
 
 module _ (z : Sizes) (k u : ℕ) where
   by-parts : (w : ℤ) → leb u lastOperation ≡ between (pos 0) (pos lastOperation) w → leb u (z .streams + 1) ≡ between (pos 0) (pos (suc (z .streams))) w
+      → leb u (z .loops - 1) ≡ between (pos 0) (pos (z .loops - 1)) w → leb u lastComparison ≡ between (pos 0) (pos lastComparison) w
       → rangeTest z k (natAbs w) u ≡ inRange z k w
-  unfolding rangeTest
-  by-parts w e g = rw (magnitude-is 63 w, direction-is w, magnitude-is 7 w, magnitude-is 3 w, magnitude-is 0 w, e, g)
+  unfolding rangeTest lineTest
+  by-parts w e g i j = rw (magnitude-is 63 w, direction-is w, magnitude-is 7 w, magnitude-is 3 w, magnitude-is 0 w, e, g, i, j)
 
   -- the test on magnitude and bits is document 01's
   pub range-is : Sized z → rangeTest z k (natAbs (toZ w32 u)) u ≡ inRange z k (toZ w32 u)
   range-is h =
       by-parts (toZ w32 u) (bits-are u lastOperation (omega arith))
       (ap (leb u) (add-one (z .streams)) ∙ bits-are u (suc (z .streams)) (omega (arith, h .most-streams)))
+      (bits-are u (z .loops - 1) (omega (arith, h .most-loops))) (bits-are u lastComparison (omega arith))
 
 -- ---- the test, by the part that word k is in
 
@@ -97,16 +108,31 @@ module _ (z : Sizes) (k n u : ℕ) where
           let a : directionAt z ≤ k = omega arith in
           let b : stepAt z ≤ k = omega arith in rw (le-ltb _ _ a, le-ltb _ _ b, le-ltb _ _ c, le-ltb _ _ d, lt-ltb _ _ e)
 
-      in-lines : lineAt z 0 ≤ k → rangeTest z k n u ≡ cond (eqb ((k - lineAt z 0) % 4) 0) (leb u lastOperation) (leb u (z .streams + 1))
+      pub in-lines : lineAt z 0 ≤ k → rangeTest z k n u ≡ lineTest z ((k - lineAt z 0) % lineWords) n u
       unfolding rangeTest
       in-lines e =
           let a : directionAt z ≤ k = omega arith in
           let b : stepAt z ≤ k = omega arith in rw (le-ltb _ _ a, le-ltb _ _ b, le-ltb _ _ c, le-ltb _ _ d, le-ltb _ _ e)
 
-      pub in-operations : lineAt z 0 ≤ k → (k - lineAt z 0) % 4 ≡ 0 → rangeTest z k n u ≡ leb u lastOperation
-      in-operations e f =
-          in-lines e ∙ ap (λ (b : Bool). cond b (leb u lastOperation) (leb u (z .streams + 1))) (eq-eqb _ 0 f)
+-- ---- word j of a line
 
-      pub in-operands : lineAt z 0 ≤ k → ((k - lineAt z 0) % 4 ≡ 0 → ⊥) → rangeTest z k n u ≡ leb u (z .streams + 1)
-      in-operands e f =
-          in-lines e ∙ ap (λ (b : Bool). cond b (leb u lastOperation) (leb u (z .streams + 1))) (ne-eqb _ 0 f)
+module _ (z : Sizes) (j n u : ℕ) where
+  pub in-operations : j ≡ 0 → lineTest z j n u ≡ leb u lastOperation
+  unfolding lineTest
+  in-operations e = rw (eq-eqb j 0 e)
+
+  pub in-operands : 1 ≤ j → j < 4 → lineTest z j n u ≡ leb u (z .streams + 1)
+  unfolding lineTest
+  in-operands e f = rw (ne-eqb j 0 (λ g. omega arith), lt-ltb j 4 f)
+
+  pub in-loops : j ≡ 4 → lineTest z j n u ≡ leb u (z .loops - 1)
+  unfolding lineTest
+  in-loops e = rw e
+
+  pub in-comparisons : j ≡ 5 → lineTest z j n u ≡ leb u lastComparison
+  unfolding lineTest
+  in-comparisons e = rw e
+
+  pub in-guards : 6 ≤ j → lineTest z j n u ≡ leb n 64
+  unfolding lineTest
+  in-guards e = let a : 4 ≤ j = omega arith in rw (ne-eqb j 0 (λ g. omega arith), le-ltb j 4 a, ne-eqb j 4 (λ g. omega arith), ne-eqb j 5 (λ g. omega arith))

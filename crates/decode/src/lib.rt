@@ -138,12 +138,12 @@ pub fn loading_at(z: Sizes, i: u32) -> u32
 // The word at which line i begins.
 pub fn line_at(z: Sizes, i: u32) -> u32
     requires { ⌜ (Sized z) × (i ≤ 8) ⌝ }
-    ensures { λ r. ⌜ (r ≡ lineAt z i) × (r ≤ 101) ⌝ }
+    ensures { λ r. ⌜ (r ≡ lineAt z i) × (r ≤ 125) ⌝ }
 {
     if z.loops == 2 {
-        13 + 3 * z.streams + 4 * i
+        13 + 3 * z.streams + 7 * i
     } else {
-        21 + 8 * z.streams + 4 * i
+        21 + 8 * z.streams + 7 * i
     }
 }
 
@@ -169,6 +169,9 @@ fn line_of(s: &[u8], z: Sizes, i: u32) -> Line
         target: integers::bits_at(s, k + 1),
         first: integers::bits_at(s, k + 2),
         second: integers::bits_at(s, k + 3),
+        index: integers::bits_at(s, k + 4),
+        comparison: integers::bits_at(s, k + 5),
+        bound: integers::word_at(s, k + 6),
     }
 }
 
@@ -211,6 +214,9 @@ fn lines(s: &[u8], z: Sizes) -> [Line; 8]
         target: 0,
         first: 0,
         second: 0,
+        index: 0,
+        comparison: 0,
+        bound: 0,
     }; 8];
     let n = z.lines;
     let mut i: u32 = 0;

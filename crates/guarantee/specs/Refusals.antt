@@ -58,11 +58,11 @@ says-eqZ a b = says-by (eqZ a b) (eqZ-eq a b) (eq-eqZ a b)
 pub says-eq2 : (p q : V2) → Says (p ≡ q) (eq2 p q)
 says-eq2 p q = says-by (eq2 p q) (eq2-eq p q) (eq-eq2 p q)
 
+pub says-leZ : (a b : ℤ) → Says (a ≤ℤ b) (leZ a b)
+says-leZ a b = says-by (leZ a b) (λ t. record { le = t }) (λ h. h .le)
+
 pub says-between : (lo hi w : ℤ) → Says (Between lo hi w) (leZ lo w && leZ w hi)
 says-between lo hi w = says-as (λ p. record { lo = p .0; hi = p .1 }) (λ b. (b .lo, b .hi)) (says-and (says-leZ lo w) (says-leZ w hi))
-  where
-    says-leZ : (a b : ℤ) → Says (a ≤ℤ b) (leZ a b)
-    says-leZ a b = says-by (leZ a b) (λ t. record { le = t }) (λ h. h .le)
 
 pub says-small : (c : ℤ) → Says (Small c) (small c)
 says-small c = says-between (negsuc 0) (pos 1) c

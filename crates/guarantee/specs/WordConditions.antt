@@ -1,5 +1,5 @@
 -- Conditions 1 to 4, of the bytes, the sizes and the words, against their tests; what the fourth leaves: directions of 1 or −1. Assumes nothing.
-use mathlib.Core.Path.{_≡_, refl, sym, subst}
+use mathlib.Core.Path.{_≡_, refl, sym, _∙_, ap, subst}
 use mathlib.Core.Logic.{_⊎_, inl, inr}
 use mathlib.Core.Bool.{Bool, true, false, cond, _||_}
 use mathlib.Core.List.{List}
@@ -8,7 +8,7 @@ use native.Mathlib.Omega.{arith}
 use lib.Dec.{eqb}
 use lib.ListN.{length}
 use lib.IntN.{ℤ, pos, negsuc}
-use borrow.Author.Tests.{lt-ltb, le-ltb, eq-eqb, ne-eqb, eqb-false}
+use borrow.Author.Tests.{lt-ltb, le-ltb, ne-eqb, eqb-false}
 use Rattle.integers.specs.Order.{part}
 use Rattle.integers.specs.Bytes.{wordAt}
 use Rattle.integers.specs.Words.{eqZ}
@@ -16,7 +16,8 @@ use Rattle.meaning.specs.declared.Sizes.{Sizes}
 use Rattle.meaning.specs.Lists.{every, numbersFrom}
 use Rattle.meaning.specs.Points.{Direction, Direction.onward, Direction.back, Between, Directed}
 use Rattle.meaning.specs.Operations.{lastOperation}
-use Rattle.meaning.specs.Description.{matrixWords, leftAt, rightAt, directionAt, stepAt, placeAt, mapAt, loadingAt, lineAt, wordsOf, inRange, nestOf, refused2, refused3, refused4}
+use Rattle.meaning.specs.Guards.{lastComparison}
+use Rattle.meaning.specs.Description.{matrixWords, leftAt, rightAt, directionAt, stepAt, placeAt, mapAt, loadingAt, lineWords, lineAt, wordsOf, lineRange, inRange, nestOf, refused2, refused3, refused4}
 use Rattle.meaning.specs.Conditions.{SizesFit, wordTotal, WordsFit}
 use Rattle.network.specs.Cases.{Order, less, atLeast, order}
 use Rattle.network.specs.Lists.{every-numbers, numbers-every}
@@ -89,19 +90,10 @@ module _ (z : Sizes) (k : ℕ) (w : ℤ) where
           let b : stepAt z ≤ k = omega arith in
           rw (le-ltb _ _ a, le-ltb _ _ b, le-ltb _ _ c, le-ltb _ _ d, lt-ltb _ _ e) (says-between (negsuc 0) (pos 1) w)
 
-      in-operations : lineAt z 0 ≤ k → (k - lineAt z 0) % 4 ≡ 0 → Says (Between (pos 0) (pos lastOperation) w) (inRange z k w)
-      in-operations e f =
+      in-lines : lineAt z 0 ≤ k → inRange z k w ≡ lineRange z ((k - lineAt z 0) % lineWords) w
+      in-lines e =
           let a : directionAt z ≤ k = omega arith in
-          let b : stepAt z ≤ k = omega arith in
-          rw (le-ltb _ _ a, le-ltb _ _ b, le-ltb _ _ c, le-ltb _ _ d, le-ltb _ _ e, eq-eqb _ 0 f) (says-between (pos 0) (pos lastOperation) w)
-
-      in-operands : lineAt z 0 ≤ k → ((k - lineAt z 0) % 4 ≡ 0 → ⊥) → Says (Between (pos 0) (pos (z .streams + 1)) w) (inRange z k w)
-      in-operands e f =
-          let a : directionAt z ≤ k = omega arith in
-          let b : stepAt z ≤ k = omega arith in
-          let g : suc (z .streams) ≡ z .streams + 1 = omega arith in
-          rw (le-ltb _ _ a, le-ltb _ _ b, le-ltb _ _ c, le-ltb _ _ d, le-ltb _ _ e, ne-eqb _ 0 f, g)
-          (says-between (pos 0) (pos (z .streams + 1)) w)
+          let b : stepAt z ≤ k = omega arith in rw (le-ltb _ _ a, le-ltb _ _ b, le-ltb _ _ c, le-ltb _ _ d, le-ltb _ _ e)
 
 module _ (s : List ℕ) (z : Sizes) where
   abbrev ok : ℕ → Bool
@@ -133,11 +125,33 @@ module _ (s : List ℕ) (z : Sizes) where
       → Says (Between (negsuc 0) (pos 1) (wordAt s (loadingAt z i + j))) (ok (loadingAt z i + j))
   loading-word i j g h = in-loading z (loadingAt z i + j) _ (omega arith) (omega arith) (omega (arith, part g (z .loops - 1)))
 
-  pub operation-word : (i : ℕ) → Says (Between (pos 0) (pos lastOperation) (wordAt s (lineAt z i))) (ok (lineAt z i))
-  operation-word i = in-operations z (lineAt z i) _ (omega arith) (omega arith) (omega arith) (omega arith)
+  -- word j of line i
+  line-word : {A : Type 0} (i j : ℕ) → j < lineWords → Says A (lineRange z j (wordAt s (lineAt z i + j))) → Says A (ok (lineAt z i + j))
+  line-word {A} i j h r =
+      let k : ℕ = lineAt z i + j in
+      let e : (k - lineAt z 0) % lineWords ≡ j = omega arith in
+      subst (Says A) (sym (in-lines z k (wordAt s k) (omega arith) (omega arith) (omega arith) ∙ ap (λ (n : ℕ). lineRange z n (wordAt s k)) e)) r
 
+  pub operation-word : (i : ℕ) → Says (Between (pos 0) (pos lastOperation) (wordAt s (lineAt z i))) (ok (lineAt z i))
+  operation-word i =
+      let e : lineAt z i + 0 ≡ lineAt z i = omega arith in
+      subst (λ (k : ℕ). Says (Between (pos 0) (pos lastOperation) (wordAt s k)) (ok k)) e (line-word i 0 (omega arith) (says-between (pos 0) (pos lastOperation) _))
+
+  -- target, first and second operand
   operand-word : (i j : ℕ) → 1 ≤ j → j < 4 → Says (Between (pos 0) (pos (z .streams + 1)) (wordAt s (lineAt z i + j))) (ok (lineAt z i + j))
-  operand-word i j g h = in-operands z (lineAt z i + j) _ (omega arith) (omega arith) (omega arith) (λ e. omega arith)
+  operand-word i j g h =
+      let n : suc (z .streams) ≡ z .streams + 1 = omega arith in
+      line-word i j (omega arith) (rw (ne-eqb j 0 (λ e. omega arith), lt-ltb j 4 h, n) (says-between (pos 0) (pos (z .streams + 1)) _))
+
+  -- the guard
+  pub index-word : (i : ℕ) → Says (Between (pos 0) (pos (z .loops - 1)) (wordAt s (lineAt z i + 4))) (ok (lineAt z i + 4))
+  index-word i = line-word i 4 (omega arith) (says-between (pos 0) (pos (z .loops - 1)) _)
+
+  pub comparison-word : (i : ℕ) → Says (Between (pos 0) (pos lastComparison) (wordAt s (lineAt z i + 5))) (ok (lineAt z i + 5))
+  comparison-word i = line-word i 5 (omega arith) (says-between (pos 0) (pos lastComparison) _)
+
+  pub bound-word : (i : ℕ) → Says (Between (negsuc 63) (pos 64) (wordAt s (lineAt z i + 6))) (ok (lineAt z i + 6))
+  bound-word i = line-word i 6 (omega arith) (says-between (negsuc 63) (pos 64) _)
 
   -- all words are in range exactly if those of each part are
   parts-fit : ((k : ℕ) → 3 ≤ k → k < wordsOf z → ok k ≡ true) → WordsFit s z
@@ -154,6 +168,9 @@ module _ (s : List ℕ) (z : Sizes) where
         target = λ i g. said (operand-word i 1 (omega arith) (omega arith)) (f (lineAt z i + 1) (omega arith) (omega arith));
         first = λ i g. said (operand-word i 2 (omega arith) (omega arith)) (f (lineAt z i + 2) (omega arith) (omega arith));
         second = λ i g. said (operand-word i 3 (omega arith) (omega arith)) (f (lineAt z i + 3) (omega arith) (omega arith));
+        index = λ i g. said (index-word i) (f (lineAt z i + 4) (omega arith) (omega arith));
+        comparison = λ i g. said (comparison-word i) (f (lineAt z i + 5) (omega arith) (omega arith));
+        bound = λ i g. said (bound-word i) (f (lineAt z i + 6) (omega arith) (omega arith));
       }
 
   fit-parts : WordsFit s z → (k : ℕ) → 3 ≤ k → k < wordsOf z → ok k ≡ true
@@ -162,12 +179,15 @@ module _ (s : List ℕ) (z : Sizes) where
       In-range : ℕ → Type 0
       In-range k = ok k ≡ true
 
-      line : (i j : ℕ) → i < z .lines → j < 4 → In-range (lineAt z i + j)
+      line : (i j : ℕ) → i < z .lines → j < lineWords → In-range (lineAt z i + j)
       line i zero g h = let e : lineAt z i ≡ lineAt z i + 0 = omega arith in subst In-range e (says-true (operation-word i) (f .operation i g))
       line i (suc zero) g h = says-true (operand-word i 1 (omega arith) (omega arith)) (f .target i g)
       line i (suc (suc zero)) g h = says-true (operand-word i 2 (omega arith) (omega arith)) (f .first i g)
       line i (suc (suc (suc zero))) g h = says-true (operand-word i 3 (omega arith) (omega arith)) (f .second i g)
-      line i (suc (suc (suc (suc j)))) g h = absurd (omega arith)
+      line i (suc (suc (suc (suc zero)))) g h = says-true (index-word i) (f .index i g)
+      line i (suc (suc (suc (suc (suc zero))))) g h = says-true (comparison-word i) (f .comparison i g)
+      line i (suc (suc (suc (suc (suc (suc zero)))))) g h = says-true (bound-word i) (f .bound i g)
+      line i (suc (suc (suc (suc (suc (suc (suc j))))))) g h = absurd (omega arith)
 
       loadings : mapAt z (z .streams) ≤ k → Order k (loadingAt z (z .streams)) → In-range k
       loadings b (less a) = in-parts In-range _ _ _ k b a (λ i j g h. says-true (loading-word i j g h) (f .loading i j g h))

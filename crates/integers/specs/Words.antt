@@ -127,7 +127,7 @@ eqZ (pos m) (negsuc n) = false
 eqZ (negsuc m) (pos n) = false
 eqZ (negsuc m) (negsuc n) = eqb m n
 
-eq-bits : (a b : ℤ) → mag a < 2 ^ 31 → mag b < 2 ^ 31 → eqb (ofZ w32 a) (ofZ w32 b) ≡ eqZ a b
+pub eq-bits : (a b : ℤ) → mag a < 2 ^ 31 → mag b < 2 ^ 31 → eqb (ofZ w32 a) (ofZ w32 b) ≡ eqZ a b
 eq-bits (pos m) (pos n) h k = refl
 eq-bits (pos m) (negsuc n) h k = ne-eqb m (2 ^ 32 - suc n) (omega arith)
 eq-bits (negsuc m) (pos n) h k = ne-eqb (2 ^ 32 - suc m) n (omega arith)

@@ -1,4 +1,5 @@
 -- Document 01, the body and the plain run: lines, one instance on a store, the store after the first instances.
+use mathlib.Core.Bool.{cond}
 use mathlib.Core.List.{List, [], _∷_, _++_, map}
 use Prim.Native.Nat.{ℕ, _+_}
 use lib.ListN.{length, getD, set, take}
@@ -13,13 +14,14 @@ use Rattle.meaning.specs.Loops.{instances}
 use Rattle.meaning.specs.Space.{boxOf, rowIndex}
 use Rattle.meaning.specs.Streams.{elements}
 use Rattle.meaning.specs.Operations.{operate}
+use Rattle.meaning.specs.Guards.{admits}
 use Rattle.meaning.specs.Description.{streamsOf, linesOf}
 
 -- ---- lines
 
--- one line of instance x, on the values of the streams and the two scratch values
+-- one line of instance x, on the values of the streams and the two scratch values; a line that its guard does not admit leaves them
 abbrev pub runLine : V3 → Line → List ℕ → List ℕ
-runLine x l vs = set vs (l .target) (operate (l .operation) (getD vs (l .first) 0) (getD vs (l .second) 0))
+runLine x l vs = cond (admits l x) (set vs (l .target) (operate (l .operation) (getD vs (l .first) 0) (getD vs (l .second) 0))) vs
 
 unfoldable pub runLines : V3 → List Line → List ℕ → List ℕ
 runLines x [] vs = vs

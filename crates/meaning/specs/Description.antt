@@ -19,6 +19,7 @@ use Rattle.meaning.specs.declared.Line.{Line}
 use Rattle.meaning.specs.declared.Description.{Description}
 use Rattle.meaning.specs.Lists.{every, any, numbers, numbersFrom}
 use Rattle.meaning.specs.Operations.{lastOperation}
+use Rattle.meaning.specs.Guards.{lastComparison}
 
 -- ---- sizes and lengths
 
@@ -52,8 +53,12 @@ mapAt z i = placeAt z + matrixWords z + i * matrixWords z
 abbrev pub loadingAt : Sizes → ℕ → ℕ
 loadingAt z i = mapAt z (z .streams) + i * (z .loops - 1)
 
+-- the words of a line: operation, target, first and second operand; loop number, comparison and bound of its guard
+abbrev pub lineWords : ℕ
+lineWords = 7
+
 abbrev pub lineAt : Sizes → ℕ → ℕ
-lineAt z i = loadingAt z (z .streams) + i * 4
+lineAt z i = loadingAt z (z .streams) + i * lineWords
 
 -- the number of words that the sizes give
 abbrev pub wordsOf : Sizes → ℕ
@@ -64,8 +69,17 @@ wordsOf z = lineAt z (z .lines)
 abbrev pub between : ℤ → ℤ → ℤ → Bool
 between lo hi w = leZ lo w && leZ w hi
 
--- the range of word k: bounds −64 to 64, directions 1 or −1, steps −8 to 8, matrix words −4 to 4, loading −1 to 1, operations 0 to 6 (5 before
--- request 2.1), targets and operands 0 to m+1
+-- the range of word j of a line: operations 0 to 6 (5 before request 2.1), targets and operands 0 to m+1; of its guard (request 2.5) the loop number
+-- 0 to r−1, the comparison 0 to 3, the bound −64 to 64
+abbrev pub lineRange : Sizes → ℕ → ℤ → Bool
+lineRange z j w =
+    cond (eqb j 0) (between (pos 0) (pos lastOperation) w)
+    (cond (ltb j 4) (between (pos 0) (pos (suc (z .streams))) w)
+    (cond (eqb j 4) (between (pos 0) (pos (z .loops - 1)) w)
+    (cond (eqb j 5) (between (pos 0) (pos lastComparison) w)
+    (between (negsuc 63) (pos 64) w))))
+
+-- the range of word k: bounds −64 to 64, directions 1 or −1, steps −8 to 8, matrix words −4 to 4, loading −1 to 1, then lines
 abbrev pub inRange : Sizes → ℕ → ℤ → Bool
 inRange z k w =
     cond (ltb k (directionAt z)) (between (negsuc 63) (pos 64) w)
@@ -73,8 +87,7 @@ inRange z k w =
     (cond (ltb k (placeAt z)) (between (negsuc 7) (pos 8) w)
     (cond (ltb k (loadingAt z 0)) (between (negsuc 3) (pos 4) w)
     (cond (ltb k (lineAt z 0)) (between (negsuc 0) (pos 1) w)
-    (cond (eqb ((k - lineAt z 0) % 4) 0) (between (pos 0) (pos lastOperation) w)
-    (between (pos 0) (pos (suc (z .streams))) w))))))
+    (lineRange z ((k - lineAt z 0) % lineWords) w)))))
 
 -- ---- decoding: two loops become three
 
@@ -112,13 +125,16 @@ bodyLine s z i =
       target = bitsAt s (lineAt z i + 1);
       first = bitsAt s (lineAt z i + 2);
       second = bitsAt s (lineAt z i + 3);
+      index = bitsAt s (lineAt z i + 4);
+      comparison = bitsAt s (lineAt z i + 5);
+      bound = wordAt s (lineAt z i + 6);
     }
 
 abbrev pub noStream : Stream
 noStream = record { map = record { top = zero3; low = zero3 }; loading = zero2 }
 
 abbrev pub noLine : Line
-noLine = record { operation = 0; target = 0; first = 0; second = 0 }
+noLine = record { operation = 0; target = 0; first = 0; second = 0; index = 0; comparison = 0; bound = pos 0 }
 
 unfoldable pub descriptionOf : List ℕ → Description
 descriptionOf s =

@@ -9,6 +9,7 @@ use Rattle.meaning.specs.declared.Nest.{Nest}
 use Rattle.meaning.specs.declared.Stream.{Stream}
 use Rattle.meaning.specs.declared.Row.{Row}
 use Rattle.meaning.specs.Limits.{gaugeLimits}
+use Rattle.meaning.specs.Lists.{each}
 use Rattle.meaning.specs.Description.{noStream, descriptionOf}
 use Rattle.meaning.specs.Rules.{Memory}
 use Rattle.meaning.specs.Calls.{start}
@@ -21,19 +22,39 @@ unfoldable pub bytes : List ℤ → List ℕ
 bytes [] = []
 bytes (z ∷ l) = wordBytes (ofZ w32 z) ++ bytes l
 
--- body: scratch := a times b by an operation, c := c + scratch; streams a, b, c are 0, 1, 2, scratch is 3
-abbrev pub productBy : ℕ → List ℤ
-productBy op = pos op ∷ pos 3 ∷ pos 0 ∷ pos 1 ∷ pos 1 ∷ pos 2 ∷ pos 2 ∷ pos 3 ∷ []
+-- ---- bodies of streams 0, 1 and 2, with scratch 3
 
-abbrev pub product : List ℤ
+-- a line with its guard: loop number, comparison, bound; and one that always runs
+abbrev pub guarded : ℕ → ℕ → ℕ → ℕ → ℤ → ℤ → ℤ → List ℤ
+guarded op target first second loop comparison bound =
+    pos op ∷ pos target ∷ pos first ∷ pos second ∷ loop ∷ comparison ∷ bound ∷ []
+
+abbrev pub line : ℕ → ℕ → ℕ → ℕ → List ℤ
+line op target first second = guarded op target first second (pos 0) (pos 0) (pos 0)
+
+-- the words of a body, after those of what stands before it
+abbrev pub ended : List (List ℤ) → List ℤ
+ended body = each (λ l. l) body
+
+-- scratch := a times b by an operation, c := c + scratch; streams a, b, c are 0, 1, 2
+abbrev pub productBy : ℕ → List (List ℤ)
+productBy op = line op 3 0 1 ∷ line 1 2 2 3 ∷ []
+
+abbrev pub product : List (List ℤ)
 product = productBy 3
 
+-- c := scratch, which is zero, under a guard
+abbrev pub clear : ℕ → ℕ → ℤ → List ℤ
+clear loop comparison bound = guarded 0 2 3 3 (pos loop) (pos comparison) bound
+
+-- ---- designs
+
 -- the polynomial product on loops 0..m and 0..n: step, place and c's map as two words, loading of a, b and c as three, body
-abbrev pub polynomialBy : List ℤ → ℕ → ℕ → List ℤ → List ℤ → List ℤ → List ℤ → List ℕ
+abbrev pub polynomialBy : List (List ℤ) → ℕ → ℕ → List ℤ → List ℤ → List ℤ → List ℤ → List ℕ
 polynomialBy body m n step place c loading =
     bytes
-    ((pos 2 ∷ pos 3 ∷ pos 2 ∷ pos 0 ∷ pos 0 ∷ pos m ∷ pos n ∷ pos 1 ∷ pos 1 ∷ [])
-    ++ (step ++ (place ++ ((pos 1 ∷ pos 0 ∷ pos 0 ∷ pos 1 ∷ []) ++ (c ++ (loading ++ body))))))
+    ((pos 2 ∷ pos 3 ∷ pos (length body) ∷ pos 0 ∷ pos 0 ∷ pos m ∷ pos n ∷ pos 1 ∷ pos 1 ∷ [])
+    ++ (step ++ (place ++ ((pos 1 ∷ pos 0 ∷ pos 0 ∷ pos 1 ∷ []) ++ (c ++ (loading ++ ended body))))))
 
 abbrev pub polynomial : ℕ → ℕ → List ℤ → List ℤ → List ℤ → List ℤ → List ℕ
 polynomial = polynomialBy product
@@ -41,10 +62,13 @@ polynomial = polynomialBy product
 abbrev pub pair : ℤ → ℤ → List ℤ
 pair i j = i ∷ j ∷ []
 
--- design one by an operation, on loops 0..n twice
+-- design one with some body, and with the product by an operation, on loops 0..n twice
+abbrev pub designOneWith : List (List ℤ) → ℕ → List ℕ
+designOneWith body n =
+    polynomialBy body n n (pair (pos 2) (pos 1)) (pair (pos 1) (pos 0)) (pair (pos 1) (pos 1)) (pos 1 ∷ pos 0 ∷ pos 0 ∷ [])
+
 abbrev pub designOneBy : ℕ → ℕ → List ℕ
-designOneBy op n =
-    polynomialBy (productBy op) n n (pair (pos 2) (pos 1)) (pair (pos 1) (pos 0)) (pair (pos 1) (pos 1)) (pos 1 ∷ pos 0 ∷ pos 0 ∷ [])
+designOneBy op n = designOneWith (productBy op) n
 
 -- "loops 0..2 and 0..2, directions 1, step 2i+j, streams a: i, b: j, c: i+j. Design one: place i, loading 1 for a. Design two: place i+j, loading 1 for c"
 abbrev pub designOne : List ℕ
@@ -57,6 +81,10 @@ designTwo = polynomial 2 2 (pair (pos 2) (pos 1)) (pair (pos 1) (pos 1)) (pair (
 abbrev pub values : List ℕ
 values = 1 ∷ 2 ∷ 3 ∷ 4 ∷ 5 ∷ 6 ∷ 0 ∷ 0 ∷ 0 ∷ 0 ∷ 0 ∷ []
 
+-- c as it comes (request 2.5)
+abbrev pub uncleared : List ℕ
+uncleared = 1 ∷ 2 ∷ 3 ∷ 4 ∷ 5 ∷ 6 ∷ 9 ∷ 8 ∷ 7 ∷ 6 ∷ 5 ∷ []
+
 -- the same as 16.16 numbers (request 2.1)
 abbrev pub fixedValues : List ℕ
 fixedValues = 65536 ∷ 131072 ∷ 196608 ∷ 262144 ∷ 327680 ∷ 393216 ∷ 0 ∷ 0 ∷ 0 ∷ 0 ∷ 0 ∷ []
@@ -66,8 +94,7 @@ abbrev pub turned : List ℕ
 turned =
     bytes
     ((pos 2 ∷ pos 3 ∷ pos 2 ∷ pos 0 ∷ pos 0 ∷ pos 2 ∷ pos 2 ∷ negsuc 0 ∷ pos 1 ∷ negsuc 1 ∷ pos 1 ∷ pos 1 ∷ pos 0 ∷ [])
-    ++ ((pos 1 ∷ pos 0 ∷ pos 0 ∷ pos 1 ∷ pos 1 ∷ pos 1 ∷ []) ++ ((pos 1 ∷ pos 0 ∷ pos 0 ∷ [])
-    ++ (pos 3 ∷ pos 3 ∷ pos 0 ∷ pos 1 ∷ pos 2 ∷ pos 2 ∷ pos 3 ∷ pos 2 ∷ []))))
+    ++ ((pos 1 ∷ pos 0 ∷ pos 0 ∷ pos 1 ∷ pos 1 ∷ pos 1 ∷ []) ++ ((pos 1 ∷ pos 0 ∷ pos 0 ∷ []) ++ (line 3 3 0 1 ++ line 2 2 3 2))))
 
 -- request 2.2's decimating filter on loops 0..m and 0..n: place 2i+j, step 3i+j, streams y: i, x: 2i+j with loading 1, w: i+j; body scratch := x times w,
 -- y := y + scratch, so that each y is a sum over its window, and the windows begin at every second x
@@ -75,16 +102,19 @@ abbrev pub decimating : ℕ → ℕ → List ℕ
 decimating m n =
     bytes
     ((pos 2 ∷ pos 3 ∷ pos 2 ∷ pos 0 ∷ pos 0 ∷ pos m ∷ pos n ∷ pos 1 ∷ pos 1 ∷ pos 3 ∷ pos 1 ∷ pos 2 ∷ pos 1 ∷ [])
-    ++ ((pos 1 ∷ pos 0 ∷ pos 2 ∷ pos 1 ∷ pos 1 ∷ pos 1 ∷ []) ++ ((pos 0 ∷ pos 1 ∷ pos 0 ∷ [])
-    ++ (pos 3 ∷ pos 3 ∷ pos 1 ∷ pos 2 ∷ pos 1 ∷ pos 0 ∷ pos 0 ∷ pos 3 ∷ []))))
+    ++ ((pos 1 ∷ pos 0 ∷ pos 2 ∷ pos 1 ∷ pos 1 ∷ pos 1 ∷ []) ++ ((pos 0 ∷ pos 1 ∷ pos 0 ∷ []) ++ (line 3 3 1 2 ++ line 1 0 0 3))))
 
--- the matrix product on loops 0..1, 0..n and 0..1, step i+j+k, place as six words: streams a: (i,k), b: (k,j), c: (i,j)
-abbrev pub matrices : ℕ → List ℤ → List ℕ
-matrices n place =
+-- the matrix product on loops 0..1, 0..n and 0..1, the last in direction d, step i+j+d·k, place as six words, loading of c as two, body: streams a: (i,k),
+-- b: (k,j), c: (i,j)
+abbrev pub matricesBy : List (List ℤ) → ℕ → ℤ → List ℤ → List ℤ → List ℕ
+matricesBy body n d place loading =
     bytes
-    ((pos 3 ∷ pos 3 ∷ pos 2 ∷ pos 0 ∷ pos 0 ∷ pos 0 ∷ pos 1 ∷ pos n ∷ pos 1 ∷ pos 1 ∷ pos 1 ∷ pos 1 ∷ pos 1 ∷ pos 1 ∷ pos 1 ∷ [])
+    ((pos 3 ∷ pos 3 ∷ pos (length body) ∷ pos 0 ∷ pos 0 ∷ pos 0 ∷ pos 1 ∷ pos n ∷ pos 1 ∷ pos 1 ∷ pos 1 ∷ d ∷ pos 1 ∷ pos 1 ∷ d ∷ [])
     ++ (place ++ ((pos 1 ∷ pos 0 ∷ pos 0 ∷ pos 0 ∷ pos 0 ∷ pos 1 ∷ []) ++ ((pos 0 ∷ pos 0 ∷ pos 1 ∷ pos 0 ∷ pos 1 ∷ pos 0 ∷ [])
-    ++ ((pos 1 ∷ pos 0 ∷ pos 0 ∷ pos 0 ∷ pos 1 ∷ pos 0 ∷ []) ++ ((pos 0 ∷ pos 0 ∷ pos 0 ∷ pos 0 ∷ pos 0 ∷ pos 0 ∷ []) ++ product))))))
+    ++ ((pos 1 ∷ pos 0 ∷ pos 0 ∷ pos 0 ∷ pos 1 ∷ pos 0 ∷ []) ++ ((pos 0 ∷ pos 0 ∷ pos 0 ∷ pos 0 ∷ []) ++ (loading ++ ended body)))))))
+
+abbrev pub matrices : ℕ → List ℤ → List ℕ
+matrices n place = matricesBy product n (pos 1) place (pair (pos 0) (pos 0))
 
 -- 2 by 2 with place (i−k, j−k): 9 processes, 2 of them null; with place (i+k, j+k) the increment is (1,1,−1)
 abbrev pub matrixProduct : List ℕ
@@ -96,6 +126,28 @@ matrixRising = matrices 1 (pos 1 ∷ pos 0 ∷ pos 1 ∷ pos 0 ∷ pos 1 ∷ pos
 -- and 2 by 2 times a column, place (i−k, j−k): 6 processes, 2 of them null
 abbrev pub columnProduct : List ℕ
 columnProduct = matrices 0 (pos 1 ∷ pos 0 ∷ negsuc 0 ∷ pos 0 ∷ pos 1 ∷ negsuc 0 ∷ [])
+
+-- the same with some body, place (i, j) and the last loop from right to left, so that c is kept: 2 processes
+abbrev pub columnWith : List (List ℤ) → List ℕ
+columnWith body = matricesBy body 0 (negsuc 0) (pos 1 ∷ pos 0 ∷ pos 0 ∷ pos 0 ∷ pos 1 ∷ pos 0 ∷ []) (pair (pos 1) (pos 0))
+
+-- ---- request 2.5: sums that a guard clears where they begin
+
+-- design one, c cleared under i = 0 and under j = 2
+abbrev pub clearedOne : List ℕ
+clearedOne = designOneWith (clear 0 1 (pos 0) ∷ clear 1 1 (pos 2) ∷ product) 2
+
+-- the same product on loops 1..3 and −1..1, both from right to left, step −2i−j, c cleared under i at least 3 and under j at most −1
+abbrev pub clearedTurned : List ℕ
+clearedTurned =
+    bytes
+    ((pos 2 ∷ pos 3 ∷ pos 4 ∷ pos 1 ∷ negsuc 0 ∷ pos 3 ∷ pos 1 ∷ negsuc 0 ∷ negsuc 0 ∷ negsuc 1 ∷ negsuc 0 ∷ pos 1 ∷ pos 0 ∷ [])
+    ++ ((pos 1 ∷ pos 0 ∷ pos 0 ∷ pos 1 ∷ pos 1 ∷ pos 1 ∷ []) ++ ((pos 1 ∷ pos 0 ∷ pos 0 ∷ [])
+    ++ ended (clear 0 3 (pos 3) ∷ clear 1 2 (negsuc 0) ∷ product))))
+
+-- 2 by 2 times a column, k from right to left, c cleared under k = 1
+abbrev pub clearedColumn : List ℕ
+clearedColumn = columnWith (clear 2 1 (pos 1) ∷ product)
 
 -- a 1,2 above 3,4, b 5,6 above 7,8, c zeros
 abbrev pub matrixValues : List ℕ

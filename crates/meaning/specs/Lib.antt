@@ -9,6 +9,7 @@ pub mod Points
 pub mod Streams
 pub mod Pipes
 pub mod Operations
+pub mod Guards
 pub mod Description
 pub mod Body
 pub mod Accept
@@ -23,9 +24,12 @@ pub mod Demand2
 pub mod Demand3
 pub mod FivePlaces
 pub mod LongerStrides
+pub mod Leaves
 pub mod FixedPoint
+pub mod GuardedLines
 pub mod Designs
 pub mod Comparison
 pub mod Singles
 pub mod Cases
 pub mod Runs
+pub mod GuardedRuns

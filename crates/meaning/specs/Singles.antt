@@ -1,10 +1,10 @@
 -- Cases of single calls and steps beside document 01's, because they hold the rules: whole tables, direction −1, a stride, a link's places, a state that no start
--- leads to, three loops, null processes, declined calls. They are computed in a moment, so that a wrong rule is found here, before any run. The words are
+-- leads to, three loops, null processes, guards, declined calls. They are computed in a moment, so that a wrong rule is found here, before any run. The words are
 -- those of the second implementation.
 use mathlib.Core.Path.{_≡_, refl}
 use mathlib.Core.List.{List, [], _∷_, _++_, map}
 use Prim.Native.Nat.{ℕ}
-use lib.ListN.{getD, replicate}
+use lib.ListN.{length, getD, replicate}
 use lib.IntN.{ℤ, pos, negsuc}
 use Rattle.integers.specs.Bytes.{bitsAt, wordAt}
 use Rattle.lattice.specs.Gcd.{gcdOf, euclid}
@@ -19,10 +19,10 @@ use Rattle.meaning.specs.Body.{runLines, touchedFrom, scatter, execute, 
 use Rattle.meaning.specs.Accept.{testsFrom, refusalOf, accept}
 use Rattle.meaning.specs.Array.{insertByStep, byStep, pipesFrom, arrayOf}
 use Rattle.meaning.specs.Rules.{moveDown, sound, writeAll, Memory, apply, firstOf as firstReady, runSteps, applyAll}
-use Rattle.meaning.specs.Answers.{acceptValues, answerNumber, ranNumber, readyNumber}
+use Rattle.meaning.specs.Answers.{acceptNumber, acceptValues, answerNumber, ranNumber, readyNumber}
 use Rattle.meaning.specs.Calls.{table, start, step, run, readyCall, window, result, plainRun}
 use Rattle.meaning.specs.Comparison.{Case, _is_, naturals, number, planar, rowWords, eqList, firstWrong, agree}
-use Rattle.meaning.specs.Designs.{bytes, pair, polynomial, designOne, designTwo, values, turned, decimating, matrixProduct, matrixRising, matrixValues, nest, blank, lent, startedWith, startedOn}
+use Rattle.meaning.specs.Designs.{bytes, guarded, line, product, pair, polynomial, polynomialBy, designOne, designOneWith, designTwo, values, uncleared, turned, decimating, matrixProduct, matrixRising, matrixValues, columnWith, clearedOne, clearedTurned, clearedColumn, nest, blank, lent, startedWith, startedOn}
 
 -- the words of a table of n rows lent
 abbrev tableWords : List ℕ → ℕ → List ℤ
@@ -88,6 +88,64 @@ nullProcess =
     ∷ (numberOn matrixProduct 1 2 2 started is number 23)
     ∷ (numberOn matrixProduct 3 2 2 started is number 23)
     ∷ (numberOn matrixProduct 2 2 0 started is number 24)
+    ∷ []
+
+-- ---- guards (request 2.5)
+
+-- what Accept answers to design one with one more line, which has this guard
+abbrev underGuard : ℤ → ℤ → ℤ → List ℤ
+underGuard loop comparison bound = number (acceptNumber (accept gaugeLimits (designOneWith (guarded 0 3 3 3 loop comparison bound ∷ product) 2)))
+
+-- and to 2 by 2 times a column
+abbrev spatialGuard : ℤ → List ℤ
+spatialGuard loop = number (acceptNumber (accept gaugeLimits (columnWith (guarded 0 3 3 3 loop (pos 0) (pos 0) ∷ product))))
+
+-- design one with step i+2j, against which c is written: 15 if it is
+abbrev against : List (List ℤ) → List ℤ
+against body =
+    let s = polynomialBy body 2 2 (pair (pos 1) (pos 2)) (pair (pos 1) (pos 0)) (pair (pos 1) (pos 1)) (pos 1 ∷ pos 0 ∷ pos 0 ∷ []) in
+    number (acceptNumber (accept gaugeLimits s))
+
+-- design one as it was, with four words a line
+abbrev olderOne : List ℕ
+olderOne =
+    bytes
+    ((pos 2 ∷ pos 3 ∷ pos 2 ∷ pos 0 ∷ pos 0 ∷ pos 2 ∷ pos 2 ∷ pos 1 ∷ pos 1 ∷ pos 2 ∷ pos 1 ∷ pos 1 ∷ pos 0 ∷ [])
+    ++ ((pos 1 ∷ pos 0 ∷ pos 0 ∷ pos 1 ∷ pos 1 ∷ pos 1 ∷ []) ++ ((pos 1 ∷ pos 0 ∷ pos 0 ∷ [])
+    ++ (pos 3 ∷ pos 3 ∷ pos 0 ∷ pos 1 ∷ pos 1 ∷ pos 2 ∷ pos 2 ∷ pos 3 ∷ []))))
+
+-- what the plain run makes of some values
+abbrev plainly : List ℕ → List ℕ → List ℤ
+plainly s vs = naturals (plainRun gaugeLimits s vs (replicate (length vs) 1) .output)
+
+abbrev pub guards : List Case
+guards =
+    -- a description of the older length is 3
+    (number (acceptNumber (accept gaugeLimits olderOne)) is number 3)
+    -- loop numbers 0 and 1 of two loops, 2 of three too; comparisons 0 to 3; bounds −64 to 64: all under comparison 0 as well
+    ∷ (underGuard (pos 1) (pos 3) (pos 64) is number 0)
+    ∷ (underGuard (pos 0) (pos 0) (negsuc 63) is number 0)
+    ∷ (underGuard (pos 2) (pos 0) (pos 0) is number 4)
+    ∷ (underGuard (negsuc 0) (pos 0) (pos 0) is number 4)
+    ∷ (spatialGuard (pos 2) is number 0)
+    ∷ (spatialGuard (pos 3) is number 4)
+    ∷ (underGuard (pos 0) (pos 4) (pos 0) is number 4)
+    ∷ (underGuard (pos 0) (negsuc 0) (pos 0) is number 4)
+    ∷ (underGuard (pos 0) (pos 0) (pos 65) is number 4)
+    ∷ (underGuard (pos 0) (pos 0) (negsuc 64) is number 4)
+    -- c is written by a line that never runs too
+    ∷ (against product is number 15)
+    ∷ (against (line 3 3 0 1 ∷ guarded 1 2 2 3 (pos 0) (pos 1) (pos 64) ∷ []) is number 15)
+    ∷ (against (line 3 3 0 1 ∷ []) is number 0)
+    -- the figures of the designs that clear c are those without: they go by the loops and the streams
+    ∷ (naturals (acceptValues (accept gaugeLimits clearedOne)) is naturals (3 ∷ 9 ∷ 11 ∷ 3 ∷ 61 ∷ 97 ∷ []))
+    ∷ (naturals (acceptValues (accept gaugeLimits clearedTurned)) is naturals (3 ∷ 9 ∷ 11 ∷ 3 ∷ 61 ∷ 97 ∷ []))
+    ∷ (naturals (acceptValues (accept gaugeLimits clearedColumn)) is naturals (2 ∷ 4 ∷ 8 ∷ 4 ∷ 44 ∷ 44 ∷ []))
+    -- c is 4 13 28 27 18 whatever it held, in direction −1 too, and 17 39 of the column
+    ∷ (plainly clearedOne values is naturals (1 ∷ 2 ∷ 3 ∷ 4 ∷ 5 ∷ 6 ∷ 4 ∷ 13 ∷ 28 ∷ 27 ∷ 18 ∷ []))
+    ∷ (plainly clearedOne uncleared is naturals (1 ∷ 2 ∷ 3 ∷ 4 ∷ 5 ∷ 6 ∷ 4 ∷ 13 ∷ 28 ∷ 27 ∷ 18 ∷ []))
+    ∷ (plainly clearedTurned uncleared is naturals (1 ∷ 2 ∷ 3 ∷ 4 ∷ 5 ∷ 6 ∷ 4 ∷ 13 ∷ 28 ∷ 27 ∷ 18 ∷ []))
+    ∷ (plainly clearedColumn (1 ∷ 2 ∷ 3 ∷ 4 ∷ 5 ∷ 6 ∷ 7 ∷ 8 ∷ []) is naturals (1 ∷ 2 ∷ 3 ∷ 4 ∷ 5 ∷ 6 ∷ 17 ∷ 39 ∷ []))
     ∷ []
 
 -- ---- the others, and all
@@ -170,7 +228,7 @@ calls =
     ∷ []
 
 abbrev pub singles : List Case
-singles = calls ++ (threePlaces ++ nullProcess)
+singles = calls ++ (threePlaces ++ (nullProcess ++ guards))
 
 pub proved : map (λ c. c .got) singles ≡ map (λ c. c .wanted) singles
 unfolding eqList firstWrong bytes bitsAt wordAt gcdOf euclid filter any every position best bestOr total each numbersFrom refusal walk instances lineOf points widenAll around boxOf sentTo firstOf lastOf stays march lineIn pipe usedOn pipeElements nestOf streamOf bodyLine descriptionOf runLines touchedFrom scatter execute executeAll testsFrom refusalOf accept insertByStep byStep pipesFrom arrayOf moveDown sound writeAll apply firstReady runSteps applyAll table start step run readyCall window result plainRun

@@ -54,12 +54,15 @@ pub struct Stream {
     pub loading: V2,
 }
 
-// A body line: operation, target, first and second operand.
+// A body line: operation, target, first and second operand; its guard: a loop number, a comparison and a bound.
 pub struct Line {
     pub operation: u32,
     pub target: u32,
     pub first: u32,
     pub second: u32,
+    pub index: u32,
+    pub comparison: u32,
+    pub bound: i32,
 }
 
 // A decoded description. Streams and lines past the sizes are zero.

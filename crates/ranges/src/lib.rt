@@ -8,7 +8,7 @@ ghost use Rattle.integers.specs.Bytes.{wordAt};
 ghost use Rattle.meaning.specs.Tests.{refusal};
 ghost use Rattle.meaning.specs.Description.{inRange, refused2, refused4, refused5};
 ghost use Rattle.decode.specs.Offsets.{Sized};
-ghost use Rattle.decode.specs.Ranges.{rangeTest};
+ghost use Rattle.decode.specs.Ranges.{lineTest, rangeTest};
 ghost use Rattle.decode.specs.Refusals.{wordTests, lengthTests, firstTests};
 use integers::V3;
 use meaning::Nest;
@@ -30,6 +30,26 @@ fn size_refused(z: Sizes) -> bool
     } else {
         outside(1, 6, z.streams) || outside(1, 8, z.lines)
     }
+}
+
+// The range of word j of a line, tested on its magnitude n and its bits u.
+fn line_within(z: Sizes, j: u32, n: u32, u: u32) -> bool
+    requires { ⌜ Sized z ⌝ }
+    ensures { λ r. ⌜ r ≡ lineTest z j n u ⌝ }
+{
+    if j == 0 {
+        return u <= 6;
+    }
+    if j < 4 {
+        return u <= z.streams + 1;
+    }
+    if j == 4 {
+        return u <= z.loops - 1;
+    }
+    if j == 5 {
+        return u <= 3;
+    }
+    n <= 64
 }
 
 // The range of word k, tested on its magnitude n and its bits u.
@@ -56,10 +76,7 @@ fn within(z: Sizes, k: u32, n: u32, u: u32) -> bool
     if k < body {
         return n <= 1;
     }
-    if (k - body) % 4 == 0 {
-        return u <= 6;
-    }
-    u <= z.streams + 1
+    line_within(z, (k - body) % 7, n, u)
 }
 
 // Whether word k is in its range.

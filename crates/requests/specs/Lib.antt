@@ -4,7 +4,13 @@ pub mod FivePlaces
 pub mod Dropped
 pub mod Outermost
 pub mod LongerStrides
+pub mod BodyLines
+pub mod OtherWords
 pub mod AnyOperation
+pub mod AnyGuard
 pub mod Operations
+pub mod Guards
 pub mod PlainLoops
+pub mod RunsLoops
 pub mod FixedPoint
+pub mod GuardedLines

@@ -7,7 +7,7 @@ use native.Mathlib.Omega.{arith}
 use lib.Dec.{ltb}
 use borrow.Author.Tests.{ltb-true, ltb-false}
 use Rattle.meaning.specs.Operations.{modulus, lastOperation, operate}
-use Rattle.meaning.specs.FixedPoint.{Modulo, Divided, Puts, Puts.copies, Puts.adds, Puts.subtracts, Puts.multiplies, Puts.smaller, Puts.larger, Puts.fixed}
+use Rattle.meaning.specs.Leaves.{Modulo, Divided, Puts, Puts.copies, Puts.adds, Puts.subtracts, Puts.multiplies, Puts.smaller, Puts.larger, Puts.fixed}
 
 -- ---- remainders and quotients
 

@@ -1,19 +1,24 @@
--- The loops, a line at a time by what its operation puts, leave exactly what the plain run computes, for words. Assumes nothing.
+-- The loops, a line at a time by whether it runs and what its operation puts, leave exactly what the plain run computes, for words. Assumes nothing.
 use mathlib.Core.Path.{_≡_, refl, sym, _∙_, ap, subst}
 use mathlib.Core.Logic.{_⊎_, inl, inr, _↔_}
+use mathlib.Core.Bool.{Bool, true, false, cond}
 use mathlib.Core.List.{List, [], _∷_, _++_, List·Memᴰ as In, List·Memᴰ·head as here, List·Memᴰ·tail as there, List·Memᴰ·append-cases}
-use Prim.Native.Nat.{ℕ, zero, suc, _≤_, _<_}
+use Prim.Native.Nat.{ℕ, zero, suc, _<_}
 use native.Mathlib.Omega.{arith}
 use lib.ListN.{length, getD, set, take, length-map}
 use Rattle.integers.specs.declared.V3.{V3}
 use Rattle.meaning.specs.declared.Line.{Line}
 use Rattle.meaning.specs.declared.Description.{Description}
-use Rattle.meaning.specs.Operations.{modulus, lastOperation, operate}
+use Rattle.meaning.specs.Operations.{modulus, operate}
+use Rattle.meaning.specs.Guards.{admits}
 use Rattle.meaning.specs.Description.{linesOf}
 use Rattle.meaning.specs.Body.{runLine, runLines, touchedBy, gather, scatter, execute, executeAll}
-use Rattle.meaning.specs.FixedPoint.{LinesLeave, LinesLeave.none as lines-end, LinesLeave.next as line, LoopsLeave, LoopsLeave.none as loops-end, LoopsLeave.next as instance, Words}
+use Rattle.meaning.specs.Leaves.{Runs, LinesLeave, LinesLeave.none as lines-end, LinesLeave.runs, LinesLeave.stays, LoopsLeave, LoopsLeave.none as loops-end, LoopsLeave.next as instance, Words}
 use Rattle.geometry.specs.Members.{map-in}
+use Rattle.network.specs.Decide.{Says, Says.holds, Says.fails, says-true}
+use Rattle.requests.specs.BodyLines.{Allowed}
 use Rattle.requests.specs.Operations.{word-result, puts-exactly}
+use Rattle.requests.specs.Guards.{runs-exactly}
 
 -- ---- lists of words
 
@@ -46,41 +51,71 @@ words-gather store es w v k = go (List·Memᴰ·append-cases (gather store es) k
 
 -- ---- lines
 
-abbrev pub Allowed : List Line → Type 0
-Allowed ts = (t : Line) → In t ts → t .operation ≤ lastOperation
+abbrev AllAllowed : List Line → Type 0
+AllAllowed ts = (t : Line) → In t ts → Allowed t
 
 module _ (x : V3) where
-  -- what a line puts
+  -- what a line puts, and leaves if it runs
   abbrev result : Line → List ℕ → ℕ
   result t vs = operate (t .operation) (getD vs (t .first) 0) (getD vs (t .second) 0)
 
-  word-line : (t : Line) (vs : List ℕ) → t .operation ≤ lastOperation → Words vs → result t vs < modulus
-  word-line t vs h w = word-result (word-at vs w (t .first)) (word-at vs w (t .second)) (t .operation) h
+  abbrev after : Line → List ℕ → List ℕ
+  after t vs = set vs (t .target) (result t vs)
 
-  words-line : (t : Line) (vs : List ℕ) → t .operation ≤ lastOperation → Words vs → Words (runLine x t vs)
-  words-line t vs h w = words-set vs (t .target) (result t vs) w (word-line t vs h w)
+  words-after : (t : Line) (vs : List ℕ) → Allowed t → Words vs → Words (after t vs)
+  words-after t vs h w =
+      words-set vs (t .target) (result t vs) w (word-result (word-at vs w (t .first)) (word-at vs w (t .second)) (t .operation) (h .operation))
 
-  words-lines : (ts : List Line) (vs : List ℕ) → Allowed ts → Words vs → Words (runLines x ts vs)
+  words-line : (t : Line) (vs : List ℕ) → Allowed t → Words vs → Words (runLine x t vs)
+  words-line t vs h w = go (admits t x)
+    where
+      go : (b : Bool) → Words (cond b (after t vs) vs)
+      go true = words-after t vs h w
+      go false = w
+
+  words-lines : (ts : List Line) (vs : List ℕ) → AllAllowed ts → Words vs → Words (runLines x ts vs)
   unfolding runLines
   words-lines [] vs a w = w
   words-lines (t ∷ ts) vs a w = words-lines ts (runLine x t vs) (λ u k. a u (there k)) (words-line t vs (a t (here refl)) w)
 
-  lines-run : (ts : List Line) (vs : List ℕ) → Allowed ts → Words vs → LinesLeave ts vs (runLines x ts vs)
+  guard : (t : Line) → Allowed t → Says (Runs x t) (admits t x)
+  guard t h = runs-exactly x t (h .index) (h .comparison)
+
+  lines-run : (ts : List Line) (vs : List ℕ) → AllAllowed ts → Words vs → LinesLeave x ts vs (runLines x ts vs)
   unfolding runLines
   lines-run [] vs a w = lines-end
-  lines-run (t ∷ ts) vs a w =
-      let h = a t (here refl) in
-      line (puts-exactly (word-at vs w (t .first)) (word-at vs w (t .second)) h .1 refl)
-      (lines-run ts (runLine x t vs) (λ u k. a u (there k)) (words-line t vs h w))
+  lines-run (t ∷ ts) vs a w = go (guard t h) (λ us. lines-run ts us (λ u k. a u (there k)))
+    where
+      h : Allowed t
+      h = a t (here refl)
 
-  lines-only : {ts : List Line} {vs ws : List ℕ} → Allowed ts → Words vs → LinesLeave ts vs ws → ws ≡ runLines x ts vs
+      go : {b : Bool} → Says (Runs x t) b → ((us : List ℕ) → Words us → LinesLeave x ts us (runLines x ts us))
+          → LinesLeave x (t ∷ ts) vs (runLines x ts (cond b (after t vs) vs))
+      go (holds r) ih =
+          runs r (puts-exactly (word-at vs w (t .first)) (word-at vs w (t .second)) (h .operation) .1 refl) (ih (after t vs) (words-after t vs h w))
+      go (fails n) ih = stays n (ih vs w)
+
+  -- a line that runs, and one that does not
+  line-runs : (t : Line) (vs : List ℕ) → Allowed t → Runs x t → after t vs ≡ runLine x t vs
+  line-runs t vs h r = ap (λ (b : Bool). cond b (after t vs) vs) (sym (says-true (guard t h) r))
+
+  line-stays : (t : Line) (vs : List ℕ) → Allowed t → (Runs x t → ⊥) → vs ≡ runLine x t vs
+  line-stays t vs h n = go (guard t h)
+    where
+      go : {b : Bool} → Says (Runs x t) b → vs ≡ cond b (after t vs) vs
+      go (holds r) = absurd (n r)
+      go (fails m) = refl
+
+  lines-only : {ts : List Line} {vs ws : List ℕ} → AllAllowed ts → Words vs → LinesLeave x ts vs ws → ws ≡ runLines x ts vs
   unfolding runLines
   lines-only a w lines-end = refl
-  lines-only {vs} a w (line {t} {ts} {r} p rest) =
+  lines-only {vs} a w (runs {t} {ts} {r} ok p rest) =
       let h = a t (here refl) in
-      let e : r ≡ result t vs = puts-exactly (word-at vs w (t .first)) (word-at vs w (t .second)) h .0 p in
-      lines-only (λ u k. a u (there k)) (words-set vs (t .target) r w (omega (arith, word-line t vs h w))) rest
-      ∙ ap (λ (q : ℕ). runLines x ts (set vs (t .target) q)) e
+      let e : set vs (t .target) r ≡ after t vs =
+      ap (set vs (t .target)) (puts-exactly (word-at vs w (t .first)) (word-at vs w (t .second)) (h .operation) .0 p) in
+      lines-only (λ u k. a u (there k)) (subst Words (sym e) (words-after t vs h w)) rest ∙ ap (runLines x ts) (e ∙ line-runs t vs h ok)
+  lines-only {vs} a w (stays {t} {ts} n rest) =
+      lines-only (λ u k. a u (there k)) w rest ∙ ap (runLines x ts) (line-stays t vs (a t (here refl)) n)
 
 -- ---- instances
 
@@ -91,7 +126,7 @@ scatter-take store [] vs = refl
 scatter-take store (e ∷ es) [] = refl
 scatter-take store (e ∷ es) (v ∷ vs) = scatter-take (set store e v) es vs
 
-module _ (d : Description) (a : Allowed (linesOf d)) where
+module _ (d : Description) (a : AllAllowed (linesOf d)) where
   -- the registers as instance x ends
   abbrev ended : V3 → List ℕ → List ℕ
   ended x store = runLines x (linesOf d) (gather store (touchedBy d x) ++ (0 ∷ 0 ∷ []))

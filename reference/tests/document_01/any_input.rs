@@ -27,14 +27,14 @@ fn disturb(random: &mut Random, bytes: &mut Vec<u8>) {
 fn descriptions() {
     let mut random = Random::new(31);
     for _ in 0..2000 {
-        let length = random.below(450);
+        let length = random.below(520);
         let bytes = random.bytes(length);
         assert!(table_text(&bytes).starts_with("refused "));
         let mut bytes = changed(&mut random);
         disturb(&mut random, &mut bytes);
         table_text(&bytes);
         // Small words reach further than any words.
-        let length = random.below(100);
+        let length = random.below(130);
         let words = random.words(length, -4, 4);
         table_text(&reference::description::bytes_of(&words));
     }

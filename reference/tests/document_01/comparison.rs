@@ -14,7 +14,7 @@ fn every_refusal_shape_and_limit() {
     let descriptions = descriptions();
     assert!(descriptions.len() >= 3400);
     let (mut refusals, mut shapes, mut sizes) = (BTreeSet::new(), BTreeSet::new(), BTreeSet::new());
-    let (mut nulls, mut strides) = (0, BTreeSet::new());
+    let (mut nulls, mut strides, mut guards) = (0, BTreeSet::new(), BTreeSet::new());
     for bytes in &descriptions {
         let calls = Calls::on(bytes);
         let found = match calls.accept() {
@@ -31,15 +31,22 @@ fn every_refusal_shape_and_limit() {
         }
         sizes.insert((found.processes, found.instances));
         strides.extend(array.increment.iter().map(|word| word.abs()));
+        for line in &array.description.body {
+            let guard = &line.guard;
+            guards.insert((loops, guard.loop_number, guard.comparison));
+        }
         nulls += array.processes.iter().filter(|it| it.null()).count();
     }
     assert!(refusals.into_iter().eq(given()));
     assert_eq!(shapes.len(), 2 * 6 * 2);
     assert!(sizes.contains(&(1024, 4096)));
     assert!(nulls > 1000);
+    assert_eq!(guards.len(), (2 + 3) * 4);
     assert!((1..=10).chain([20, 28]).all(|word| strides.contains(&word)));
+    // At most the longest description and a few bytes that are too many.
+    assert!(descriptions.iter().all(|bytes| bytes.len() <= 508));
     let size = input(&descriptions).len() + text(&descriptions).len();
-    assert!(size < 2_000_000, "{size} bytes");
+    assert!(size < 2_200_000, "{size} bytes");
 }
 
 #[test]

@@ -3,8 +3,8 @@
 
 use reference::description::Description;
 use reference::designs::{
-    decimating, decimating_channels, matrix_moving, matrix_slanted, matrix_straight,
-    needs_its_hops, polynomial_one, polynomial_two,
+    cleared_column, cleared_matrix, cleared_one, cleared_turned, decimating, decimating_channels,
+    matrix_moving, matrix_slanted, matrix_straight, needs_its_hops, polynomial_one, polynomial_two,
 };
 use reference::network::Step;
 use reference::random::Random;
@@ -61,10 +61,7 @@ struct Trial<'a> {
 impl Trial<'_> {
     fn ready_steps(&self) -> Vec<Step> {
         let network = self.lists.network();
-        let steps = network.steps().iter().copied();
-        steps
-            .filter(|&step| network.ready(&self.lists.state, step))
-            .collect()
+        network.ready_steps(&self.lists.state).collect()
     }
 
     fn all_out(&self) -> bool {
@@ -240,8 +237,13 @@ fn designs_finish_alike() {
             matrix_moving(n),
             matrix_slanted(n),
             needs_its_hops(),
+            cleared_one(n),
+            cleared_matrix(n),
         ] {
             check_orders(&design, &mut random);
         }
+    }
+    for design in [cleared_turned(), cleared_column()] {
+        check_orders(&design, &mut random);
     }
 }

@@ -9,17 +9,8 @@ use crate::lists::Lists;
 /// The values of the streams after one instance.
 fn after(body: &[Line], values: &[u32]) -> Vec<u32> {
     let mut values = values.to_vec();
-    run_instance(body, &mut values);
+    run_instance(body, &[0, 0], &mut values);
     values
-}
-
-fn line(operation: Operation, target: usize, first: usize, second: usize) -> Line {
-    Line {
-        operation,
-        target,
-        first,
-        second,
-    }
 }
 
 #[test]
@@ -34,7 +25,7 @@ fn operations() {
     ];
     for (operation, first, second, value) in cases {
         assert_eq!(operation.apply(first, second), value);
-        let body = [line(operation, 0, 0, 1)];
+        let body = [Line::always(operation, 0, 0, 1)];
         assert_eq!(after(&body, &[first, second]), [value, second]);
     }
     for word in 0..=6 {
@@ -47,11 +38,11 @@ fn operations() {
 #[test]
 fn scratch_is_zero_at_the_start() {
     for scratch in [2, 3] {
-        let body = [line(Operation::Copy, 0, scratch, 0)];
+        let body = [Line::always(Operation::Copy, 0, scratch, 0)];
         assert_eq!(after(&body, &[7, 8]), [0, 8]);
         let body = [
-            line(Operation::Copy, scratch, 1, 0),
-            line(Operation::Add, 0, scratch, scratch),
+            Line::always(Operation::Copy, scratch, 1, 0),
+            Line::always(Operation::Add, 0, scratch, scratch),
         ];
         assert_eq!(after(&body, &[7, 8]), [16, 8]);
     }
@@ -66,8 +57,8 @@ fn backwards() -> Description {
     description.directions = vec![-1, 1];
     description.step = vec![-2, 1];
     description.body = vec![
-        line(Operation::Subtract, 2, 0, 2),
-        line(Operation::Multiply, 2, 2, 1),
+        Line::always(Operation::Subtract, 2, 0, 2),
+        Line::always(Operation::Multiply, 2, 2, 1),
     ];
     description
 }

@@ -2,8 +2,9 @@
 
 use std::collections::{BTreeMap, BTreeSet};
 
+use reference::body::{Comparison, Guard, Operation};
 use reference::calls::Calls;
-use reference::examples::examples;
+use reference::examples::{example_scripts, examples};
 use reference::expected::replay_scripts;
 use reference::geometry::Array;
 use reference::random_description::given;
@@ -108,6 +109,7 @@ impl Coverage {
         properties.insert(format!("{} lines", description.body.len()));
         for line in &description.body {
             properties.insert(format!("operation {:?}", line.operation));
+            properties.insert(guard_property(array, &line.guard));
         }
         for stream in &array.streams {
             let kind = if stream.moving {
@@ -151,6 +153,21 @@ impl Coverage {
 fn number_of(line: &str) -> Option<u32> {
     line.strip_prefix("refused ")
         .and_then(|number| number.parse().ok())
+}
+
+/// A guard's comparison, its loop, and in how many of the array's instances it holds.
+fn guard_property(array: &Array, guard: &Guard) -> String {
+    let instances = array.instances.iter();
+    let held = instances
+        .filter(|instance| guard.lets_run(instance))
+        .count();
+    let how_often = match held {
+        0 => "never",
+        _ if held < array.instances.len() => "sometimes",
+        _ => "in all",
+    };
+    let (comparison, number) = (guard.comparison, guard.loop_number);
+    format!("{comparison:?} on loop {number} {how_often}")
 }
 
 /// A null process stands between two working ones on a pipe.
@@ -204,6 +221,23 @@ fn designs_run_to_their_end() {
     }
 }
 
+/// After the examples come pairs of scripts on request 2.5's designs: by Run, and by the highest ready step.
+#[test]
+fn two_orders_have_one_end() {
+    let scripts = replay_scripts();
+    let pairs = scripts[examples().len() + example_scripts().len()..].chunks_exact(2);
+    for pair in pairs.take(4) {
+        let [by_run, by_steps] = [0, 1].map(|number| replay(&pair[number]));
+        let end = |output: &str| {
+            let lines: Vec<&str> = output.lines().collect();
+            lines[lines.len() - 4..].join("\n")
+        };
+        assert_eq!(end(&by_run), end(&by_steps));
+        assert!(end(&by_run).contains("result "));
+        assert!(by_steps.lines().filter(|&line| line == "step").count() > 40);
+    }
+}
+
 fn check_arrays(coverage: &Coverage) {
     let mut wanted: Vec<String> = [
         "2 loops",
@@ -223,12 +257,19 @@ fn check_arrays(coverage: &Coverage) {
     wanted.extend((1..=5).map(|hop| format!("hop {hop}")));
     wanted.extend((1..=6).map(|streams| format!("{streams} streams")));
     wanted.extend((1..=8).map(|lines| format!("{lines} lines")));
-    let operations = reference::body::Operation::ALL;
     wanted.extend(
-        operations
+        Operation::ALL
             .iter()
             .map(|operation| format!("operation {operation:?}")),
     );
+    wanted.extend((0..3).map(|number| format!("{:?} on loop {number} in all", Comparison::Always)));
+    for comparison in &Comparison::ALL[1..] {
+        for how_often in ["never", "sometimes", "in all"] {
+            wanted.extend(
+                (0..3).map(|number| format!("{comparison:?} on loop {number} {how_often}")),
+            );
+        }
+    }
     for property in wanted {
         assert!(coverage.arrays.contains_key(&property), "{property}");
     }

@@ -242,7 +242,17 @@ ready 2 1 6 0 0 0 0 0 0 0 0 0 0 0 0 0 0 0
 run 216 0
 result 16384 32768 16384 98304 131072 294912 196608 147456 131072 65536 32768 163840 229376 208896 155648 118784 73728
 ";
-    for (example, expected) in example_scripts().iter().zip([polynomial, smoothing]) {
+    let cleared = "\
+accept 3 9 11 3 61 97
+start
+run 40 1
+ready 2 1 6 0 0 0 0 0 0 0 0 0 0 0 0 0 0 0
+run 57 0
+result 1 2 3 4 5 6 4 13 28 27 18
+";
+    let expected = [polynomial, smoothing, cleared];
+    assert_eq!(example_scripts().len(), expected.len());
+    for (example, expected) in example_scripts().iter().zip(expected) {
         assert_eq!(replay(&example.script.bytes()), expected);
     }
 }

@@ -21,7 +21,7 @@ fn by_halves(first: u32, second: u32) -> u32 {
     (a.wrapping_mul(c) << 16)
         .wrapping_add(a.wrapping_mul(d))
         .wrapping_add(b.wrapping_mul(c))
-        .wrapping_add(b * d >> 16)
+        .wrapping_add((b * d) >> 16)
 }
 
 #[test]

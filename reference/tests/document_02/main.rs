@@ -2,10 +2,12 @@
 
 mod five_places;
 mod fixed_point;
+mod guards;
 mod longer_strides;
 
 use reference::calls::{Accepted, Calls, Lent};
 use reference::description::Description;
+use reference::network::Step;
 use reference::Refusal;
 
 fn accept(description: &Description) -> Result<Accepted, Refusal> {
@@ -14,6 +16,37 @@ fn accept(description: &Description) -> Result<Accepted, Refusal> {
 
 /// The received values of a run to the end, in element order: they are those of the plain run.
 fn results(description: &Description, values: &[u32]) -> Vec<u32> {
+    finished(description, values, |calls, lent| {
+        calls.run(lent, u64::MAX).map_or(0, |ran| ran.done)
+    })
+}
+
+/// The same by steps that are chosen out of the ready ones.
+fn results_by_steps(
+    description: &Description,
+    values: &[u32],
+    mut choose: impl FnMut(&[Step]) -> Step,
+) -> Vec<u32> {
+    finished(description, values, |calls, lent| {
+        let network = calls.network().expect("an accepted description");
+        let mut done = 0;
+        loop {
+            let ready: Vec<Step> = network.ready_steps(lent.state).collect();
+            if ready.is_empty() {
+                return done;
+            }
+            network.apply(lent.waiting, lent.received, lent.state, choose(&ready));
+            done += 1;
+        }
+    })
+}
+
+/// The received values after a whole run, which answers how many steps it did.
+fn finished(
+    description: &Description,
+    values: &[u32],
+    run: impl FnOnce(&Calls, Lent) -> u64,
+) -> Vec<u32> {
     let calls = Calls::on(&description.bytes());
     let figures = calls.accept().expect("an accepted description");
     let mut waiting = vec![0; figures.elements];
@@ -28,10 +61,7 @@ fn results(description: &Description, values: &[u32]) -> Vec<u32> {
         received: &mut received,
         state: &mut state,
     };
-    assert_eq!(
-        calls.run(lent, u64::MAX).map(|ran| ran.done),
-        Ok(figures.steps)
-    );
+    assert_eq!(run(&calls, lent), figures.steps);
     let mut output = vec![0; figures.elements];
     assert_eq!(
         calls.result(&waiting, &received, &state, &mut output),

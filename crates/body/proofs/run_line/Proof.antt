@@ -1,5 +1,5 @@
 -- `body::run_line` meets its contract. Assumes nothing.
-use mathlib.Core.Path.{refl}
+use mathlib.Core.Path.{refl, sym, _∙_}
 use borrow.Author.Needs.{needs}
 use Rattle.body.proofs.run_line.Statement.{statement}
 use Rattle.body.proofs.run_line.Tie as tie
@@ -34,8 +34,15 @@ mul-registers c = search needs
 element-write-registers : tie.Need-element-write-registers
 element-write-registers c = search needs
 
+admits-requires : tie.Need-admits-requires
+admits-requires c κs = search needs
+
 returns : tie.Need-returns
-returns c = rw (c .operate .ensures) refl
+returns c =
+    let t = sym (c .before .before .before .before .admits .ensures) ∙ c .before .before .before .if1 .taken in rw (t, c .operate .ensures) refl
+
+returns-2 : tie.Need-returns-2
+returns-2 c = let t = sym (c .before .admits .ensures) ∙ c .if1 .left in rw t refl
 
 pub run-line-spec : {M : Type 1} → statement M
 run-line-spec =
@@ -44,6 +51,7 @@ run-line-spec =
     cast-target
     cast-first
     cast-second
+    admits-requires
     mul-operate
     element-copy-out-operate
     mul-operate-2
@@ -51,4 +59,5 @@ run-line-spec =
     operate-requires
     mul-registers
     element-write-registers
-    returns)
+    returns
+    returns-2)

@@ -1,8 +1,18 @@
 -- `decode::line_of` meets its contract. Assumes nothing.
+use mathlib.Core.Path.{_≡_}
+use Prim.Native.Nat.{ℕ}
+use lib.IntN.{ℤ}
+use Rattle.integers.specs.Words.{held}
+use Rattle.meaning.specs.declared.Line.{Line}
 use Rattle.meaning.specs.Description.{bodyLine}
 use borrow.Author.Needs.{needs}
 use Rattle.decode.proofs.line_of.Statement.{statement}
 use Rattle.decode.proofs.line_of.Tie as tie
+
+line : {o o' t t' f f' s s' i i' c c' : ℕ} {b b' : ℤ} → o ≡ o' → t ≡ t' → f ≡ f' → s ≡ s' → i ≡ i' → c ≡ c' → b ≡ b'
+    → _≡_ {A = Line} (record { operation = o; target = t; first = f; second = s; index = i; comparison = c; bound = b })
+    (record { operation = o'; target = t'; first = f'; second = s'; index = i'; comparison = c'; bound = b' })
+line e f g h i j k = rw (e, f, g, h, i, j, k)
 
 line-at-requires : tie.Need-line-at-requires
 line-at-requires c κs = search needs
@@ -28,11 +38,32 @@ add-bits-at-3 c = search needs
 bits-at-requires-4 : tie.Need-bits-at-requires-4
 bits-at-requires-4 c κs = search needs
 
+add-bits-at-4 : tie.Need-add-bits-at-4
+add-bits-at-4 c = search needs
+
+bits-at-requires-5 : tie.Need-bits-at-requires-5
+bits-at-requires-5 c κs = search needs
+
+add-bits-at-5 : tie.Need-add-bits-at-5
+add-bits-at-5 c = search needs
+
+bits-at-requires-6 : tie.Need-bits-at-requires-6
+bits-at-requires-6 c κs = search needs
+
+add-word-at : tie.Need-add-word-at
+add-word-at c = search needs
+
+word-at-requires : tie.Need-word-at-requires
+word-at-requires c κs = search needs
+
 returns : tie.Need-returns
 unfolding bodyLine
 returns c =
-    let at = c .before .before .before .before .line-at .ensures .0 in
-    rw (c .before .before .before .bits-at .ensures, c .before .before .bits-at2 .ensures, c .before .bits-at3 .ensures, c .bits-at4 .ensures, at)
+    let b = c .before .before .before in
+    let at = b .before .before .before .before .line-at .ensures .0 in
+    line (rw at at (b .before .before .before .bits-at .ensures)) (rw at at (b .before .before .bits-at2 .ensures)) (rw at at (b .before .bits-at3 .ensures))
+    (rw at at (b .bits-at4 .ensures)) (rw at at (c .before .before .bits-at5 .ensures)) (rw at at (c .before .bits-at6 .ensures))
+    (held (c .word-at .ok) (rw at at (c .word-at .ensures)))
 
 pub line-of-spec : {M : Type 1} → statement M
 line-of-spec =
@@ -46,4 +77,10 @@ line-of-spec =
     bits-at-requires-3
     add-bits-at-3
     bits-at-requires-4
+    add-bits-at-4
+    bits-at-requires-5
+    add-bits-at-5
+    bits-at-requires-6
+    add-word-at
+    word-at-requires
     returns)

@@ -1,7 +1,7 @@
 -- `ranges::within` meets its contract, part by part. Assumes nothing.
-use mathlib.Core.Path.{sym}
+use mathlib.Core.Path.{sym, _∙_}
 use native.Mathlib.Omega.{arith}
-use Rattle.decode.specs.Ranges.{in-bounds, in-directions, in-steps, in-matrices, in-loading, in-operations, in-operands}
+use Rattle.decode.specs.Ranges.{in-bounds, in-directions, in-steps, in-matrices, in-loading, in-lines}
 use borrow.Author.Needs.{needs}
 use Rattle.ranges.proofs.within.Statement.{statement}
 use Rattle.ranges.proofs.within.Tie as tie
@@ -39,17 +39,13 @@ line-at-requires c κs = search needs
 returns-5 : tie.Need-returns-5
 returns-5 c = sym (in-loading _ _ _ _ (omega arith) (omega arith) (omega arith))
 
+line-within-requires : tie.Need-line-within-requires
+line-within-requires c κs = search needs
+
 returns-6 : tie.Need-returns-6
 returns-6 c =
-    let e = c .before .before .line-at .ensures .0 in sym (in-operations _ _ _ _ (omega arith) (omega arith) (omega arith) (rw e at (c .if6 .taken)))
-
-add-result : tie.Need-add-result
-add-result c = search needs
-
-returns-7 : tie.Need-returns-7
-returns-7 c =
-    let e = c .before .before .before .line-at .ensures .0 in
-    sym (in-operands _ _ _ _ (omega arith) (omega arith) (omega arith) (rw e at (c .before .if6 .left)))
+    let e = c .before .before .line-at .ensures .0 in
+    rw e at (c .line-within .ensures) ∙ sym (in-lines _ _ _ _ (omega arith) (omega arith) (omega arith))
 
 pub within-spec : {M : Type 1} → statement M
 within-spec =
@@ -66,6 +62,5 @@ within-spec =
     returns-4
     line-at-requires
     returns-5
-    returns-6
-    add-result
-    returns-7)
+    line-within-requires
+    returns-6)
