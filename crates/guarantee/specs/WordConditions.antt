@@ -16,7 +16,6 @@ use Rattle.meaning.specs.declared.Sizes.{Sizes}
 use Rattle.meaning.specs.Lists.{every, numbersFrom}
 use Rattle.meaning.specs.Points.{Direction, Direction.onward, Direction.back, Between, Directed}
 use Rattle.meaning.specs.Operations.{lastOperation}
-use Rattle.meaning.specs.Guards.{lastComparison}
 use Rattle.meaning.specs.Description.{matrixWords, leftAt, rightAt, directionAt, stepAt, placeAt, mapAt, loadingAt, lineWords, lineAt, wordsOf, lineRange, inRange, nestOf, refused2, refused3, refused4}
 use Rattle.meaning.specs.Conditions.{SizesFit, wordTotal, WordsFit}
 use Rattle.network.specs.Cases.{Order, less, atLeast, order}
@@ -147,8 +146,8 @@ module _ (s : List ℕ) (z : Sizes) where
   pub index-word : (i : ℕ) → Says (Between (pos 0) (pos (z .loops - 1)) (wordAt s (lineAt z i + 4))) (ok (lineAt z i + 4))
   index-word i = line-word i 4 (omega arith) (says-between (pos 0) (pos (z .loops - 1)) _)
 
-  pub comparison-word : (i : ℕ) → Says (Between (pos 0) (pos lastComparison) (wordAt s (lineAt z i + 5))) (ok (lineAt z i + 5))
-  comparison-word i = line-word i 5 (omega arith) (says-between (pos 0) (pos lastComparison) _)
+  pub comparison-word : (i : ℕ) → Says (Between (pos 0) (pos 3) (wordAt s (lineAt z i + 5))) (ok (lineAt z i + 5))
+  comparison-word i = line-word i 5 (omega arith) (says-between (pos 0) (pos 3) _)
 
   pub bound-word : (i : ℕ) → Says (Between (negsuc 63) (pos 64) (wordAt s (lineAt z i + 6))) (ok (lineAt z i + 6))
   bound-word i = line-word i 6 (omega arith) (says-between (negsuc 63) (pos 64) _)
@@ -168,9 +167,11 @@ module _ (s : List ℕ) (z : Sizes) where
         target = λ i g. said (operand-word i 1 (omega arith) (omega arith)) (f (lineAt z i + 1) (omega arith) (omega arith));
         first = λ i g. said (operand-word i 2 (omega arith) (omega arith)) (f (lineAt z i + 2) (omega arith) (omega arith));
         second = λ i g. said (operand-word i 3 (omega arith) (omega arith)) (f (lineAt z i + 3) (omega arith) (omega arith));
-        index = λ i g. said (index-word i) (f (lineAt z i + 4) (omega arith) (omega arith));
-        comparison = λ i g. said (comparison-word i) (f (lineAt z i + 5) (omega arith) (omega arith));
-        bound = λ i g. said (bound-word i) (f (lineAt z i + 6) (omega arith) (omega arith));
+        guard = λ i g. record {
+          index = said (index-word i) (f (lineAt z i + 4) (omega arith) (omega arith));
+          comparison = said (comparison-word i) (f (lineAt z i + 5) (omega arith) (omega arith));
+          bound = said (bound-word i) (f (lineAt z i + 6) (omega arith) (omega arith));
+        };
       }
 
   fit-parts : WordsFit s z → (k : ℕ) → 3 ≤ k → k < wordsOf z → ok k ≡ true
@@ -184,9 +185,9 @@ module _ (s : List ℕ) (z : Sizes) where
       line i (suc zero) g h = says-true (operand-word i 1 (omega arith) (omega arith)) (f .target i g)
       line i (suc (suc zero)) g h = says-true (operand-word i 2 (omega arith) (omega arith)) (f .first i g)
       line i (suc (suc (suc zero))) g h = says-true (operand-word i 3 (omega arith) (omega arith)) (f .second i g)
-      line i (suc (suc (suc (suc zero)))) g h = says-true (index-word i) (f .index i g)
-      line i (suc (suc (suc (suc (suc zero))))) g h = says-true (comparison-word i) (f .comparison i g)
-      line i (suc (suc (suc (suc (suc (suc zero)))))) g h = says-true (bound-word i) (f .bound i g)
+      line i (suc (suc (suc (suc zero)))) g h = says-true (index-word i) (f .guard i g .index)
+      line i (suc (suc (suc (suc (suc zero))))) g h = says-true (comparison-word i) (f .guard i g .comparison)
+      line i (suc (suc (suc (suc (suc (suc zero)))))) g h = says-true (bound-word i) (f .guard i g .bound)
       line i (suc (suc (suc (suc (suc (suc (suc j))))))) g h = absurd (omega arith)
 
       loadings : mapAt z (z .streams) ≤ k → Order k (loadingAt z (z .streams)) → In-range k

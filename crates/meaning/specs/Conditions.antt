@@ -25,7 +25,6 @@ use Rattle.meaning.specs.Loops.{stepOf, placeOf}
 use Rattle.meaning.specs.Space.{Box}
 use Rattle.meaning.specs.Points.{Direction, Between, Within, At, IsLine, Inside}
 use Rattle.meaning.specs.Operations.{lastOperation}
-use Rattle.meaning.specs.Guards.{lastComparison}
 use Rattle.meaning.specs.Description.{sizesOf, matrixWords, leftAt, rightAt, directionAt, stepAt, placeAt, mapAt, loadingAt, lineAt, descriptionOf, noStream, streamsOf, linesOf}
 use Rattle.meaning.specs.Accept.{accept, figures}
 
@@ -46,8 +45,14 @@ formerTotal z =
 abbrev pub wordTotal : Sizes → ℕ
 wordTotal z = formerTotal z + 3 * z .lines
 
+-- the guard of line i, request 2.5: "a loop number (0 to r−1), a comparison (0 always, 1 equal, 2 at most, 3 at least) and a bound from −64 to 64"
+pub record GuardFits (s : List ℕ) (z : Sizes) (i : ℕ) : Type 0 where
+  pub index : Between (pos 0) (pos (z .loops - 1)) (wordAt s (lineAt z i + 4))
+  pub comparison : Between (pos 0) (pos 3) (wordAt s (lineAt z i + 5))
+  pub bound : Between (negsuc 63) (pos 64) (wordAt s (lineAt z i + 6))
+
 -- "bounds −64 to 64, directions 1 or −1, step −8 to 8, matrix words −4 to 4, loading −1 to 1, operations 0 to 5, targets and operands 0 to m+1"; operations
--- 0 to 6 by request 2.1; by request 2.5 "a loop number (0 to r−1), a comparison (0 always, 1 equal, 2 at most, 3 at least) and a bound from −64 to 64"
+-- 0 to 6 by request 2.1
 pub record WordsFit (s : List ℕ) (z : Sizes) : Type 0 where
   pub left : (j : ℕ) → j < z .loops → Between (negsuc 63) (pos 64) (wordAt s (leftAt z + j))
   pub right : (j : ℕ) → j < z .loops → Between (negsuc 63) (pos 64) (wordAt s (rightAt z + j))
@@ -60,9 +65,7 @@ pub record WordsFit (s : List ℕ) (z : Sizes) : Type 0 where
   pub target : (i : ℕ) → i < z .lines → Between (pos 0) (pos (z .streams + 1)) (wordAt s (lineAt z i + 1))
   pub first : (i : ℕ) → i < z .lines → Between (pos 0) (pos (z .streams + 1)) (wordAt s (lineAt z i + 2))
   pub second : (i : ℕ) → i < z .lines → Between (pos 0) (pos (z .streams + 1)) (wordAt s (lineAt z i + 3))
-  pub index : (i : ℕ) → i < z .lines → Between (pos 0) (pos (z .loops - 1)) (wordAt s (lineAt z i + 4))
-  pub comparison : (i : ℕ) → i < z .lines → Between (pos 0) (pos lastComparison) (wordAt s (lineAt z i + 5))
-  pub bound : (i : ℕ) → i < z .lines → Between (negsuc 63) (pos 64) (wordAt s (lineAt z i + 6))
+  pub guard : (i : ℕ) → i < z .lines → GuardFits s z i
 
 -- ---- 5 to 8 and 10: the loops and place
 

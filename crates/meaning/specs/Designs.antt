@@ -22,7 +22,7 @@ unfoldable pub bytes : List ℤ → List ℕ
 bytes [] = []
 bytes (z ∷ l) = wordBytes (ofZ w32 z) ++ bytes l
 
--- ---- bodies of streams 0, 1 and 2, with scratch 3
+-- ---- bodies: streams a, b, c are 0, 1, 2, scratch is 3
 
 -- a line with its guard: loop number, comparison, bound; and one that always runs
 abbrev pub guarded : ℕ → ℕ → ℕ → ℕ → ℤ → ℤ → ℤ → List ℤ
@@ -32,11 +32,11 @@ guarded op target first second loop comparison bound =
 abbrev pub line : ℕ → ℕ → ℕ → ℕ → List ℤ
 line op target first second = guarded op target first second (pos 0) (pos 0) (pos 0)
 
--- the words of a body, after those of what stands before it
-abbrev pub ended : List (List ℤ) → List ℤ
-ended body = each (λ l. l) body
+-- the words of lines, one behind the other
+abbrev pub wordsOf : List (List ℤ) → List ℤ
+wordsOf body = each (λ l. l) body
 
--- scratch := a times b by an operation, c := c + scratch; streams a, b, c are 0, 1, 2
+-- scratch := a times b by an operation, c := c + scratch
 abbrev pub productBy : ℕ → List (List ℤ)
 productBy op = line op 3 0 1 ∷ line 1 2 2 3 ∷ []
 
@@ -54,7 +54,7 @@ abbrev pub polynomialBy : List (List ℤ) → ℕ → ℕ → List ℤ → List 
 polynomialBy body m n step place c loading =
     bytes
     ((pos 2 ∷ pos 3 ∷ pos (length body) ∷ pos 0 ∷ pos 0 ∷ pos m ∷ pos n ∷ pos 1 ∷ pos 1 ∷ [])
-    ++ (step ++ (place ++ ((pos 1 ∷ pos 0 ∷ pos 0 ∷ pos 1 ∷ []) ++ (c ++ (loading ++ ended body))))))
+    ++ (step ++ (place ++ ((pos 1 ∷ pos 0 ∷ pos 0 ∷ pos 1 ∷ []) ++ (c ++ (loading ++ wordsOf body))))))
 
 abbrev pub polynomial : ℕ → ℕ → List ℤ → List ℤ → List ℤ → List ℤ → List ℕ
 polynomial = polynomialBy product
@@ -81,13 +81,13 @@ designTwo = polynomial 2 2 (pair (pos 2) (pos 1)) (pair (pos 1) (pos 1)) (pair (
 abbrev pub values : List ℕ
 values = 1 ∷ 2 ∷ 3 ∷ 4 ∷ 5 ∷ 6 ∷ 0 ∷ 0 ∷ 0 ∷ 0 ∷ 0 ∷ []
 
--- c as it comes (request 2.5)
-abbrev pub uncleared : List ℕ
-uncleared = 1 ∷ 2 ∷ 3 ∷ 4 ∷ 5 ∷ 6 ∷ 9 ∷ 8 ∷ 7 ∷ 6 ∷ 5 ∷ []
-
 -- the same as 16.16 numbers (request 2.1)
 abbrev pub fixedValues : List ℕ
 fixedValues = 65536 ∷ 131072 ∷ 196608 ∷ 262144 ∷ 327680 ∷ 393216 ∷ 0 ∷ 0 ∷ 0 ∷ 0 ∷ 0 ∷ []
+
+-- the same with c as it comes, not cleared (request 2.5)
+abbrev pub uncleared : List ℕ
+uncleared = 1 ∷ 2 ∷ 3 ∷ 4 ∷ 5 ∷ 6 ∷ 9 ∷ 8 ∷ 7 ∷ 6 ∷ 5 ∷ []
 
 -- design one with loop 0 from right to left, step −2i+j and the body scratch := a times b, c := scratch − c, whose order counts; the hop of c is 3
 abbrev pub turned : List ℕ
@@ -111,7 +111,7 @@ matricesBy body n d place loading =
     bytes
     ((pos 3 ∷ pos 3 ∷ pos (length body) ∷ pos 0 ∷ pos 0 ∷ pos 0 ∷ pos 1 ∷ pos n ∷ pos 1 ∷ pos 1 ∷ pos 1 ∷ d ∷ pos 1 ∷ pos 1 ∷ d ∷ [])
     ++ (place ++ ((pos 1 ∷ pos 0 ∷ pos 0 ∷ pos 0 ∷ pos 0 ∷ pos 1 ∷ []) ++ ((pos 0 ∷ pos 0 ∷ pos 1 ∷ pos 0 ∷ pos 1 ∷ pos 0 ∷ [])
-    ++ ((pos 1 ∷ pos 0 ∷ pos 0 ∷ pos 0 ∷ pos 1 ∷ pos 0 ∷ []) ++ ((pos 0 ∷ pos 0 ∷ pos 0 ∷ pos 0 ∷ []) ++ (loading ++ ended body)))))))
+    ++ ((pos 1 ∷ pos 0 ∷ pos 0 ∷ pos 0 ∷ pos 1 ∷ pos 0 ∷ []) ++ ((pos 0 ∷ pos 0 ∷ pos 0 ∷ pos 0 ∷ []) ++ (loading ++ wordsOf body)))))))
 
 abbrev pub matrices : ℕ → List ℤ → List ℕ
 matrices n place = matricesBy product n (pos 1) place (pair (pos 0) (pos 0))
@@ -127,7 +127,7 @@ matrixRising = matrices 1 (pos 1 ∷ pos 0 ∷ pos 1 ∷ pos 0 ∷ pos 1 ∷ pos
 abbrev pub columnProduct : List ℕ
 columnProduct = matrices 0 (pos 1 ∷ pos 0 ∷ negsuc 0 ∷ pos 0 ∷ pos 1 ∷ negsuc 0 ∷ [])
 
--- the same with some body, place (i, j) and the last loop from right to left, so that c is kept: 2 processes
+-- 2 by 2 times a column with some body, place (i, j), so that c is kept, and the last loop from right to left: 2 processes
 abbrev pub columnWith : List (List ℤ) → List ℕ
 columnWith body = matricesBy body 0 (negsuc 0) (pos 1 ∷ pos 0 ∷ pos 0 ∷ pos 0 ∷ pos 1 ∷ pos 0 ∷ []) (pair (pos 1) (pos 0))
 
@@ -143,7 +143,7 @@ clearedTurned =
     bytes
     ((pos 2 ∷ pos 3 ∷ pos 4 ∷ pos 1 ∷ negsuc 0 ∷ pos 3 ∷ pos 1 ∷ negsuc 0 ∷ negsuc 0 ∷ negsuc 1 ∷ negsuc 0 ∷ pos 1 ∷ pos 0 ∷ [])
     ++ ((pos 1 ∷ pos 0 ∷ pos 0 ∷ pos 1 ∷ pos 1 ∷ pos 1 ∷ []) ++ ((pos 1 ∷ pos 0 ∷ pos 0 ∷ [])
-    ++ ended (clear 0 3 (pos 3) ∷ clear 1 2 (negsuc 0) ∷ product))))
+    ++ wordsOf (clear 0 3 (pos 3) ∷ clear 1 2 (negsuc 0) ∷ product))))
 
 -- 2 by 2 times a column, k from right to left, c cleared under k = 1
 abbrev pub clearedColumn : List ℕ

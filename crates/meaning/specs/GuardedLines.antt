@@ -2,29 +2,35 @@
 -- and the network both come to what the loops leave when a line runs only if its index compares so (`guarded-lines` of requests).
 use mathlib.Core.Path.{_≡_}
 use mathlib.Core.List.{List, [], _∷_, List·Memᴰ as In}
-use Prim.Native.Nat.{ℕ, _+_, _*_, _-_, _≤_, _<_}
-use lib.ListN.{length}
-use lib.IntN.{pos, negsuc}
+use Prim.Native.Nat.{ℕ, _+_, _*_, _≤_, _<_}
+use lib.ListN.{length, getD}
+use lib.IntN.{pos}
 use Rattle.integers.specs.Bytes.{bitsAt, wordAt}
 use Rattle.integers.specs.declared.V3.{V3}
 use Rattle.meaning.specs.declared.Limits.{Limits}
-use Rattle.meaning.specs.declared.Sizes.{Sizes}
 use Rattle.meaning.specs.declared.Line.{Line}
+use Rattle.meaning.specs.declared.Row.{Row}
 use Rattle.meaning.specs.declared.Figures.{Figures}
 use Rattle.meaning.specs.declared.Acceptance.the-variants.{Accepted, Refused}
-use Rattle.meaning.specs.Points.{Between}
-use Rattle.meaning.specs.Description.{sizesOf, lineAt, descriptionOf, linesOf}
+use Rattle.meaning.specs.Description.{sizesOf, lineAt, noLine, descriptionOf, linesOf}
 use Rattle.meaning.specs.Accept.{accept}
-use Rattle.meaning.specs.Conditions.{SizesFit, formerTotal, Condition, Condition.Begins, Condition.Sizes-fit, Condition.Long, Asks}
+use Rattle.meaning.specs.Rules.{Memory}
+use Rattle.meaning.specs.Answers.{answerNumber, ranNumber, readyNumber}
+use Rattle.meaning.specs.Calls.{table, start, step, run, readyCall, window, result, plainRun}
+use Rattle.meaning.specs.Conditions.{SizesFit, formerTotal, GuardFits, Condition, Condition.Begins, Condition.Sizes-fit, Condition.Long, Asks}
 use Rattle.meaning.specs.Leaves.{Runs, RunsLoops}
 
--- ---- the words of a guard
+-- ---- lines and guards
 
--- "a loop number (0 to r−1), a comparison (0 always, 1 equal, 2 at most, 3 at least) and a bound from −64 to 64", "after its four"
-pub record GuardFits (s : List ℕ) (z : Sizes) (i : ℕ) : Type 0 where
-  pub index : Between (pos 0) (pos (z .loops - 1)) (wordAt s (lineAt z i + 4))
-  pub comparison : Between (pos 0) (pos 3) (wordAt s (lineAt z i + 5))
-  pub bound : Between (negsuc 63) (pos 64) (wordAt s (lineAt z i + 6))
+-- t has the words of line i: operation, target, first and second operand, and "three words after its four: a loop number, a comparison and a bound"
+pub record HasWords (s : List ℕ) (i : ℕ) (t : Line) : Type 0 where
+  pub operation : pos (t .operation) ≡ wordAt s (lineAt (sizesOf s) i)
+  pub target : pos (t .target) ≡ wordAt s (lineAt (sizesOf s) i + 1)
+  pub first : pos (t .first) ≡ wordAt s (lineAt (sizesOf s) i + 2)
+  pub second : pos (t .second) ≡ wordAt s (lineAt (sizesOf s) i + 3)
+  pub index : pos (t .index) ≡ wordAt s (lineAt (sizesOf s) i + 4)
+  pub comparison : pos (t .comparison) ≡ wordAt s (lineAt (sizesOf s) i + 5)
+  pub bound : t .bound ≡ wordAt s (lineAt (sizesOf s) i + 6)
 
 -- two descriptions that differ at most in the guards of their lines, all in range
 pub record OtherGuards (s t : List ℕ) : Type 0 where
@@ -33,6 +39,20 @@ pub record OtherGuards (s t : List ℕ) : Type 0 where
   pub same : (k : ℕ) → ((i j : ℕ) → i < sizesOf s .lines → 4 ≤ j → j < 7 → k ≡ lineAt (sizesOf s) i + j → ⊥) → bitsAt s k ≡ bitsAt t k
   pub guards : (i : ℕ) → i < sizesOf s .lines → GuardFits s (sizesOf s) i × GuardFits t (sizesOf s) i
 
+-- ---- refusals
+
+-- every call is declined by k
+pub record DeclinedBy (l : Limits) (s : List ℕ) (k : ℕ) : Type 0 where
+  pub accept : accept l s ≡ Refused k
+  pub table : (rows : List Row) → answerNumber (table l s rows .answer) ≡ k
+  pub start : (values : List ℕ) (M : Memory) → answerNumber (start l s values M .answer) ≡ k
+  pub step : (kind number stream : ℕ) (M : Memory) → answerNumber (step l s kind number stream M .answer) ≡ k
+  pub run : (n : ℕ) (M : Memory) → ranNumber (run l s n M .answer) ≡ k
+  pub ready : (words : List ℕ) (M : Memory) → readyNumber (readyCall l s words M .answer) ≡ k
+  pub window : (pipe side : ℕ) (waiting received : List ℕ) → window l s pipe side waiting received .refusal ≡ k
+  pub result : (output : List ℕ) (M : Memory) → answerNumber (result l s output M .answer) ≡ k
+  pub plain : (values output : List ℕ) → answerNumber (plainRun l s values output .answer) ≡ k
+
 -- the conditions of 1 to 3
 abbrev pub conditionsBefore : List Condition
 conditionsBefore = Begins ∷ Sizes-fit ∷ Long ∷ []
@@ -40,8 +60,10 @@ conditionsBefore = Begins ∷ Sizes-fit ∷ Long ∷ []
 -- ---- REQUEST 2.5, for every description and all limits
 
 pub record Guarded (l : Limits) (s : List ℕ) : Type 0 where
+  -- "each line gains three words after its four"
+  pub words : (f : Figures) → accept l s ≡ Accepted f → (i : ℕ) → i < sizesOf s .lines → HasWords s i (getD (linesOf (descriptionOf s)) i noLine)
   -- "descriptions of the older length are declined by 3", of all sizes
-  pub older-length : SizesFit (sizesOf s) → length s ≡ 4 * formerTotal (sizesOf s) → accept l s ≡ Refused 3
+  pub older-length : SizesFit (sizesOf s) → length s ≡ 4 * formerTotal (sizesOf s) → DeclinedBy l s 3
   -- "refusal 4 covers the new words"
   pub covered : ((c : Condition) → In c conditionsBefore → Asks l s c) → (i : ℕ) → i < sizesOf s .lines → (GuardFits s (sizesOf s) i → ⊥)
       → accept l s ≡ Refused 4

@@ -7,6 +7,7 @@
 //   Streams           line, move, hop; a stream's box and elements
 //   Pipes             pipes, their processes and elements; soak and drain
 //   Operations        what the operations of body lines do, and the last of them
+//   Guards            whether a body line runs at an instance
 //   Description       bytes to words, lengths, ranges, decoding
 //   Body              lines, one instance on a store, the plain run
 //   Accept            the refusals 1 to 17 without 9, named one by one and chained; the figures
@@ -20,9 +21,12 @@
 //   Demand3           lists of calls, and what holds after every one of them
 //   FivePlaces        request 2.8: what the lower limit of refusal 14 changes, and what it leaves
 //   LongerStrides     request 2.2: what Accept answers without refusal 9, and that first and last are outermost
-//   FixedPoint        request 2.1: what Accept answers to operation 6; what operations put, as propositions, by the plain run and by the network
+//   Leaves            what operations put, when a line runs and what loops leave, as propositions; by the plain run and by the network
+//   FixedPoint        request 2.1: what Accept answers to operation 6
+//   GuardedLines      request 2.5: what Accept answers to descriptions of the older length and to guards, and when lines run
 //   Designs, Cases    the documents' designs as bytes, and document 01's cases marked P, computed as one table (Comparison)
 //   Singles, Runs     cases beside them that hold the rules: tables, single steps and declined calls; states stopped in the middle, other orders
+//   GuardedRuns       runs under guards, plainly and in two orders
 //
 // Two loops are three, the third running from 0 to 0: its direction is 1, its step coefficient 0; place and every index map get a second row
 // (0, 0, 1), and a loading vector a second component 0. Then one set of definitions serves both.

@@ -11,11 +11,11 @@ use Rattle.meaning.specs.declared.Limits.{Limits}
 use Rattle.meaning.specs.declared.Sizes.{Sizes}
 use Rattle.meaning.specs.Description.{sizesOf, lineWords, lineAt, wordsOf, inRange}
 use Rattle.meaning.specs.Accept.{accept}
-use Rattle.meaning.specs.GuardedLines.{GuardFits, OtherGuards}
+use Rattle.meaning.specs.Conditions.{GuardFits}
+use Rattle.meaning.specs.GuardedLines.{OtherGuards}
 use Rattle.network.specs.Cases.{Order, less, atLeast, order}
 use Rattle.network.specs.Decide.{says-true}
 use Rattle.guarantee.specs.WordConditions.{index-word, comparison-word, bound-word}
-
 use Rattle.requests.specs.OtherWords.{answered-alike}
 
 module _ {s t : List ℕ} (o : OtherGuards s t) where

@@ -15,7 +15,6 @@ use Rattle.meaning.specs.Accept.{accept}
 use Rattle.meaning.specs.FixedPoint.{OtherOperations}
 use Rattle.network.specs.Decide.{says-true}
 use Rattle.guarantee.specs.WordConditions.{operation-word}
-
 use Rattle.requests.specs.OtherWords.{answered-alike}
 
 module _ {s t : List ℕ} (o : OtherOperations s t) where

@@ -1,11 +1,11 @@
 -- The lines of a description: each is that of its number, and those of one that meets the conditions have words in range. Assumes nothing.
-use mathlib.Core.Path.{_≡_, sym, subst}
+use mathlib.Core.Path.{_≡_, refl, sym, _∙_, ap, subst}
 use mathlib.Core.Bool.{Bool, true, false}
 use mathlib.Core.List.{List, _++_, map, List·Memᴰ as In, Memᴰ·map as in-map}
 use Prim.Native.Nat.{ℕ, suc, _+_, _-_, _^_, _≤_, _<_}
 use native.Mathlib.Omega.{arith}
 use lib.Dec.{ltb}
-use lib.ListN.{replicate, take}
+use lib.ListN.{getD, replicate, take}
 use lib.IntN.{pos, negsuc}
 use lib.Seq.{take-append-seam}
 use borrow.Author.Tests.{lt-ltb}
@@ -23,7 +23,7 @@ use Rattle.meaning.specs.Guards.{lastComparison}
 use Rattle.meaning.specs.Description.{sizesOf, lineAt, nestOf, streamOf, bodyLine, noStream, noLine, descriptionOf, linesOf}
 use Rattle.meaning.specs.Conditions.{SizesFit, WordsFit}
 use Rattle.geometry.specs.Members.{map-in, in-numbers, numbers-in}
-use Rattle.network.specs.Lists.{length-numbers}
+use Rattle.network.specs.Lists.{length-numbers, getD-first}
 
 -- ---- what bytes and sizes decode to
 
@@ -55,6 +55,9 @@ bits-most u n h = go (ltb u (2 ^ 31)) h
 pub between-bits : (u n : ℕ) → u ≤ n → n < 2 ^ 31 → Between (pos 0) (pos n) (toZ w32 u)
 between-bits u n h k = rw (lt-ltb u (2 ^ 31) (omega arith)) (record { lo = le-in (omega arith); hi = le-in (omega arith) })
 
+pub word-bits : (u n : ℕ) → n < 2 ^ 31 → Between (pos 0) (pos n) (toZ w32 u) → pos u ≡ toZ w32 u
+word-bits u n k h = rw (lt-ltb u (2 ^ 31) (omega (arith, bits-most u n h))) refl
+
 -- ---- the lines of a description
 
 -- operations, loop numbers and comparisons that there are
@@ -78,6 +81,10 @@ module _ (s : List ℕ) where
   unfolding descriptionOf
   of-line i h = subst (In (bodyLine s z i)) (sym (lines-are s z)) (in-map (bodyLine s z) (in-numbers 0 (z .lines) i (omega arith) (omega arith)))
 
+  pub line-at : (i : ℕ) → i < z .lines → getD (linesOf (descriptionOf s)) i noLine ≡ bodyLine s z i
+  unfolding descriptionOf
+  line-at i h = ap (λ (ts : List Line). getD ts i noLine) (lines-are s z) ∙ getD-first (bodyLine s z) noLine (z .lines) i h
+
   pub allowed : SizesFit z → WordsFit s z → (t : Line) → In t (linesOf (descriptionOf s)) → Allowed t
   unfolding bodyLine wordAt
   allowed h f t k =
@@ -86,6 +93,6 @@ module _ (s : List ℕ) where
       subst Allowed (sym (r .2))
       (record {
         operation = bits-most (bitsAt s (lineAt z i)) lastOperation (f .operation i (r .1));
-        index = omega (arith, bits-most (bitsAt s (lineAt z i + 4)) (z .loops - 1) (f .index i (r .1)), h .loops);
-        comparison = bits-most (bitsAt s (lineAt z i + 5)) lastComparison (f .comparison i (r .1));
+        index = omega (arith, bits-most (bitsAt s (lineAt z i + 4)) (z .loops - 1) (f .guard i (r .1) .index), h .loops);
+        comparison = bits-most (bitsAt s (lineAt z i + 5)) lastComparison (f .guard i (r .1) .comparison);
       })

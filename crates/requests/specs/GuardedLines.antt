@@ -1,32 +1,36 @@
 -- Request 2.5, "guards on body lines": descriptions of the older length are declined by 3, guards out of range by 4, and a line runs only if its index compares
 -- so. Assumes nothing.
-use mathlib.Core.Path.{_≡_, refl, sym, subst}
+use mathlib.Core.Path.{_≡_, refl, sym, _∙_, ap, subst}
+use mathlib.Core.Bool.{Bool, cond}
 use mathlib.Core.List.{List, [], _∷_, List·Memᴰ as In, List·Memᴰ·head as here, List·Memᴰ·tail as there}
-use Prim.Native.Nat.{ℕ, _*_, _<_}
+use Prim.Native.Nat.{ℕ, _+_, _*_, _-_, _^_, _<_}
 use native.Mathlib.Omega.{arith}
-use lib.ListN.{length}
+use lib.ListN.{length, getD}
+use borrow.Author.Tests.{ne-eqb}
+use Rattle.integers.specs.Bytes.{wordAt}
 use Rattle.integers.specs.declared.V3.{V3}
 use Rattle.meaning.specs.declared.Limits.{Limits}
 use Rattle.meaning.specs.declared.Sizes.{Sizes}
 use Rattle.meaning.specs.declared.Line.{Line}
 use Rattle.meaning.specs.declared.Figures.{Figures}
 use Rattle.meaning.specs.declared.Acceptance.the-variants.{Accepted, Refused}
-use Rattle.meaning.specs.Lists.{each, numbers}
+use Rattle.meaning.specs.Operations.{lastOperation}
 use Rattle.meaning.specs.Guards.{indexOf}
-use Rattle.meaning.specs.Description.{sizesOf, descriptionOf, linesOf}
-use Rattle.meaning.specs.Accept.{accept}
-use Rattle.meaning.specs.Conditions.{SizesFit, formerTotal, Condition, Condition.Begins, Condition.Sizes-fit, Condition.Long, Condition.Words-fit, Condition.Bounds-fit, Condition.Instances, Condition.Place-rank, Condition.Increment, Condition.Processes, Asks, ofStream}
+use Rattle.meaning.specs.Description.{sizesOf, bodyLine, noLine, descriptionOf, linesOf}
+use Rattle.meaning.specs.Accept.{refusalOf, accept}
+use Rattle.meaning.specs.Answers.{acceptNumber}
+use Rattle.meaning.specs.Calls.{orElse}
+use Rattle.meaning.specs.Conditions.{SizesFit, formerTotal, GuardFits, WordsFit, Meets, Condition, Condition.Begins, Condition.Sizes-fit, Condition.Long, Condition.Words-fit, Asks}
+use Rattle.meaning.specs.Demand1.{Numbers}
+use Rattle.meaning.specs.FixedPoint.{conditionsAfter}
 use Rattle.meaning.specs.Leaves.{Compares, Compares.always, Runs}
-use Rattle.meaning.specs.GuardedLines.{GuardFits, conditionsBefore, GuardedLines}
+use Rattle.meaning.specs.GuardedLines.{HasWords, DeclinedBy, conditionsBefore, GuardedLines}
 use Rattle.guarantee.specs.Acceptance.{accepted-not-refused, refused-exactly}
-use Rattle.requests.specs.BodyLines.{Allowed, allowed}
+use Rattle.guarantee.specs.Demand1.{demand-one}
+use Rattle.requests.specs.BodyLines.{Allowed, word-bits, line-at, allowed}
 use Rattle.requests.specs.AnyGuard.{any-guard}
 use Rattle.requests.specs.Guards.{index-is}
 use Rattle.requests.specs.RunsLoops.{accepted-meets, runs-loops}
-
--- the conditions after 4
-abbrev conditionsAfter : ℕ → List Condition
-conditionsAfter streams = Bounds-fit ∷ Instances ∷ Place-rank ∷ Increment ∷ Processes ∷ each ofStream (numbers streams)
 
 -- a line of comparison 0 runs
 always-runs : (x : V3) (t : Line) → Allowed t → t .comparison ≡ 0 → Runs x t
@@ -41,9 +45,36 @@ module _ (l : Limits) (s : List ℕ) where
   abbrev z : Sizes
   z = sizesOf s
 
-  older-length : SizesFit z → length s ≡ 4 * formerTotal z → accept l s ≡ Refused 3
+  -- ---- refusals
+
+  -- what Accept declines every call declines
+  declined : (k : ℕ) → (k ≡ 0 → ⊥) → accept l s ≡ Refused k → DeclinedBy l s k
+  declined k n e =
+      record {
+        accept = e;
+        table = λ rows. by _ (m .table rows);
+        start = λ values M. by _ (m .start values M);
+        step = λ kind number stream M. by _ (m .step kind number stream M);
+        run = λ n M. by _ (m .run n M);
+        ready = λ words M. by _ (m .ready words M);
+        window = λ pipe side waiting received. by _ (m .window pipe side waiting received);
+        result = λ output M. by _ (m .result output M);
+        plain = λ values output. by _ (m .plain values output);
+      }
+    where
+      m : Numbers l s
+      m = demand-one l s .numbers
+
+      number : refusalOf l s ≡ k
+      number = sym (m .accept) ∙ ap acceptNumber e
+
+      by : {a : ℕ} (r : ℕ) → a ≡ orElse (refusalOf l s) r → a ≡ k
+      by r h = h ∙ ap (λ (c : ℕ). orElse c r) number ∙ ap (λ (b : Bool). cond b r k) (ne-eqb k 0 n)
+
+  older-length : SizesFit z → length s ≡ 4 * formerTotal z → DeclinedBy l s 3
   older-length f e =
-      refused-exactly l s 3 .1
+      declined 3 (λ g. omega arith)
+      (refused-exactly l s 3 .1
       (record {
         passed = Begins ∷ Sizes-fit ∷ [];
         failed = Long;
@@ -52,7 +83,7 @@ module _ (l : Limits) (s : List ℕ) where
         number = refl;
         holds = held;
         fails = λ now. omega (arith, f .lines .0);
-      })
+      }))
     where
       held : (c : Condition) → In c (Begins ∷ Sizes-fit ∷ []) → Asks l s c
       held c (here p) = subst (Asks l s) (sym p) (omega arith)
@@ -68,17 +99,54 @@ module _ (l : Limits) (s : List ℕ) where
         order = refl;
         number = refl;
         holds = held;
-        fails = λ f. n (record { index = f .index i h; comparison = f .comparison i h; bound = f .bound i h });
+        fails = λ f. n (f .guard i h);
       })
+
+  -- ---- lines
+
+  meets : (f : Figures) → accept l s ≡ Accepted f → Meets l s
+  meets f e = accepted-meets l s (accepted-not-refused l s f e)
+
+  words : (f : Figures) → accept l s ≡ Accepted f → (i : ℕ) → i < z .lines → HasWords s i (getD (linesOf (descriptionOf s)) i noLine)
+  unfolding bodyLine wordAt
+  words f e i h = subst (HasWords s i) (sym (line-at s i h)) has
+    where
+      m : Meets l s
+      m = meets f e
+
+      w : WordsFit s z
+      w = m .words
+
+      g : GuardFits s z i
+      g = w .guard i h
+
+      few : z .streams + 1 < 2 ^ 31
+      few = omega (arith, m .sizes .streams .1)
+
+      loops : z .loops - 1 < 2 ^ 31
+      loops = omega (arith, m .sizes .loops .1)
+
+      has : HasWords s i (bodyLine s z i)
+      has =
+          record {
+            operation = word-bits _ lastOperation (omega arith) (w .operation i h);
+            target = word-bits _ (z .streams + 1) few (w .target i h);
+            first = word-bits _ (z .streams + 1) few (w .first i h);
+            second = word-bits _ (z .streams + 1) few (w .second i h);
+            index = word-bits _ (z .loops - 1) loops (g .index);
+            comparison = word-bits _ 3 (omega arith) (g .comparison);
+            bound = refl;
+          }
 
   always-running : (f : Figures) → accept l s ≡ Accepted f → (t : Line) → In t (linesOf (descriptionOf s)) → t .comparison ≡ 0 → (x : V3) → Runs x t
   always-running f e t k c x =
-      let m = accepted-meets l s (accepted-not-refused l s f e) in always-runs x t (allowed s (m .sizes) (m .words) t k) c
+      let m = meets f e in always-runs x t (allowed s (m .sizes) (m .words) t k) c
 
 -- REQUEST 2.5
 pub guarded-lines : GuardedLines
 guarded-lines l s =
     record {
+      words = words l s;
       older-length = older-length l s;
       covered = covered l s;
       any-guard = λ t o. any-guard o l;

@@ -31,7 +31,6 @@ use Rattle.network.specs.Cases.{Order, less, atLeast, order}
 use Rattle.network.specs.Lists.{same-numbers, same-every}
 use Rattle.guarantee.specs.Refusals.{Refuses, Refuses.met, Refuses.broken}
 use Rattle.guarantee.specs.WordConditions.{refuses2}
-
 use Rattle.requests.specs.BodyLines.{decoded, lines-are}
 
 -- ---- what Accept makes of a description
