@@ -10,9 +10,8 @@ use lib.Seq.{take-suc, take-append-le, set-append-left}
 use Rattle.integers.specs.declared.V3.{V3}
 use Rattle.meaning.specs.declared.Line.{Line}
 use Rattle.meaning.specs.Description.{noLine}
-use Rattle.meaning.specs.Operations.{operate}
 use Rattle.meaning.specs.Guards.{admits}
-use Rattle.meaning.specs.Body.{runLine, runLines}
+use Rattle.meaning.specs.Body.{resultOf, runLine, runLines}
 use Rattle.body.specs.Fit.{Within, Fit}
 
 -- a new instance's scratch values
@@ -31,11 +30,11 @@ module _ (x : V3) where
   run-next ls i vs h = rw (add-one, take-suc ls i noLine) (run-more (take i ls) (getD ls i noLine) vs)
 
   line-length : (l : Line) (vs : List ℕ) → length (runLine x l vs) ≡ length vs
-  line-length l vs = go (admits l x) (operate (l .operation) (getD vs (l .first) 0) (getD vs (l .second) 0))
+  line-length l vs = go (admits l x)
     where
-      go : (b : Bool) (v : ℕ) → length (cond b (set vs (l .target) v) vs) ≡ length vs
-      go true v = length-set vs (l .target) v
-      go false v = refl
+      go : (b : Bool) → length (cond b (set vs (l .target) (resultOf l vs)) vs) ≡ length vs
+      go true = length-set vs (l .target) (resultOf l vs)
+      go false = refl
 
   run-length : (ls : List Line) (vs : List ℕ) → length (runLines x ls vs) ≡ length vs
   unfolding runLines
@@ -47,11 +46,12 @@ module _ (x : V3) where
   line-apart : (m : ℕ) (l : Line) (vs rest : List ℕ) → Within m l → length vs ≡ suc (suc m) → runLine x l (vs ++ rest) ≡ runLine x l vs ++ rest
   line-apart m l vs rest w e =
       rw (List·getD-append vs rest 0 (l .first) (omega (arith, w .first)), List·getD-append vs rest 0 (l .second) (omega (arith, w .second)))
-      (go (admits l x) (operate (l .operation) (getD vs (l .first) 0) (getD vs (l .second) 0)))
+      (go (admits l x))
     where
-      go : (b : Bool) (v : ℕ) → cond b (set (vs ++ rest) (l .target) v) (vs ++ rest) ≡ cond b (set vs (l .target) v) vs ++ rest
-      go true v = set-append-left vs rest (l .target) v (omega (arith, w .target))
-      go false v = refl
+      go : (b : Bool)
+          → cond b (set (vs ++ rest) (l .target) (resultOf l vs)) (vs ++ rest) ≡ cond b (set vs (l .target) (resultOf l vs)) vs ++ rest
+      go true = set-append-left vs rest (l .target) (resultOf l vs) (omega (arith, w .target))
+      go false = refl
 
   run-apart : (m n : ℕ) (ls : List Line) (vs rest : List ℕ) → ((i : ℕ) → i < n → Within m (getD ls i noLine)) → length vs ≡ suc (suc m)
       → runLines x (take n ls) (vs ++ rest) ≡ runLines x (take n ls) vs ++ rest

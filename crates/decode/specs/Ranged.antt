@@ -31,7 +31,7 @@ use Rattle.meaning.specs.Description.{sizesOf, matrixWords, leftAt, rightAt, di
 use Rattle.decode.specs.Offsets.{Sized, two-or-three}
 use Rattle.decode.specs.Filled.{filled-each}
 use Rattle.decode.specs.Scans.{every-at}
-use Rattle.decode.specs.Ranges.{rangeTest, range-is, in-bounds, in-directions, in-steps, in-matrices, in-loading, lineTest, in-lines, in-operations, in-operands, in-loops, in-comparisons, in-guards}
+use Rattle.decode.specs.Ranges.{rangeTest, range-is, in-bounds, in-directions, in-steps, in-matrices, in-loading, lineTest, in-lines, in-operations, in-operands, in-loops, in-comparisons, in-guard-bounds}
 use Rattle.decode.specs.Refusals.{firstTests, neither, passed, sizes-in-range}
 
 -- ---- the record
@@ -211,7 +211,7 @@ module _ (s : List ℕ) (z : Sizes) (h : Sized z) (good : refused4 s z ≡ false
         second = operand 3 (omega arith) (omega arith);
         index = leb-true _ (z .loops - 1) (sym (in-loops z 4 _ _ refl) ∙ test 4 (omega arith));
         comparison = leb-true _ lastComparison (sym (in-comparisons z 5 _ _ refl) ∙ test 5 (omega arith));
-        bound = abs-of (sym (in-guards z 6 _ _ (omega arith)) ∙ test 6 (omega arith));
+        bound = abs-of (sym (in-guard-bounds z 6 _ _ (omega arith)) ∙ test 6 (omega arith));
       }
     where
       test : (j : ℕ) → j < lineWords → lineTest z j (natAbs (wordAt s (lineAt z i + j))) (bitsAt s (lineAt z i + j)) ≡ true

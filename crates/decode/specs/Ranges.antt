@@ -133,6 +133,6 @@ module _ (z : Sizes) (j n u : ℕ) where
   unfolding lineTest
   in-comparisons e = rw e
 
-  pub in-guards : 6 ≤ j → lineTest z j n u ≡ leb n 64
+  pub in-guard-bounds : 6 ≤ j → lineTest z j n u ≡ leb n 64
   unfolding lineTest
-  in-guards e = let a : 4 ≤ j = omega arith in rw (ne-eqb j 0 (λ g. omega arith), le-ltb j 4 a, ne-eqb j 4 (λ g. omega arith), ne-eqb j 5 (λ g. omega arith))
+  in-guard-bounds e = let a : 4 ≤ j = omega arith in rw (ne-eqb j 0 (λ g. omega arith), le-ltb j 4 a, ne-eqb j 4 (λ g. omega arith), ne-eqb j 5 (λ g. omega arith))

@@ -19,9 +19,13 @@ use Rattle.meaning.specs.Description.{streamsOf, linesOf}
 
 -- ---- lines
 
--- one line of instance x, on the values of the streams and the two scratch values; a line that its guard does not admit leaves them
+-- what a line makes of the values of the streams and the two scratch values
+abbrev pub resultOf : Line → List ℕ → ℕ
+resultOf l vs = operate (l .operation) (getD vs (l .first) 0) (getD vs (l .second) 0)
+
+-- one line of instance x: its result is put into its target, or, if its guard does not admit it, all values stay
 abbrev pub runLine : V3 → Line → List ℕ → List ℕ
-runLine x l vs = cond (admits l x) (set vs (l .target) (operate (l .operation) (getD vs (l .first) 0) (getD vs (l .second) 0))) vs
+runLine x l vs = cond (admits l x) (set vs (l .target) (resultOf l vs)) vs
 
 unfoldable pub runLines : V3 → List Line → List ℕ → List ℕ
 runLines x [] vs = vs

@@ -11,9 +11,8 @@ use borrow.Author.Tests.{eqb-false}
 use Rattle.integers.specs.declared.V3.{V3}
 use Rattle.meaning.specs.declared.Line.{Line}
 use Rattle.meaning.specs.Lists.{any, numbers}
-use Rattle.meaning.specs.Operations.{operate}
 use Rattle.meaning.specs.Guards.{admits}
-use Rattle.meaning.specs.Body.{runLine, runLines}
+use Rattle.meaning.specs.Body.{resultOf, runLine, runLines}
 use Rattle.meaning.specs.Array.{Array, instanceAt, countAt, streamCount, pipeThrough, stopsOn, stopAt}
 use Rattle.meaning.specs.Rules.{processOn, streamOn, bodyAt}
 use Rattle.network.specs.Lists.{length-numbers, getD-first, same-numbers}
@@ -27,11 +26,11 @@ use Rattle.network.specs.System.{Spot, Geometry, System}
 pub length-lines : (x : V3) (ls : List Line) (vs : List ℕ) → length (runLines x ls vs) ≡ length vs
 unfolding runLines
 length-lines x [] vs = refl
-length-lines x (l ∷ ls) vs = length-lines x ls (runLine x l vs) ∙ go (admits l x) (operate (l .operation) (getD vs (l .first) 0) (getD vs (l .second) 0))
+length-lines x (l ∷ ls) vs = length-lines x ls (runLine x l vs) ∙ go (admits l x)
   where
-    go : (b : Bool) (v : ℕ) → length (cond b (set vs (l .target) v) vs) ≡ length vs
-    go true v = length-set vs (l .target) v
-    go false v = refl
+    go : (b : Bool) → length (cond b (set vs (l .target) (resultOf l vs)) vs) ≡ length vs
+    go true = length-set vs (l .target) (resultOf l vs)
+    go false = refl
 
 -- a stream that is no line's target keeps its value
 pub lines-keep : (x : V3) (s : ℕ) (ls : List Line) (vs : List ℕ) → (any (λ l. eqb (l .target) s) ls ≡ true → ⊥)
@@ -45,11 +44,11 @@ lines-keep x s (l ∷ ls) vs n = go (eqb (l .target) s) refl n (lines-keep x s l
         → getD (runLines x ls (runLine x l vs)) s 0 ≡ getD vs s 0
     go true e n ih = absurd (n refl)
     go false e n ih =
-        ih n ∙ kept (admits l x) (operate (l .operation) (getD vs (l .first) 0) (getD vs (l .second) 0))
+        ih n ∙ kept (admits l x)
       where
-        kept : (b : Bool) (v : ℕ) → getD (cond b (set vs (l .target) v) vs) s 0 ≡ getD vs s 0
-        kept true v = getD-set-other vs (l .target) s v 0 (λ d. eqb-false (l .target) s e (sym d))
-        kept false v = refl
+        kept : (b : Bool) → getD (cond b (set vs (l .target) (resultOf l vs)) vs) s 0 ≡ getD vs s 0
+        kept true = getD-set-other vs (l .target) s (resultOf l vs) 0 (λ d. eqb-false (l .target) s e (sym d))
+        kept false = refl
 
 module _ (A : Array) where
   -- what the body of instance x makes of the streams' values f

@@ -9,10 +9,10 @@ use lib.ListN.{length, getD, set, take, length-map}
 use Rattle.integers.specs.declared.V3.{V3}
 use Rattle.meaning.specs.declared.Line.{Line}
 use Rattle.meaning.specs.declared.Description.{Description}
-use Rattle.meaning.specs.Operations.{modulus, operate}
+use Rattle.meaning.specs.Operations.{modulus}
 use Rattle.meaning.specs.Guards.{admits}
 use Rattle.meaning.specs.Description.{linesOf}
-use Rattle.meaning.specs.Body.{runLine, runLines, touchedBy, gather, scatter, execute, executeAll}
+use Rattle.meaning.specs.Body.{resultOf, runLine, runLines, touchedBy, gather, scatter, execute, executeAll}
 use Rattle.meaning.specs.Leaves.{Runs, LinesLeave, LinesLeave.none as lines-end, LinesLeave.runs, LinesLeave.stays, LoopsLeave, LoopsLeave.none as loops-end, LoopsLeave.next as instance, Words}
 use Rattle.geometry.specs.Members.{map-in}
 use Rattle.network.specs.Decide.{Says, Says.holds, Says.fails, says-true}
@@ -55,16 +55,13 @@ abbrev AllAllowed : List Line → Type 0
 AllAllowed ts = (t : Line) → In t ts → Allowed t
 
 module _ (x : V3) where
-  -- what a line puts, and leaves if it runs
-  abbrev result : Line → List ℕ → ℕ
-  result t vs = operate (t .operation) (getD vs (t .first) 0) (getD vs (t .second) 0)
-
+  -- what a line leaves if it runs
   abbrev after : Line → List ℕ → List ℕ
-  after t vs = set vs (t .target) (result t vs)
+  after t vs = set vs (t .target) (resultOf t vs)
 
   words-after : (t : Line) (vs : List ℕ) → Allowed t → Words vs → Words (after t vs)
   words-after t vs h w =
-      words-set vs (t .target) (result t vs) w (word-result (word-at vs w (t .first)) (word-at vs w (t .second)) (t .operation) (h .operation))
+      words-set vs (t .target) (resultOf t vs) w (word-result (word-at vs w (t .first)) (word-at vs w (t .second)) (t .operation) (h .operation))
 
   words-line : (t : Line) (vs : List ℕ) → Allowed t → Words vs → Words (runLine x t vs)
   words-line t vs h w = go (admits t x)

@@ -1,18 +1,9 @@
 -- `decode::line_of` meets its contract. Assumes nothing.
-use mathlib.Core.Path.{_≡_}
-use Prim.Native.Nat.{ℕ}
-use lib.IntN.{ℤ}
 use Rattle.integers.specs.Words.{held}
-use Rattle.meaning.specs.declared.Line.{Line}
 use Rattle.meaning.specs.Description.{bodyLine}
 use borrow.Author.Needs.{needs}
 use Rattle.decode.proofs.line_of.Statement.{statement}
 use Rattle.decode.proofs.line_of.Tie as tie
-
-line : {o o' t t' f f' s s' i i' c c' : ℕ} {b b' : ℤ} → o ≡ o' → t ≡ t' → f ≡ f' → s ≡ s' → i ≡ i' → c ≡ c' → b ≡ b'
-    → _≡_ {A = Line} (record { operation = o; target = t; first = f; second = s; index = i; comparison = c; bound = b })
-    (record { operation = o'; target = t'; first = f'; second = s'; index = i'; comparison = c'; bound = b' })
-line e f g h i j k = rw (e, f, g, h, i, j, k)
 
 line-at-requires : tie.Need-line-at-requires
 line-at-requires c κs = search needs
@@ -61,9 +52,16 @@ unfolding bodyLine
 returns c =
     let b = c .before .before .before in
     let at = b .before .before .before .before .line-at .ensures .0 in
-    line (rw at at (b .before .before .before .bits-at .ensures)) (rw at at (b .before .before .bits-at2 .ensures)) (rw at at (b .before .bits-at3 .ensures))
-    (rw at at (b .bits-at4 .ensures)) (rw at at (c .before .before .bits-at5 .ensures)) (rw at at (c .before .bits-at6 .ensures))
-    (held (c .word-at .ok) (rw at at (c .word-at .ensures)))
+    rw (
+      b .before .before .before .bits-at .ensures,
+      b .before .before .bits-at2 .ensures,
+      b .before .bits-at3 .ensures,
+      b .bits-at4 .ensures,
+      c .before .before .bits-at5 .ensures,
+      c .before .bits-at6 .ensures,
+      held (c .word-at .ok) (c .word-at .ensures),
+      at,
+    )
 
 pub line-of-spec : {M : Type 1} → statement M
 line-of-spec =

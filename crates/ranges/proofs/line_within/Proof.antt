@@ -1,7 +1,7 @@
 -- `ranges::line_within` meets its contract, word by word. Assumes nothing.
 use mathlib.Core.Path.{sym}
 use native.Mathlib.Omega.{arith}
-use Rattle.decode.specs.Ranges.{in-operations, in-operands, in-loops, in-comparisons, in-guards}
+use Rattle.decode.specs.Ranges.{in-operations, in-operands, in-loops, in-comparisons, in-guard-bounds}
 use borrow.Author.Needs.{needs}
 use Rattle.ranges.proofs.line_within.Statement.{statement}
 use Rattle.ranges.proofs.line_within.Tie as tie
@@ -25,7 +25,7 @@ returns-4 : tie.Need-returns-4
 returns-4 c = sym (in-comparisons _ _ _ _ (omega arith))
 
 returns-5 : tie.Need-returns-5
-returns-5 c = sym (in-guards _ _ _ _ (omega arith))
+returns-5 c = sym (in-guard-bounds _ _ _ _ (omega arith))
 
 pub line-within-spec : {M : Type 1} → statement M
 line-within-spec = tie.close (tie.spec returns add-result returns-2 sub-result returns-3 returns-4 returns-5)
