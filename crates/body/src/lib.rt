@@ -54,7 +54,7 @@ pub fn operate(op: u32, a: u32, b: u32) -> u32
 }
 
 // The index of loop i at instance x.
-pub fn index_of(i: u32, x: V3) -> i32
+fn index_of(i: u32, x: V3) -> i32
     ensures { λ r. ⌜ r ≡ indexOf i x ⌝ }
 {
     match i {
@@ -65,7 +65,7 @@ pub fn index_of(i: u32, x: V3) -> i32
 }
 
 // How an index compares with a bound: always, equal, at most, at least.
-pub fn compares(c: u32, v: i32, bound: i32) -> bool
+fn compares(c: u32, v: i32, bound: i32) -> bool
     ensures { λ r. ⌜ r ≡ compares c v bound ⌝ }
 {
     match c {
@@ -77,7 +77,7 @@ pub fn compares(c: u32, v: i32, bound: i32) -> bool
 }
 
 // Whether the guard of a line lets it run at instance x.
-pub fn admits(l: Line, x: V3) -> bool
+fn admits(l: Line, x: V3) -> bool
     ensures { λ r. ⌜ r ≡ admits l x ⌝ }
 {
     compares(l.comparison, index_of(l.index, x), l.bound)

@@ -1,5 +1,5 @@
 -- Accept does not look at which of the operations a line has: two descriptions that differ in operation words alone are answered alike. Assumes nothing.
-use mathlib.Core.Path.{_≡_, sym, _∙_, ap, subst}
+use mathlib.Core.Path.{_≡_, ap, subst}
 use mathlib.Core.Bool.{not}
 use mathlib.Core.List.{List}
 use Prim.Native.Nat.{ℕ, _+_, _-_, _/_, _%_, _≤_, _<_}
@@ -13,9 +13,8 @@ use Rattle.meaning.specs.declared.Sizes.{Sizes}
 use Rattle.meaning.specs.Description.{sizesOf, lineWords, lineAt, wordsOf, inRange}
 use Rattle.meaning.specs.Accept.{accept}
 use Rattle.meaning.specs.FixedPoint.{OtherOperations}
-use Rattle.network.specs.Decide.{says-true}
 use Rattle.guarantee.specs.WordConditions.{operation-word}
-use Rattle.requests.specs.OtherWords.{answered-alike}
+use Rattle.requests.specs.OtherWords.{both-true, answered-alike}
 
 module _ {s t : List ℕ} (o : OtherOperations s t) where
   abbrev z : Sizes
@@ -33,7 +32,7 @@ module _ {s t : List ℕ} (o : OtherOperations s t) where
           let at : lineAt z i ≡ k = omega arith in
           let h = o .operations i (omega arith) in
           subst (λ (j : ℕ). inRange z j (toZ w32 (bitsAt s j)) ≡ inRange z j (toZ w32 (bitsAt t j))) at
-          (says-true (operation-word s z i) (h .0) ∙ sym (says-true (operation-word t z i) (h .1)))
+          (both-true (operation-word s z i) (operation-word t z i) (h .0) (h .1))
 
   pub any-operation : (l : Limits) → accept l s ≡ accept l t
   any-operation =

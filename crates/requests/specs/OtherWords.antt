@@ -29,6 +29,7 @@ use Rattle.meaning.specs.Accept.{nestTests, testsFrom, refusalOf, figures, acce
 use Rattle.meaning.specs.Conditions.{SizesFit}
 use Rattle.network.specs.Cases.{Order, less, atLeast, order}
 use Rattle.network.specs.Lists.{same-numbers, same-every}
+use Rattle.network.specs.Decide.{Says, says-true}
 use Rattle.guarantee.specs.Refusals.{Refuses, Refuses.met, Refuses.broken}
 use Rattle.guarantee.specs.WordConditions.{refuses2}
 use Rattle.requests.specs.BodyLines.{decoded, lines-are}
@@ -66,6 +67,11 @@ module _ (l : Limits) where
     answered-same : (u u' : List ℕ) (z : Sizes) → streamsOf d ≡ streamsOf d' → length u ≡ length u' → refused4 u z ≡ refused4 u' z
         → answered u z d ≡ answered u' z d'
     answered-same u u' z e f g = rw (tests-same 0 (streamsOf d), n, e, f, g)
+
+-- ---- two tests that both hold
+
+pub both-true : {A B : Type 0} {a b : Bool} → Says A a → Says B b → A → B → a ≡ b
+both-true p q x y = says-true p x ∙ sym (says-true q y)
 
 -- ---- two descriptions of one length, alike before their bodies and in targets, and where words of the body are in range
 
