@@ -5,13 +5,14 @@ use mathlib.Core.List.{List, [], _∷_, _++_, append-assoc}
 use Prim.Native.Nat.{ℕ, zero, suc, _+_, _<_}
 use native.Mathlib.Numerals.{add-one}
 use native.Mathlib.Omega.{arith}
-use lib.ListN.{length, getD, set, take, length-append, length-set, List·getD-append}
+use lib.ListN.{length, getD, set, take, length-append, List·getD-append}
 use lib.Seq.{take-suc, take-append-le, set-append-left}
 use Rattle.integers.specs.declared.V3.{V3}
 use Rattle.meaning.specs.declared.Line.{Line}
 use Rattle.meaning.specs.Description.{noLine}
 use Rattle.meaning.specs.Guards.{admits}
 use Rattle.meaning.specs.Body.{resultOf, runLine, runLines}
+use Rattle.meaning.specs.Lines.{line-length, lines-length}
 use Rattle.body.specs.Fit.{Within, Fit}
 
 -- a new instance's scratch values
@@ -28,18 +29,6 @@ module _ (x : V3) where
   pub run-next : (ls : List Line) (i : ℕ) (vs : List ℕ) → i < length ls
       → runLines x (take (i + 1) ls) vs ≡ runLine x (getD ls i noLine) (runLines x (take i ls) vs)
   run-next ls i vs h = rw (add-one, take-suc ls i noLine) (run-more (take i ls) (getD ls i noLine) vs)
-
-  line-length : (l : Line) (vs : List ℕ) → length (runLine x l vs) ≡ length vs
-  line-length l vs = go (admits l x)
-    where
-      go : (b : Bool) → length (cond b (set vs (l .target) (resultOf l vs)) vs) ≡ length vs
-      go true = length-set vs (l .target) (resultOf l vs)
-      go false = refl
-
-  run-length : (ls : List Line) (vs : List ℕ) → length (runLines x ls vs) ≡ length vs
-  unfolding runLines
-  run-length [] vs = refl
-  run-length (l ∷ ls) vs = run-length ls (runLine x l vs) ∙ line-length l vs
 
   -- ---- registers past the scratch values change nothing
 
@@ -60,7 +49,7 @@ module _ (x : V3) where
   run-apart m (suc n) [] vs rest w e = refl
   run-apart m (suc n) (l ∷ ls) vs rest w e =
       ap (runLines x (take n ls)) (line-apart m l vs rest (w 0 (omega arith)) e)
-      ∙ run-apart m n ls (runLine x l vs) rest (λ i h. w (suc i) (omega arith)) (line-length l vs ∙ e)
+      ∙ run-apart m n ls (runLine x l vs) rest (λ i h. w (suc i) (omega arith)) (line-length x l vs ∙ e)
 
   -- the body of an instance whose lines are ls: `body` and `bodyAt` over their own lines
   abbrev pub bodyOf : List Line → List ℕ → List ℕ
@@ -73,4 +62,4 @@ module _ (x : V3) where
       let e = length-append vs scratch in
       ap (λ (l : List ℕ). take (length vs) (runLines x (take n ls) l)) (sym (append-assoc vs scratch rest))
       ∙ ap (take (length vs)) (run-apart (length vs) n ls (vs ++ scratch) rest (f .within) (omega arith))
-      ∙ take-append-le (length vs) _ rest (omega (arith, run-length (take n ls) (vs ++ scratch)))
+      ∙ take-append-le (length vs) _ rest (omega (arith, lines-length x (take n ls) (vs ++ scratch)))

@@ -12,6 +12,7 @@ pub mod Operations
 pub mod Guards
 pub mod Description
 pub mod Body
+pub mod Lines
 pub mod Accept
 pub mod Conditions
 pub mod Array

@@ -10,6 +10,7 @@
 //   Guards            whether a body line runs at an instance
 //   Description       bytes to words, lengths, ranges, decoding
 //   Body              lines, one instance on a store, the plain run
+//   Lines             laws of lines that mathematics and code share
 //   Accept            the refusals 1 to 17 without 9, named one by one and chained; the figures
 //   Points, Sorted    points, lines, boxes and lists in order as propositions
 //   Array, State      what the rules look at; the words of the state and where they stand

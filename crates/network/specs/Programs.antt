@@ -5,14 +5,14 @@ use mathlib.Core.List.{List, [], _∷_, _++_, map}
 use Prim.Native.Nat.{ℕ, _+_, _<_}
 use native.Mathlib.Omega.{arith}
 use lib.Dec.{eqb}
-use lib.ListN.{length, getD, set, length-append, length-set, length-take, List·getD-append}
+use lib.ListN.{length, getD, length-append, length-take, List·getD-append}
 use lib.Seq.{getD-set-other, getD-take}
 use borrow.Author.Tests.{eqb-false}
 use Rattle.integers.specs.declared.V3.{V3}
 use Rattle.meaning.specs.declared.Line.{Line}
 use Rattle.meaning.specs.Lists.{any, numbers}
-use Rattle.meaning.specs.Guards.{admits}
 use Rattle.meaning.specs.Body.{resultOf, runLine, runLines}
+use Rattle.meaning.specs.Lines.{line-leaves, lines-length}
 use Rattle.meaning.specs.Array.{Array, instanceAt, countAt, streamCount, pipeThrough, stopsOn, stopAt}
 use Rattle.meaning.specs.Rules.{processOn, streamOn, bodyAt}
 use Rattle.network.specs.Lists.{length-numbers, getD-first, same-numbers}
@@ -22,15 +22,6 @@ use Rattle.network.specs.Wiring.{kindOf, rankAt, netOf, elementAt, write
 use Rattle.network.specs.System.{Spot, Geometry, System}
 
 -- ---- lines
-
-pub length-lines : (x : V3) (ls : List Line) (vs : List ℕ) → length (runLines x ls vs) ≡ length vs
-unfolding runLines
-length-lines x [] vs = refl
-length-lines x (l ∷ ls) vs = length-lines x ls (runLine x l vs) ∙ go (admits l x)
-  where
-    go : (b : Bool) → length (cond b (set vs (l .target) (resultOf l vs)) vs) ≡ length vs
-    go true = length-set vs (l .target) (resultOf l vs)
-    go false = refl
 
 -- a stream that is no line's target keeps its value
 pub lines-keep : (x : V3) (s : ℕ) (ls : List Line) (vs : List ℕ) → (any (λ l. eqb (l .target) s) ls ≡ true → ⊥)
@@ -44,11 +35,8 @@ lines-keep x s (l ∷ ls) vs n = go (eqb (l .target) s) refl n (lines-keep x s l
         → getD (runLines x ls (runLine x l vs)) s 0 ≡ getD vs s 0
     go true e n ih = absurd (n refl)
     go false e n ih =
-        ih n ∙ kept (admits l x)
-      where
-        kept : (b : Bool) → getD (cond b (set vs (l .target) (resultOf l vs)) vs) s 0 ≡ getD vs s 0
-        kept true = getD-set-other vs (l .target) s (resultOf l vs) 0 (λ d. eqb-false (l .target) s e (sym d))
-        kept false = refl
+        ih n
+        ∙ line-leaves x (λ ws. getD ws s 0 ≡ getD vs s 0) l vs (getD-set-other vs (l .target) s (resultOf l vs) 0 (λ d. eqb-false (l .target) s e (sym d))) refl
 
 module _ (A : Array) where
   -- what the body of instance x makes of the streams' values f
@@ -56,7 +44,7 @@ module _ (A : Array) where
   bodyOf x f s = getD (bodyAt A x (map f (numbers (streamCount A)))) s 0
 
   pub length-body : (x : V3) (vs : List ℕ) → length (bodyAt A x vs) ≡ length vs
-  length-body x vs = simp (length-take, length-lines, length-append) (omega arith)
+  length-body x vs = simp (length-take, lines-length, length-append) (omega arith)
 
   -- a body changes no stream that is no line's target
   pub body-keeps : (x : V3) (f : ℕ → ℕ) (s : ℕ) → s < streamCount A → (writes A s ≡ true → ⊥) → bodyOf x f s ≡ f s

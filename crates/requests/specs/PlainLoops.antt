@@ -1,7 +1,7 @@
 -- The loops, a line at a time by whether it runs and what its operation puts, leave exactly what the plain run computes, for words. Assumes nothing.
 use mathlib.Core.Path.{_≡_, refl, sym, _∙_, ap, subst}
 use mathlib.Core.Logic.{_⊎_, inl, inr, _↔_}
-use mathlib.Core.Bool.{Bool, true, false, cond}
+use mathlib.Core.Bool.{Bool, cond}
 use mathlib.Core.List.{List, [], _∷_, _++_, List·Memᴰ as In, List·Memᴰ·head as here, List·Memᴰ·tail as there, List·Memᴰ·append-cases}
 use Prim.Native.Nat.{ℕ, zero, suc, _<_}
 use native.Mathlib.Omega.{arith}
@@ -13,6 +13,7 @@ use Rattle.meaning.specs.Operations.{modulus}
 use Rattle.meaning.specs.Guards.{admits}
 use Rattle.meaning.specs.Description.{linesOf}
 use Rattle.meaning.specs.Body.{resultOf, runLine, runLines, touchedBy, gather, scatter, execute, executeAll}
+use Rattle.meaning.specs.Lines.{line-leaves}
 use Rattle.meaning.specs.Leaves.{Runs, LinesLeave, LinesLeave.none as lines-end, LinesLeave.runs, LinesLeave.stays, LoopsLeave, LoopsLeave.none as loops-end, LoopsLeave.next as instance, Words}
 use Rattle.geometry.specs.Members.{map-in}
 use Rattle.network.specs.Decide.{Says, Says.holds, Says.fails, says-true}
@@ -64,11 +65,7 @@ module _ (x : V3) where
       words-set vs (t .target) (resultOf t vs) w (word-result (word-at vs w (t .first)) (word-at vs w (t .second)) (t .operation) (h .operation))
 
   words-line : (t : Line) (vs : List ℕ) → Allowed t → Words vs → Words (runLine x t vs)
-  words-line t vs h w = go (admits t x)
-    where
-      go : (b : Bool) → Words (cond b (after t vs) vs)
-      go true = words-after t vs h w
-      go false = w
+  words-line t vs h w = line-leaves x Words t vs (words-after t vs h w) w
 
   words-lines : (ts : List Line) (vs : List ℕ) → AllAllowed ts → Words vs → Words (runLines x ts vs)
   unfolding runLines
