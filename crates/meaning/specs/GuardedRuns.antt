@@ -15,8 +15,8 @@ use Rattle.meaning.specs.Description.{nestOf, streamOf, bodyLine, descri
 use Rattle.meaning.specs.Body.{runLines, touchedFrom, scatter, execute, executeAll}
 use Rattle.meaning.specs.Accept.{testsFrom, refusalOf, accept}
 use Rattle.meaning.specs.Array.{insertByStep, byStep, pipesFrom, arrayOf}
-use Rattle.meaning.specs.Rules.{moveDown, sound, writeAll, ready, apply, firstOf as firstReady, runSteps, applyAll}
-use Rattle.meaning.specs.Calls.{start, run, readyCall, window, result, plainRun}
+use Rattle.meaning.specs.Rules.{moveDown, sound, writeAll, apply, firstOf as firstReady, runSteps, applyAll}
+use Rattle.meaning.specs.Calls.{start, run, result, plainRun}
 use Rattle.meaning.specs.Comparison.{Case, _is_, naturals, eqList, firstWrong, agree-after}
 use Rattle.meaning.specs.Designs.{bytes, uncleared, clearedOne, clearedTurned, clearedColumn, startedWith}
 use Rattle.meaning.specs.Cases as P
@@ -41,5 +41,5 @@ cleared =
     ++ bothWays clearedColumn (1 ∷ 2 ∷ 3 ∷ 4 ∷ 5 ∷ 6 ∷ 7 ∷ 8 ∷ []) 44 (1 ∷ 2 ∷ 3 ∷ 4 ∷ 5 ∷ 6 ∷ 17 ∷ 39 ∷ []))
 
 pub proved : map (λ c. c .got) cleared ≡ map (λ c. c .wanted) cleared
-unfolding eqList firstWrong backwards bytes bitsAt wordAt gcdOf euclid filter any every position best bestOr total each numbersFrom refusal walk instances lineOf points widenAll around boxOf sentTo firstOf lastOf stays march lineIn pipe usedOn pipeElements nestOf streamOf bodyLine descriptionOf runLines touchedFrom scatter execute executeAll testsFrom refusalOf accept insertByStep byStep pipesFrom arrayOf moveDown sound writeAll apply firstReady runSteps applyAll start run readyCall window result plainRun
+unfolding eqList firstWrong backwards bytes bitsAt wordAt gcdOf euclid filter any every position best bestOr total each numbersFrom refusal walk instances lineOf points widenAll around boxOf sentTo firstOf lastOf stays march lineIn pipe usedOn pipeElements nestOf streamOf bodyLine descriptionOf runLines touchedFrom scatter execute executeAll testsFrom refusalOf accept insertByStep byStep pipesFrom arrayOf moveDown sound writeAll apply firstReady runSteps applyAll start run result plainRun
 proved = agree-after P.proved cleared refl

@@ -2,7 +2,6 @@
 use native.Mathlib.Omega.{arith}
 use borrow.Author.Tests.{ne-eqb}
 use Rattle.integers.specs.Words.{tower}
-use borrow.Author.Needs.{needs}
 use Rattle.body.proofs.index_of.Statement.{statement}
 use Rattle.body.proofs.index_of.Tie as tie
 
