@@ -22,8 +22,10 @@ extern "C" {
 /* The most processes, and so the most rows, of a description that is accepted. */
 #define BEQLANOSH_MOST_PROCESSES 1024
 
-/* Accept: processes, instances, elements, pipes, state words and total steps go into the six figures. Declines by 1 to 17. */
-uint32_t beqlanosh_accept(const uint8_t *bytes, size_t length, uint32_t figures[6]);
+/* Accept: processes, instances, elements, pipes, state words and total steps go into the first six figures, then the divisor of place and those of the six
+ * streams, 0 past the streams in use. The divisor of a matrix is the greatest common divisor of its row's two words, or of the cross product of its two
+ * rows: of all whole points that many times fewer are values of the matrix. Declines by 1 to 17. */
+uint32_t beqlanosh_accept(const uint8_t *bytes, size_t length, uint32_t figures[13]);
 
 /* Table: a row for each process, in row order, goes into the words, 21 words a row. Declines by 1 to 17, and by 18 if there is no room for all rows. */
 uint32_t beqlanosh_table(const uint8_t *bytes, size_t length, uint32_t *words, size_t words_length);

@@ -4,6 +4,7 @@ use reference::calls::{Accepted, Calls, Row};
 use reference::compare;
 use reference::random::Random;
 use reference::random_description;
+use reference::random_divisor;
 use reference::random_stride;
 use reference::Refusal;
 
@@ -27,6 +28,12 @@ pub fn descriptions(seed: u64) -> Vec<Vec<u8>> {
     }
     for _ in 0..1000 {
         descriptions.push(random_stride::strided(&mut random).bytes());
+    }
+    for _ in 0..500 {
+        let description = random_divisor::divided(&mut random);
+        descriptions.push(random_description::word_changed(&mut random, &description));
+        descriptions.push(description.bytes());
+        descriptions.push(random_divisor::dependent(&mut random).bytes());
     }
     for _ in 0..10 {
         descriptions.push(random_description::large(&mut random).bytes());
@@ -119,14 +126,7 @@ pub fn number_of<T>(answer: Result<T, Refusal>) -> u32 {
 }
 
 fn figures_of(accepted: &Accepted) -> [u32; FIGURES] {
-    [
-        accepted.processes as u32,
-        accepted.instances as u32,
-        accepted.elements as u32,
-        accepted.pipes as u32,
-        accepted.words as u32,
-        accepted.steps as u32,
-    ]
+    accepted.values().map(|value| value as u32)
 }
 
 /// Point, count, first, last, soak and drain; a signed number as its 32 bits.

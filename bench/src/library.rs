@@ -5,8 +5,8 @@ use reference::calls::Lent;
 /// The words of a row of the table.
 pub const ROW_WORDS: usize = 21;
 
-/// The figures that Accept answers.
-pub const FIGURES: usize = 6;
+/// The values that Accept answers: six figures, the divisor of place and those of six streams.
+pub const FIGURES: usize = 13;
 
 // A slice is a pointer and a length, one after the other.
 extern "C" {

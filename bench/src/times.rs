@@ -14,8 +14,8 @@ use crate::library::{self, FIGURES, ROW_WORDS};
 /// How long a call of each implementation is repeated.
 const LONG: Duration = Duration::from_millis(400);
 
-/// The report's designs, design one with operation 6 (request 2.1), two designs with guards (request 2.5) and request 2.2's as large as they may be, and
-/// 1,024 processes with four instances each.
+/// The report's designs, the matrix product on a slanted grid (request 2.7), design one with operation 6 (request 2.1), two designs with guards (request 2.5)
+/// and request 2.2's as large as they may be, and 1,024 processes with four instances each.
 pub fn arrays() -> Vec<(&'static str, Description)> {
     let mut wide = designs::matrix_straight(31);
     wide.right[2] = 3;
@@ -27,6 +27,7 @@ pub fn arrays() -> Vec<(&'static str, Description)> {
         ("matrix straight 16", designs::matrix_straight(15)),
         ("cleared matrix 16", designs::cleared_matrix(15)),
         ("matrix moving 16", designs::matrix_moving(15)),
+        ("matrix slanted 16", designs::matrix_slanted(15)),
         ("matrix straight 32x32x4", wide),
         ("decimating 64", designs::decimating(63, 63)),
     ]

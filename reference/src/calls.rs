@@ -22,6 +22,30 @@ pub struct Accepted {
     pub pipes: usize,
     pub words: usize,
     pub steps: u64,
+    /// Request 2.7: the divisor of place, then those of the streams; 0 past the streams in use.
+    pub divisors: [u32; 7],
+}
+
+impl Accepted {
+    /// The thirteen values in their order.
+    pub fn values(&self) -> [u64; 13] {
+        let [place, a, b, c, d, e, f] = self.divisors.map(u64::from);
+        [
+            self.processes as u64,
+            self.instances as u64,
+            self.elements as u64,
+            self.pipes as u64,
+            self.words as u64,
+            self.steps,
+            place,
+            a,
+            b,
+            c,
+            d,
+            e,
+            f,
+        ]
+    }
 }
 
 /// A row of the table. Words past the loops and streams in use are 0.
@@ -89,6 +113,7 @@ impl Calls {
             pipes: array.pipes.len(),
             words: network.words(),
             steps: array.total_steps(),
+            divisors: divisors(array),
         })
     }
 
@@ -245,6 +270,15 @@ impl Calls {
         demand(network.sound(state), 22)?;
         Ok(network)
     }
+}
+
+/// The divisor of place, then those of the streams; 0 past the streams in use.
+fn divisors(array: &Array) -> [u32; 7] {
+    let mut divisors = [array.divisor, 0, 0, 0, 0, 0, 0];
+    for (divisor, stream) in divisors[1..].iter_mut().zip(&array.streams) {
+        *divisor = stream.divisor;
+    }
+    divisors
 }
 
 /// The row of a process; a null row has zeros after its point and the pipes' lengths as soak.

@@ -5,14 +5,21 @@ use std::fmt::Display;
 use crate::calls::{Calls, Row};
 use crate::description::{bytes_of, Description, LINE_WORDS};
 use crate::designs;
+use crate::divisor_cases::divisor_cases;
 use crate::guard_words::{guard_words, older_lengths};
 use crate::random::Random;
 use crate::random_description::{self, given};
+use crate::random_divisor;
 use crate::random_stride;
 use crate::Refusal;
 
 /// How many descriptions have a longer stride by intent.
 const STRIDED: usize = 500;
+
+/// How many have a divisor above 1 by intent: accepted, declined by 7 or 11, and with a word changed.
+const DIVIDED: usize = 100;
+const DEPENDENT: usize = 30;
+const DIVIDED_AND_CHANGED: usize = 50;
 
 /// The most rows that are lent.
 const ROWS: usize = 1024;
@@ -41,8 +48,8 @@ pub fn text(descriptions: &[Vec<u8>]) -> String {
         .collect()
 }
 
-/// Accept's answer, a line for Table and a line for Plain run: for each call its number, 0 if it did not decline, and the sum of its list. The
-/// rows and the final values of a small array stand below. A description that is declined counts as one process and one element.
+/// Accept's thirteen values or its refusal, a line for Table and a line for Plain run: for each call its number, 0 if it did not decline, and the sum of
+/// its list. The rows and the final values of a small array stand below. A description that is declined counts as one process and one element.
 fn description_text(number: u32, description: &[u8]) -> String {
     let calls = Calls::on(description);
     let accepted = calls.accept();
@@ -50,11 +57,7 @@ fn description_text(number: u32, description: &[u8]) -> String {
     let small = accepted.is_ok() && elements <= SMALL;
     let first = accepted.map_or_else(
         |refusal| refusal.to_string(),
-        |found| {
-            let (pipes, words, steps) = (found.pipes, found.words, found.steps);
-            let instances = found.instances;
-            format!("{processes} {instances} {elements} {pipes} {words} {steps}")
-        },
+        |found| found.values().map(|value| value.to_string()).join(" "),
     );
     let table = table_text(&calls, processes, small);
     let plain = plain_text(&calls, number, elements, small);
@@ -172,9 +175,9 @@ fn row_words(row: &Row) -> Vec<u32> {
     numbers.into_iter().map(|number| number as u32).collect()
 }
 
-/// About 3,600 descriptions: the report's designs, document 01's cases, decimating filters, fixed point products, cleared accumulators, arrays at the
-/// limits, words of lines at the ends of their ranges, descriptions of the older length, every refusal, accepted ones, such with a longer stride, and such
-/// with a word changed.
+/// About 4,000 descriptions: the report's designs, document 01's cases, decimating filters, fixed point products, cleared accumulators, arrays at the
+/// limits, words of lines at the ends of their ranges, descriptions of the older length, every refusal, accepted ones, such with a longer stride, such
+/// with a word changed, and such that show common divisors.
 pub fn descriptions() -> Vec<Vec<u8>> {
     let mut designs = report_designs();
     designs.extend(worked_cases());
@@ -202,6 +205,24 @@ pub fn descriptions() -> Vec<Vec<u8>> {
     }
     for _ in 0..600 {
         descriptions.push(random_description::changed(&mut random));
+    }
+    descriptions.extend(divisor_cases().iter().map(Description::bytes));
+    descriptions.extend(random_divisors(&mut random));
+    descriptions
+}
+
+/// Random descriptions with a divisor above 1, and such that were spoiled.
+fn random_divisors(random: &mut Random) -> Vec<Vec<u8>> {
+    let mut descriptions = Vec::new();
+    for _ in 0..DIVIDED {
+        descriptions.push(random_divisor::divided(random).bytes());
+    }
+    for _ in 0..DEPENDENT {
+        descriptions.push(random_divisor::dependent(random).bytes());
+    }
+    for _ in 0..DIVIDED_AND_CHANGED {
+        let description = random_divisor::divided(random);
+        descriptions.push(random_description::word_changed(random, &description));
     }
     descriptions
 }

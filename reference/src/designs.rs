@@ -82,6 +82,18 @@ pub fn polynomial_two(n: i32) -> Description {
     polynomial(n, [1, 1], [0, 0, 1])
 }
 
+/// Request 2.7: the loops and the step of the polynomial product with place 2i: streams x: i and y: i, both with loading 1. Each y gains its x n+1 times, and
+/// every second process is null.
+pub fn spaced(n: i32) -> Description {
+    Description {
+        place: vec![vec![2, 0]],
+        maps: vec![vec![vec![1, 0]]; 2],
+        loading: vec![vec![1]; 2],
+        body: vec![add(1, 1, 0)],
+        ..polynomial_one(n)
+    }
+}
+
 /// Request 2.1: design one with operation 6 in place of 3, for 16.16 numbers.
 pub fn fixed_one(n: i32) -> Description {
     Description {

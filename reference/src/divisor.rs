@@ -1,4 +1,4 @@
-//! Dividing out the greatest common divisor, which is found by trial division.
+//! The rule that shortens a vector: its greatest common divisor, which is found by trial division, is divided out and handed back.
 
 /// The largest number that divides the magnitude of every word; 0 for the zero vector.
 pub fn greatest_common_divisor(vector: &[i32]) -> u32 {
@@ -36,12 +36,22 @@ fn divisors(number: u32) -> Vec<u32> {
     found
 }
 
-/// The divisor and the vector divided by it. A zero vector has divisor 0 and stays zero.
-pub fn shorten(vector: &[i32]) -> (u32, Vec<i32>) {
+/// A vector divided by its greatest common divisor, and that divisor.
+#[derive(Clone, Debug, PartialEq, Eq)]
+pub struct Shortened {
+    pub vector: Vec<i32>,
+    pub divisor: u32,
+}
+
+/// Takes the greatest common divisor out of a vector. A zero vector has divisor 0 and stays zero.
+pub fn shorten(vector: &[i32]) -> Shortened {
     let divisor = greatest_common_divisor(vector);
-    if divisor == 0 {
-        return (0, vector.to_vec());
+    let quotient = |&word: &i32| match divisor {
+        0 => word,
+        _ => (i64::from(word) / i64::from(divisor)) as i32,
+    };
+    Shortened {
+        vector: vector.iter().map(quotient).collect(),
+        divisor,
     }
-    let quotient = |&word: &i32| (i64::from(word) / i64::from(divisor)) as i32;
-    (divisor, vector.iter().map(quotient).collect())
 }

@@ -1,5 +1,5 @@
-//! The files of `examples/`: the report's designs, decimating filters, a filter with fractional coefficients and a product that clears its accumulators as
-//! descriptions, and replay scripts.
+//! The files of `examples/`: the report's designs, decimating filters, a filter with fractional coefficients, a product that clears its accumulators and an
+//! array whose working processes lie apart as descriptions, and replay scripts.
 
 use crate::description::Description;
 use crate::designs;
@@ -18,7 +18,8 @@ pub struct ExampleScript {
 }
 
 /// The polynomial product in designs one and two and the matrix product on three layouts, the small ones of document 01 and large ones, request 2.2's
-/// decimating filter, for one channel and for several, request 2.1's fractional coefficients, and request 2.5's cleared accumulators.
+/// decimating filter, for one channel and for several, request 2.1's fractional coefficients, request 2.5's cleared accumulators, and request 2.7's array
+/// with place 2i.
 pub fn examples() -> Vec<Example> {
     [
         ("polynomial-one", designs::polynomial_one(2)),
@@ -33,14 +34,15 @@ pub fn examples() -> Vec<Example> {
         ("decimating-channels", designs::decimating_channels()),
         ("smoothing", designs::smoothing(5, 2)),
         ("cleared", designs::cleared_one(2)),
+        ("spaced", designs::spaced(2)),
     ]
     .into_iter()
     .map(|(name, description)| Example { name, description })
     .collect()
 }
 
-/// Document 01's polynomial product in design two, the fractional filter on 16.16 numbers, and the product that clears what c held: forty steps, who is
-/// ready, all the others, and the result.
+/// Document 01's polynomial product in design two, the fractional filter on 16.16 numbers, the product that clears what c held, and the matrix product on the
+/// slanted grid: forty steps, who is ready, all the others, and the result.
 pub fn example_scripts() -> Vec<ExampleScript> {
     [
         (
@@ -53,6 +55,11 @@ pub fn example_scripts() -> Vec<ExampleScript> {
             "cleared",
             designs::cleared_one(2),
             vec![1, 2, 3, 4, 5, 6, 9, 8, 7, 6, 5],
+        ),
+        (
+            "matrix-slanted",
+            designs::matrix_slanted(2),
+            (1..=9).chain((1..=9).rev()).chain([0; 9]).collect(),
         ),
     ]
     .into_iter()

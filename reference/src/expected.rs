@@ -70,10 +70,11 @@ fn shorten_case() -> Case {
     let mut stdout = String::new();
     for vector in vectors() {
         stdin.extend(bytes_of(&vector));
-        let (divisor, short) = shorten(&vector);
+        let short = shorten(&vector);
+        let (divisor, words) = (short.divisor, short.vector);
         stdout.push_str(&format!(
             "{divisor} {} {} {}\n",
-            short[0], short[1], short[2]
+            words[0], words[1], words[2]
         ));
     }
     Case {
@@ -178,7 +179,8 @@ fn compare_case() -> Case {
 /// How many random scripts are replayed.
 const SCRIPTS: usize = 1000;
 
-/// The replay of the examples, run to their end, of the example scripts, of request 2.5's designs in two orders, and of random scripts, in one bundle.
+/// The replay of the examples, run to their end, of the example scripts, of designs of requests 2.5 and 2.7 in two orders, and of random scripts, in one
+/// bundle.
 fn replay_case() -> Case {
     let stdin = bundle(&replay_scripts());
     Case {
@@ -194,20 +196,22 @@ pub fn replay_scripts() -> Vec<Vec<u8>> {
         .into_iter()
         .map(|it| run_to_the_end(&it.description));
     let named = example_scripts().into_iter().map(|it| it.script.bytes());
-    let guarded = guarded().into_iter().flat_map(|it| in_two_orders(&it));
+    let pairs = ordered().into_iter().flat_map(|it| in_two_orders(&it));
     ends.chain(named)
-        .chain(guarded)
+        .chain(pairs)
         .chain(scripts(1, SCRIPTS))
         .collect()
 }
 
-/// Request 2.5's designs that are run in two orders.
-fn guarded() -> [Description; 4] {
+/// The designs of requests 2.5 and 2.7 that are run in two orders.
+fn ordered() -> [Description; 6] {
     [
         designs::cleared_one(2),
         designs::cleared_turned(),
         designs::cleared_column(),
         designs::cleared_matrix(1),
+        designs::matrix_slanted(2),
+        designs::spaced(2),
     ]
 }
 

@@ -2,6 +2,7 @@
 //! streams. Refusals 6 to 17.
 
 use crate::description::{Description, Matrix};
+use crate::divisor::Shortened;
 use crate::pipes::{pipes, stations, Pipe, Station};
 use crate::vectors::{dot, is_zero, number_in, shortest, times, within_one, Bounds, Point};
 use crate::{demand, Refusal};
@@ -30,6 +31,8 @@ pub struct Array {
     /// Instances in the order of the plain run.
     pub instances: Vec<Point>,
     pub increment: Point,
+    /// The divisor of place.
+    pub divisor: u32,
     /// Processes in row order.
     pub processes: Vec<Process>,
     pub streams: Vec<Stream>,
@@ -51,6 +54,8 @@ pub struct Process {
 #[derive(Clone, Debug)]
 pub struct Stream {
     pub line: Point,
+    /// The divisor of its index map.
+    pub divisor: u32,
     pub moving: bool,
     /// Document 01's move; the loading vector if the stream is stationary.
     pub travel: Point,
@@ -72,7 +77,8 @@ impl Array {
         let mut array = Array {
             description: description.clone(),
             instances,
-            increment,
+            increment: increment.vector,
+            divisor: increment.divisor,
             processes,
             streams,
             pipes: Vec::new(),
@@ -140,8 +146,8 @@ fn instances(description: &Description) -> Vec<Point> {
 
 // Increment.
 
-/// The increment; declines by 7 and 8.
-fn increment(description: &Description) -> Result<Point, Refusal> {
+/// The increment with the divisor of place; declines by 7 and 8.
+fn increment(description: &Description) -> Result<Shortened, Refusal> {
     shortest(&description.place, &description.step, 7, 8)
 }
 
@@ -203,9 +209,10 @@ fn streams(
     Ok(streams)
 }
 
-/// Line, move and hop of one stream; declines by 11 to 16.
+/// Line, divisor, move and hop of one stream; declines by 11 to 16.
 fn stream(description: &Description, number: usize, limits: &Limits) -> Result<Stream, Refusal> {
-    let line = shortest(&description.maps[number], &description.step, 11, 12)?;
+    let short = shortest(&description.maps[number], &description.step, 11, 12)?;
+    let line = short.vector;
     let travel = times(&description.place, &line);
     demand(within_one(&travel), 13)?;
     let moving = !is_zero(&travel);
@@ -219,6 +226,7 @@ fn stream(description: &Description, number: usize, limits: &Limits) -> Result<S
     demand(moving == is_zero(loading), 16)?;
     Ok(Stream {
         line,
+        divisor: short.divisor,
         moving,
         travel: if moving { travel } else { loading.clone() },
         hop: if moving { hop as usize } else { 1 },

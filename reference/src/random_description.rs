@@ -91,7 +91,7 @@ pub fn laid_out(
 }
 
 /// A left and a right bound with at most so many indices between.
-fn bounds(random: &mut Random, most: i32) -> (i32, i32) {
+pub fn bounds(random: &mut Random, most: i32) -> (i32, i32) {
     let further = random.between(0, most - 1);
     let left = match random.below(5) {
         0 | 1 => 0,
@@ -172,7 +172,7 @@ fn map(random: &mut Random, nest: &Description) -> Matrix {
 
 /// Place's rows as an index map, shortened, in either order, the first with either sign.
 pub fn map_of_place(random: &mut Random, nest: &Description) -> Matrix {
-    let mut rows: Matrix = nest.place.iter().map(|row| shorten(row).1).collect();
+    let mut rows: Matrix = nest.place.iter().map(|row| shorten(row).vector).collect();
     if random.percent(50) {
         rows.reverse();
     }
@@ -216,7 +216,13 @@ pub fn large(random: &mut Random) -> Description {
 
 /// An accepted description with one word changed, whatever Accept says of it.
 pub fn changed(random: &mut Random) -> Vec<u8> {
-    let mut words = accepted(random).words();
+    let description = accepted(random);
+    word_changed(random, &description)
+}
+
+/// A description with one word after its sizes changed.
+pub fn word_changed(random: &mut Random, description: &Description) -> Vec<u8> {
+    let mut words = description.words();
     let number = random.below(words.len() - 3) + 3;
     words[number] += random.pick(&[-2, -1, 1, 2]);
     bytes_of(&words)
@@ -313,7 +319,7 @@ fn spoil_bounds(random: &mut Random, description: &mut Description, number: u32)
 }
 
 /// Rows of a rank below r−1.
-fn make_dependent(random: &mut Random, rows: &mut Matrix) {
+pub fn make_dependent(random: &mut Random, rows: &mut Matrix) {
     let factor = random.between(-1, 1);
     let source = if rows.len() == 1 {
         vec![0; 2]

@@ -5,6 +5,7 @@ use crate::calls::READY_WORDS;
 use crate::network::{Network, Step};
 use crate::random::Random;
 use crate::random_description as descriptions;
+use crate::random_divisor as divisors;
 use crate::random_stride as strides;
 use crate::replay::{step_call, Call, Machine, Script};
 
@@ -14,6 +15,7 @@ const CHANGED: usize = 3;
 const STRIDED: usize = 5;
 const LARGE: usize = 1;
 const CUT: usize = 1;
+const DIVIDED: usize = 3;
 const ROUND: usize = 50;
 
 /// The most words that a script shows of a list.
@@ -31,6 +33,7 @@ fn script(random: &mut Random, number: usize) -> Vec<u8> {
     let strided = changed.end..changed.end + STRIDED;
     let large = strided.end..strided.end + LARGE;
     let short = large.end..large.end + CUT;
+    let divided = short.end..short.end + DIVIDED;
     if let Some(given) = descriptions::given().nth(number) {
         let description = descriptions::refused(random, given);
         full_script(random, description)
@@ -42,6 +45,9 @@ fn script(random: &mut Random, number: usize) -> Vec<u8> {
         full_script(random, description)
     } else if large.contains(&number) {
         let description = descriptions::large(random).bytes();
+        full_script(random, description)
+    } else if divided.contains(&number) {
+        let description = divisors::divided(random).bytes();
         full_script(random, description)
     } else {
         let description = descriptions::accepted(random).bytes();

@@ -29,7 +29,7 @@ fn nest(random: &mut Random) -> (Description, Vec<Point>) {
         let reach = random.pick(&[2, 4, 4]);
         let place = matrix(random, loops, reach);
         let step = random.words(loops, -8, 8);
-        let Ok(increment) = shortest(&place, &step, 7, 8) else {
+        let Ok(increment) = shortest(&place, &step, 7, 8).map(|it| it.vector) else {
             continue;
         };
         let lines = lines(&place, &step);
@@ -54,18 +54,19 @@ fn bounds(random: &mut Random, increment: &[i32]) -> (Point, Point) {
 }
 
 /// The short vectors that may be a stream's line: components from −2 to 2, moves of at most 1, hops of at most the limit.
-fn lines(place: &Matrix, step: &[i32]) -> Vec<Point> {
+pub fn lines(place: &Matrix, step: &[i32]) -> Vec<Point> {
     let hops = 1..=Limits::NAMED.hop;
     let line =
         |vector: &Point| within_one(&times(place, vector)) && hops.contains(&dot(step, vector));
-    short_vectors(step.len()).filter(line).collect()
+    vectors(step.len(), 2).filter(line).collect()
 }
 
-/// The vectors of components from −2 to 2.
-fn short_vectors(loops: usize) -> impl Iterator<Item = Point> {
-    let number = 5usize.pow(loops as u32);
+/// The vectors of components up to the reach.
+fn vectors(loops: usize, reach: i32) -> impl Iterator<Item = Point> {
+    let base = 2 * reach as usize + 1;
+    let number = base.pow(loops as u32);
     let digit =
-        move |vector: usize, place: usize| (vector / 5usize.pow(place as u32) % 5) as i32 - 2;
+        move |vector: usize, place: usize| (vector / base.pow(place as u32) % base) as i32 - reach;
     (0..number).map(move |vector| (0..loops).map(|place| digit(vector, place)).collect())
 }
 
@@ -75,11 +76,15 @@ fn map(random: &mut Random, nest: &Description, lines: &[Point]) -> Matrix {
         return map_of_place(random, nest);
     }
     let line = &lines[random.below(lines.len())];
-    let across: Vec<Point> = short_vectors(nest.loops())
-        .filter(|row| dot(row, line) == 0)
+    across(random, line, 2)
+}
+
+/// A matrix of words up to the reach that sends a vector to zero.
+pub fn across(random: &mut Random, vector: &[i32], reach: i32) -> Matrix {
+    let rows: Vec<Point> = vectors(vector.len(), reach)
+        .filter(|row| dot(row, vector) == 0)
         .collect();
-    nest.place
-        .iter()
-        .map(|_| across[random.below(across.len())].clone())
+    (1..vector.len())
+        .map(|_| rows[random.below(rows.len())].clone())
         .collect()
 }

@@ -6,13 +6,14 @@
 //! state, 6 show the received list, 7 poke (word of the state, value), 8 lend (list, length).
 //! Any other number ends the script. Words that a call does not use are ignored, and so is a last
 //! call that is cut off. The output has a line for Accept, one for Start and one for each call.
+//! Accept's has the six figures, the divisor of place and that of each stream in use.
 //!
 //! Several scripts stand in a bundle: the word 2^32 − 1, with which no whole script begins, since no
 //! description is so long; then for each script its number of bytes, a word, and the script. What each
 //! prints stands below a line with `script` and its number, from 0 on. A last script that is cut off
 //! is played as far as it goes.
 
-use crate::calls::{Accepted, Calls, Lent, READY_WORDS};
+use crate::calls::{Calls, Lent, READY_WORDS};
 use crate::network::Step;
 use crate::Refusal;
 
@@ -194,7 +195,7 @@ impl Machine {
 
     /// The lines of Accept and Start.
     pub fn opening(&mut self, values: &[u32]) -> String {
-        let accept = line(self.calls.accept().map(accepted_text));
+        let accept = line(self.accept());
         let [waiting, received, state, ..] = self.lengths;
         let started = self.calls.start(
             values,
@@ -252,6 +253,13 @@ impl Machine {
             state: &mut self.state[..state],
         };
         (&self.calls, lent)
+    }
+
+    /// Six figures and place's divisor come before those of the streams.
+    fn accept(&self) -> Result<String, Refusal> {
+        let values = self.calls.accept()?.values();
+        let streams = self.calls.network()?.array.streams.len();
+        Ok(with_numbers("accept", &values[..7 + streams]))
     }
 
     fn step(&mut self, kind: u32, number: u32, stream: u32) -> Result<String, Refusal> {
@@ -316,18 +324,6 @@ impl Machine {
 /// The line of an answer or of a refusal.
 fn line(answer: Result<String, Refusal>) -> String {
     answer.unwrap_or_else(|refusal| refusal.to_string())
-}
-
-fn accepted_text(accepted: Accepted) -> String {
-    format!(
-        "accept {} {} {} {} {} {}",
-        accepted.processes,
-        accepted.instances,
-        accepted.elements,
-        accepted.pipes,
-        accepted.words,
-        accepted.steps
-    )
 }
 
 /// A word and then numbers, one space between.

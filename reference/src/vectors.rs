@@ -1,7 +1,7 @@
 //! Points, matrices, boxes, and the shortest vector that a matrix sends to zero.
 
 use crate::description::Matrix;
-use crate::divisor::shorten;
+use crate::divisor::{shorten, Shortened};
 use crate::{demand, Refusal};
 
 /// An instance, a place, an element or a vector. The order of points is row order: last coordinate
@@ -45,18 +45,18 @@ fn sent_to_zero(rows: &Matrix) -> Point {
     }
 }
 
-/// The shortest vector that the rows send to zero, turned so that its step is positive. Declines
-/// by the first number if the rank is below r−1, by the second if its step is 0.
-pub fn shortest(rows: &Matrix, step: &[i32], rank: u32, still: u32) -> Result<Point, Refusal> {
-    let (divisor, vector) = shorten(&sent_to_zero(rows));
-    demand(divisor != 0, rank)?;
-    let gain = dot(step, &vector);
+/// The shortest vector that the rows send to zero, turned so that its step is positive, with the
+/// divisor that was taken out before. Declines by the first number if the rank is below r−1, by the
+/// second if its step is 0.
+pub fn shortest(rows: &Matrix, step: &[i32], rank: u32, still: u32) -> Result<Shortened, Refusal> {
+    let mut short = shorten(&sent_to_zero(rows));
+    demand(short.divisor != 0, rank)?;
+    let gain = dot(step, &short.vector);
     demand(gain != 0, still)?;
-    Ok(if gain > 0 {
-        vector
-    } else {
-        vector.iter().map(|word| -word).collect()
-    })
+    if gain < 0 {
+        short.vector.iter_mut().for_each(|word| *word = -*word);
+    }
+    Ok(short)
 }
 
 /// The smallest box around some points.

@@ -11,6 +11,7 @@ use Rattle.meaning.specs.declared.Nest.{Nest}
 use Rattle.meaning.specs.declared.Stream.{Stream}
 use Rattle.meaning.specs.declared.Description.{Description}
 use Rattle.meaning.specs.declared.Figures.{Figures}
+use Rattle.meaning.specs.declared.Divisors.{Divisors}
 use Rattle.meaning.specs.declared.Acceptance.the-variants.{Accepted, Refused}
 use Rattle.meaning.specs.Limits.{gaugeLimits, processWordsMost, endWordsMost}
 use Rattle.meaning.specs.Lists.{total}
@@ -20,7 +21,7 @@ use Rattle.meaning.specs.Streams.{hop, elements}
 use Rattle.meaning.specs.Pipes.{entries}
 use Rattle.meaning.specs.Description.{descriptionOf, streamsOf, noStream}
 use Rattle.meaning.specs.Calls.{lengthOf}
-use Rattle.meaning.specs.Accept.{refusalOf, figures, accept}
+use Rattle.meaning.specs.Accept.{refusalOf, figures, divisors, accept}
 use Rattle.numbering.specs.Ranges.{Bounded}
 use Rattle.refusals.specs.Accepted.{accepted-within}
 use Rattle.refusals.specs.InRange.{nest-bounded}
@@ -203,9 +204,10 @@ figures-are {d} h {r} {t} e p i l q w s =
     (s ∙ ap₂ (λ (i : ℕ) (t : Totals). i + t .steps) i g)
 
 -- ACCEPT
-pub accepts : (s : List ℕ) {r : Figures} → refusalOf gaugeLimits s ≡ 0 → r ≡ figures (descriptionOf s) → Accepted r ≡ accept gaugeLimits s
+pub accepts : (s : List ℕ) {f : Figures} {g : Divisors} → refusalOf gaugeLimits s ≡ 0 → f ≡ figures (descriptionOf s) → g ≡ divisors (descriptionOf s)
+    → Accepted f g ≡ accept gaugeLimits s
 unfolding accept
-accepts s e h = rw e (ap Accepted h)
+accepts s e h k = rw e (ap₂ Accepted h k)
 
 pub refuses : (s : List ℕ) {n : ℕ} → n ≡ refusalOf gaugeLimits s → (n ≡ 0 → ⊥) → Refused n ≡ accept gaugeLimits s
 unfolding accept

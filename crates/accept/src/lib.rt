@@ -1,4 +1,4 @@
-// Accept: the six figures of a description, or the number by which it is refused.
+// Accept: the six figures of a description and its divisors, or the number by which it is refused.
 //
 // specs/, by file:
 //
@@ -167,7 +167,8 @@ pub fn accept(s: &[u8]) -> Acceptance
 {
     let refusal = verdict::refusal_of(s);
     if refusal == 0 {
-        Acceptance::Accepted(figures_of(decode::description(s)))
+        let d = decode::description(s);
+        Acceptance::Accepted(figures_of(d), divisors::divisors_of(d))
     } else {
         Acceptance::Refused(refusal)
     }

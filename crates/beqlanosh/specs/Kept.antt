@@ -6,6 +6,7 @@ use Prim.Native.Nat.{ℕ}
 use lib.Dec.{eqb}
 use borrow.Author.Tests.{eq-eqb, ne-eqb}
 use Rattle.meaning.specs.declared.Figures.{Figures}
+use Rattle.meaning.specs.declared.Divisors.{Divisors}
 use Rattle.meaning.specs.declared.Acceptance as Acceptance
 use Rattle.meaning.specs.declared.Ran as Ran
 use Rattle.meaning.specs.declared.Readiness as Readiness
@@ -26,8 +27,9 @@ windowValues s pipe n = cond (eqb n 0) (partStart (arrayOf (descriptionOf s)) pi
 
 -- ---- as the code comes by them
 
-pub accepted-left : {a : Acceptance.Acceptance} {f : Figures} {out : List ℕ} (words : List ℕ) → a ≡ Acceptance.the-variants.Accepted f
-    → out ≡ f .processes ∷ f .instances ∷ f .elements ∷ f .pipes ∷ f .words ∷ f .steps ∷ []
+pub accepted-left : {a : Acceptance.Acceptance} {f : Figures} {g : Divisors} {out : List ℕ} (words : List ℕ) → a ≡ Acceptance.the-variants.Accepted f g
+    → out ≡ f .processes ∷ f .instances ∷ f .elements ∷ f .pipes ∷ f .words ∷ f .steps
+    ∷ g .place ∷ g .stream0 ∷ g .stream1 ∷ g .stream2 ∷ g .stream3 ∷ g .stream4 ∷ g .stream5 ∷ []
     → (0 ≡ acceptNumber a) × (out ≡ orKept (acceptValues a) words)
 accepted-left words e o = (ap acceptNumber (sym e), o ∙ ap (λ (a : Acceptance.Acceptance). orKept (acceptValues a) words) (sym e))
 

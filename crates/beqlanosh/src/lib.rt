@@ -17,14 +17,16 @@ ghost use Rattle.listing.specs.Words.{laid};
 ghost use Rattle.listing.specs.Lent.{tableNumber, tableWords};
 ghost use Rattle.beqlanosh.specs.Kept.{orKept, windowValues};
 use meaning::Acceptance;
+use meaning::Divisors;
 use meaning::Figures;
 use meaning::Ran;
 use meaning::Readiness;
 
 // ---- accept
 
-fn put_figures(f: Figures, figures: &mut [u32; 6])
-    ensures { λ r. ⌜ now (figures .exit) ≡ f .processes ∷ f .instances ∷ f .elements ∷ f .pipes ∷ f .words ∷ f .steps ∷ [] ⌝ }
+fn put_figures(f: Figures, g: Divisors, figures: &mut [u32; 13])
+    ensures { λ r. ⌜ now (figures .exit) ≡ f .processes ∷ f .instances ∷ f .elements ∷ f .pipes ∷ f .words ∷ f .steps
+        ∷ g .place ∷ g .stream0 ∷ g .stream1 ∷ g .stream2 ∷ g .stream3 ∷ g .stream4 ∷ g .stream5 ∷ [] ⌝ }
 {
     *figures = [
         f.processes,
@@ -33,19 +35,26 @@ fn put_figures(f: Figures, figures: &mut [u32; 6])
         f.pipes,
         f.words,
         f.steps,
+        g.place,
+        g.stream0,
+        g.stream1,
+        g.stream2,
+        g.stream3,
+        g.stream4,
+        g.stream5,
     ];
 }
 
-// ACCEPT: the six figures, if it accepts.
+// ACCEPT: the six figures and the divisors of place and of the six streams, if it accepts.
 #[no_mangle]
-pub extern "C" fn beqlanosh_accept(bytes: &[u8], figures: &mut [u32; 6]) -> u32
+pub extern "C" fn beqlanosh_accept(bytes: &[u8], figures: &mut [u32; 13]) -> u32
     ensures { λ r. ⌜ (r ≡ acceptNumber (accept gaugeLimits (now (bytes .entry))))
         × (now (figures .exit) ≡ orKept (acceptValues (accept gaugeLimits (now (bytes .entry)))) (now (figures .entry))) ⌝ }
 {
     let answer = accept::accept(bytes);
     match answer {
-        Acceptance::Accepted(f) => {
-            put_figures(f, figures);
+        Acceptance::Accepted(f, g) => {
+            put_figures(f, g, figures);
             0
         }
         Acceptance::Refused(number) => number,

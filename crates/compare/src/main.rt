@@ -12,6 +12,7 @@ use libc::STDIN_FILENO;
 use libc::STDOUT_FILENO;
 use meaning::Acceptance;
 use meaning::Answer;
+use meaning::Divisors;
 use meaning::Figures;
 use meaning::Row;
 
@@ -194,13 +195,20 @@ fn print_call(answer: Answer, sum: u32) {
     print_number(sum);
 }
 
-fn print_figures(f: Figures) {
+fn print_figures(f: Figures, g: Divisors) {
     io::print_decimal(STDOUT_FILENO, wide(f.processes));
     print_number(f.instances);
     print_number(f.elements);
     print_number(f.pipes);
     print_number(f.words);
     print_number(f.steps);
+    print_number(g.place);
+    print_number(g.stream0);
+    print_number(g.stream1);
+    print_number(g.stream2);
+    print_number(g.stream3);
+    print_number(g.stream4);
+    print_number(g.stream5);
     print(b"\n");
 }
 
@@ -235,8 +243,8 @@ fn accept_line(s: &[u8]) -> Extents
 {
     let answer = accept::accept(s);
     match answer {
-        Acceptance::Accepted(f) => {
-            print_figures(f);
+        Acceptance::Accepted(f, g) => {
+            print_figures(f, g);
             Extents {
                 processes: within(f.processes, 1024),
                 elements: within(f.elements, 24576),

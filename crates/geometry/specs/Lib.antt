@@ -23,6 +23,7 @@ pub mod Order
 pub mod Accept
 pub mod Descriptions
 pub mod TwoLoops
+pub mod Divisors
 pub mod Firings
 pub mod Counts
 pub mod Report

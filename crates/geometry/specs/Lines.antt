@@ -12,12 +12,13 @@ use Rattle.integers.specs.Variables.{linear}
 use Rattle.integers.specs.Ring.{ring, quotes, literal, solve, solve3, solve-by, given, _also_, Ex.var, Ex.minus, Ex.plain}
 use Rattle.integers.specs.Order.{mul-reflects, cancel, cancel-zero}
 use Rattle.integers.specs.Vectors.{zero3, sub3, neg3, scale3, shift3, dot, zero2, shift2, image, same2, dot-shift, dot-sub, dot-neg, dot-scale, image-shift, sub-add}
-use Rattle.lattice.specs.Lattice.{Null, Shortest, Independent, shortCross, shortest, shortest-neg, no-shorter, NoLonger}
+use Rattle.lattice.specs.Shorten.{shortens}
+use Rattle.lattice.specs.Lattice.{Null, Shortest, Independent, shortest, shortest-neg, no-shorter, NoLonger}
 use Rattle.integers.specs.declared.V3.{V3}
 use Rattle.integers.specs.declared.V2.{V2}
 use Rattle.integers.specs.declared.Matrix.{Matrix}
 use Rattle.meaning.specs.declared.Nest.{Nest}
-use Rattle.meaning.specs.Loops.{stepOf, turn, lineOf}
+use Rattle.meaning.specs.Loops.{stepOf, turn, unshortened, shortOf, lineOf}
 use Rattle.meaning.specs.Points.{IsLine as Line}
 use Rattle.geometry.specs.Numbers.{not-zero, positive-not, zero-on, on-reflects, on-one, shift-still, shift-one}
 
@@ -43,12 +44,13 @@ turn-ahead s u = go (ltZ (dot s u) (pos 0)) (λ t. record { lt = t }) (λ t. ltZ
 -- where the rows are independent it is the shortest, and so the line if its step is not 0
 pub line-short : (n : Nest) (m : Matrix) → Independent (m .top) (m .low) → Shortest (m .top) (m .low) (lineOf n m)
 unfolding lineOf
-line-short n m h = shortest-turn (m .top) (m .low) (n .step) (shortCross (m .top) (m .low)) (shortest (m .top) (m .low) h)
+line-short n m h =
+    shortest-turn (m .top) (m .low) (n .step) (shortOf m .vector) (shortest (m .top) (m .low) (shortens (unshortened m)) h)
 
 pub line-is : (n : Nest) (m : Matrix) → Independent (m .top) (m .low) → (stepOf n (lineOf n m) ≡ pos 0 → ⊥) → Line n m (lineOf n m)
 unfolding lineOf
 line-is n m h k =
-    record { short = line-short n m h; ahead = not-zero (stepOf n (lineOf n m)) (turn-ahead (n .step) (shortCross (m .top) (m .low))) k }
+    record { short = line-short n m h; ahead = not-zero (stepOf n (lineOf n m)) (turn-ahead (n .step) (shortOf m .vector)) k }
 
 -- if there is a line, that step is not 0
 pub line-steps : (n : Nest) (m : Matrix) (u : V3) → Independent (m .top) (m .low) → Line n m u → stepOf n (lineOf n m) ≡ pos 0 → ⊥

@@ -17,6 +17,7 @@
 //   written order      Order: `step-earlier`, `earlier-step`, `written-moving`, `written-still` (G9)
 //   the report         Report: equations (3), (4), (8), (9), (10); (2) is `box-basis` of Boxes
 //   two loops          TwoLoops: that the padded third loop changes nothing
+//   divisors           Divisors: those of a description's streams in their list
 //   from Accept        Descriptions: `laid`: what the refusals leave
 //   for the network    Wiring: `wired`, `flowing`, `keeping`, `meeting`; Arrays: `pipe-is`, `pipe-of`, `through`, `place-on`
 //

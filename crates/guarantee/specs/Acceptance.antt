@@ -8,21 +8,22 @@ use native.Mathlib.Nat.{zero-add}
 use native.Mathlib.Omega.{arith}
 use lib.Dec.{eqb}
 use lib.ListN.{length, getD, length-append, length-take}
-use borrow.Author.Tests.{eqb-true, eqb-false, ne-eqb}
+use borrow.Author.Tests.{eqb-false, ne-eqb}
 use Rattle.integers.specs.declared.V3.{V3}
 use Rattle.meaning.specs.declared.Limits.{Limits}
 use Rattle.meaning.specs.declared.Stream.{Stream}
 use Rattle.meaning.specs.declared.Description.{Description}
-use Rattle.meaning.specs.declared.Figures.{Figures}
 use Rattle.meaning.specs.declared.Acceptance.the-variants.{Accepted, Refused}
 use Rattle.meaning.specs.Lists.{each, numbers, numbersFrom}
 use Rattle.meaning.specs.Tests.{Test}
 use Rattle.meaning.specs.Points.{Directed, Within}
 use Rattle.meaning.specs.Description.{sizesOf, descriptionOf, streamsOf, streamOf as decoded, noStream, written}
-use Rattle.meaning.specs.Accept.{streamTests, testsFrom, allTests, refusalOf, figures, accept}
+use Rattle.meaning.specs.Accept.{streamTests, testsFrom, allTests, refusalOf, figures, divisors, accept, Accepts}
+use Rattle.meaning.specs.Answers.{acceptNumber}
 use Rattle.meaning.specs.Conditions.{streamOf, Meets, StreamMeets, AcceptedExactly, Condition, Condition.Begins, Condition.Sizes-fit, Condition.Long, Condition.Words-fit, Condition.Bounds-fit, Condition.Instances, Condition.Place-rank, Condition.Increment, Condition.Processes, Condition.Rank, Condition.Line, Condition.Move, Condition.Hop, Condition.Order, Condition.Loading, Condition.Touched, Asks, ofStream, conditions, RefusedExactly}
 use Rattle.geometry.specs.Members.{in-each, each-in, in-numbers, numbers-in}
 use Rattle.network.specs.Lists.{length-numbers}
+use Rattle.network.specs.Declined.{numbers-are}
 use Rattle.guarantee.specs.Refusals.{refuses-less, Tries, Tries.none, Tries.next, numbered, all-hold, none-refuses, first-fails, refuses-first}
 use Rattle.guarantee.specs.WordConditions.{refuses2, refuses3, refuses4, directed}
 use Rattle.guarantee.specs.NestConditions.{refuses5, some-instance, refuses6, refuses-rank, refuses-line, line-found, refuses10}
@@ -151,20 +152,14 @@ module _ (l : Limits) (s : List ℕ) where
 -- ---- Accept
 
 -- what is accepted is not refused
-pub accepted-not-refused : (l : Limits) (s : List ℕ) (f : Figures) → accept l s ≡ Accepted f → refusalOf l s ≡ 0
-unfolding accept
-accepted-not-refused l s f e = go (eqb (refusalOf l s) 0) (eqb-true (refusalOf l s) 0) e
-  where
-    go : (b : Bool) → (b ≡ true → refusalOf l s ≡ 0) → cond b (Accepted (figures (descriptionOf s))) (Refused (refusalOf l s)) ≡ Accepted f
-        → refusalOf l s ≡ 0
-    go true h e = h refl
-    go false h e = absurd (let z : _≡_ {A = ℕ} 0 1 = cc in omega arith)
+pub accepted-not-refused : (l : Limits) (s : List ℕ) → Accepts l s → refusalOf l s ≡ 0
+accepted-not-refused l s e = sym (numbers-are l s .accept) ∙ e
 
 -- DEMAND 2: a description is accepted exactly if it meets the conditions
 pub accepted-exactly : AcceptedExactly
 unfolding accept
 accepted-exactly l s = (
-  λ e. not-refused l s .0 (accepted-not-refused l s (figures (descriptionOf s)) e),
+  λ e. not-refused l s .0 (accepted-not-refused l s (ap acceptNumber e)),
   λ m. rw (not-refused l s .1 m),
 )
 
@@ -176,7 +171,7 @@ refused-exactly l s k = (
   λ f. back (refusalOf l s) (refuses-first (tries l s) f) (subst (λ (k : ℕ). 0 < k) (f .number) (numbered (f .failed) .0)),
 )
   where
-    go : (b : Bool) → (b ≡ false → refusalOf l s ≡ 0 → ⊥) → cond b (Accepted (figures (descriptionOf s))) (Refused (refusalOf l s)) ≡ Refused k
+    go : (b : Bool) → (b ≡ false → refusalOf l s ≡ 0 → ⊥) → cond b (Accepted (figures (descriptionOf s)) (divisors (descriptionOf s))) (Refused (refusalOf l s)) ≡ Refused k
         → (refusalOf l s ≡ k) × (0 < k)
     go true h e = absurd (let z : _≡_ {A = ℕ} 0 1 = cc in omega arith)
     go false h e = let z : refusalOf l s ≡ k = cc in (z, positive (refusalOf l s) z (h refl))
@@ -184,7 +179,7 @@ refused-exactly l s k = (
         positive : (r : ℕ) → r ≡ k → (r ≡ 0 → ⊥) → 0 < k
         positive r e n = omega arith
 
-    back : (r : ℕ) → r ≡ k → 0 < k → cond (eqb r 0) (Accepted (figures (descriptionOf s))) (Refused r) ≡ Refused k
+    back : (r : ℕ) → r ≡ k → 0 < k → cond (eqb r 0) (Accepted (figures (descriptionOf s)) (divisors (descriptionOf s))) (Refused r) ≡ Refused k
     back r e h = rw (ne-eqb r 0 (λ g. omega arith)) (ap Refused e)
 
 -- ---- an accepted description has a stream

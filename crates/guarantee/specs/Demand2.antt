@@ -72,6 +72,6 @@ module _ (l : Limits) (s : List ℕ) (ok : refusalOf l s ≡ 0) where
 
 -- DEMAND 2
 pub demand-two : DemandTwo
-demand-two l s f e =
-    let ok = accepted-not-refused l s f e in
+demand-two l s e =
+    let ok = accepted-not-refused l s e in
     record { table = of-table l s ok; plain = of-plain l s ok }

@@ -10,14 +10,14 @@ use lib.Signed.{_≤ℤ_, ≤ℤ-refl}
 use Rattle.integers.specs.Differences.{gaps, parts, le-out, le-in, eq-in}
 use Rattle.integers.specs.Variables.{linear}
 use Rattle.integers.specs.Words.{eqZ}
-use Rattle.integers.specs.Vectors.{zero3, cross, same3, same2}
+use Rattle.integers.specs.Vectors.{zero3, same3, same2}
 use Rattle.integers.specs.declared.V3.{V3}
 use Rattle.integers.specs.declared.Matrix.{Matrix}
 use Rattle.lattice.specs.Lattice.{Independent}
 use Rattle.lattice.specs.Independence.{only-trivial, trivial-only}
 use Rattle.meaning.specs.declared.Limits.{Limits}
 use Rattle.meaning.specs.declared.Nest.{Nest}
-use Rattle.meaning.specs.Loops.{size, instances, stepOf, lineOf}
+use Rattle.meaning.specs.Loops.{size, instances, stepOf, unshortened, lineOf}
 use Rattle.meaning.specs.Space.{Box, points, boxOf, processes}
 use Rattle.meaning.specs.Points.{Directed, Within, IsLine}
 use Rattle.meaning.specs.Description.{refused5}
@@ -77,7 +77,7 @@ says-zero v =
 
 pub refuses-rank : (m : Matrix) → Refuses (FullRank m) (lowRank m)
 refuses-rank m =
-    refuses-if (λ f. trivial-only (m .top) (m .low) f) (λ h. only-trivial (m .top) (m .low) h) (says-zero (cross (m .top) (m .low)))
+    refuses-if (λ f. trivial-only (m .top) (m .low) f) (λ h. only-trivial (m .top) (m .low) h) (says-zero (unshortened m))
 
 module _ (n : Nest) (m : Matrix) (f : FullRank m) where
   independent : Independent (m .top) (m .low)

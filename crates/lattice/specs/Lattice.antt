@@ -9,7 +9,8 @@ use Rattle.integers.specs.Ring.{ring, quotes, literal, solve, solve3, solve-by,
 use Rattle.integers.specs.Vectors.{zero3, scale3, sub3, neg3, dot, cross, dot-scale, dot-neg, cross-left, cross-right, cross-scale, cross-cross, cancel3}
 use Rattle.integers.specs.Bounds.{abs-mul}
 use Rattle.integers.specs.Order.{cancel-zero}
-use Rattle.lattice.specs.Shorten.{divisorOf, over, divisor-zero, shortened-times, Bezout3, shortened-one}
+use Rattle.lattice.specs.declared.Short.{Short}
+use Rattle.lattice.specs.Shorten.{Shortens, divisor-zero, Bezout3, shortened-one}
 
 -- both rows send d to zero
 pub record Null (p q d : V3) : Type 0 where
@@ -30,23 +31,19 @@ pub record Shortest (p q u : V3) : Type 0 where
 abbrev pub Independent : V3 → V3 → Type 0
 Independent p q = cross p q ≡ zero3 → ⊥
 
--- the shortened cross product
-abbrev pub shortCross : V3 → V3 → V3
-shortCross p q = over (cross p q) (divisorOf (cross p q))
+-- ---- L1: the shortened cross product is sent to zero
 
--- ---- L1: it is sent to zero
-
-module _ (p q : V3) (h : Independent p q) where
-  divisor-not : pos (divisorOf (cross p q)) ≡ pos 0 → ⊥
-  divisor-not e = h (divisor-zero (cross p q) (ap natAbs e))
+module _ (p q : V3) {r : Short} (s : Shortens (cross p q) r) (h : Independent p q) where
+  pub divisor-not : pos (r .divisor) ≡ pos 0 → ⊥
+  divisor-not e = h (divisor-zero s (ap natAbs e))
 
   -- a row that sends the cross product to zero sends the shortened one there
-  row : (r : V3) → dot r (cross p q) ≡ pos 0 → dot r (shortCross p q) ≡ pos 0
-  row r e =
-      cancel-zero (pos (divisorOf (cross p q))) (dot r (shortCross p q)) divisor-not
-      (sym (dot-scale r (shortCross p q) (pos (divisorOf (cross p q)))) ∙ ap (λ (w : V3). dot r w) (shortened-times (cross p q)) ∙ e)
+  row : (w : V3) → dot w (cross p q) ≡ pos 0 → dot w (r .vector) ≡ pos 0
+  row w e =
+      cancel-zero (pos (r .divisor)) (dot w (r .vector)) divisor-not
+      (sym (dot-scale w (r .vector) (pos (r .divisor))) ∙ ap (dot w) (s .times) ∙ e)
 
-  pub short-null : Null p q (shortCross p q)
+  pub short-null : Null p q (r .vector)
   short-null = record { top = row p (cross-left p q); low = row q (cross-right p q) }
 
 -- ---- L3: every vector that is sent to zero is a whole multiple of it
@@ -69,18 +66,21 @@ nothing = ring 2 2 _ λ ρ. simp (quotes, literal ρ) (λ e f. solve3
     (solve-by _ _ (given (var 1) e also given (minus (var 4)) f) tt)
     (solve-by _ _ (given (var 2) e also given (minus (var 5)) f) tt))
 
-pub short-all : (p q : V3) → Independent p q → (d : V3) → Null p q d → Multiple (shortCross p q) d
-short-all p q h d k =
-    let w = cross p q in
-    let u = shortCross p q in
-    let g = pos (divisorOf w) in
-    let e : scale3 g (cross d u) ≡ zero3 =
-    sym (cross-scale d u g) ∙ ap (cross d) (shortened-times w) ∙ cross-cross d p q ∙ nothing p q (dot q d) (dot p d) (k .low) (k .top) in
-    parallel d u (shortened-one w (λ e. h (divisor-zero w e))) (cancel3 g (cross d u) (divisor-not p q h) e)
+module _ (p q : V3) {r : Short} (s : Shortens (cross p q) r) (h : Independent p q) where
+  pub short-one : Bezout3 (pos 1) (r .vector)
+  short-one = shortened-one s (λ e. h (divisor-zero s e))
 
--- document 01: "the shortest non-zero whole vector that place sends to zero", up to its sign
-pub shortest : (p q : V3) → Independent p q → Shortest p q (shortCross p q)
-shortest p q h = record { null = short-null p q h; all = short-all p q h }
+  pub short-all : (d : V3) → Null p q d → Multiple (r .vector) d
+  short-all d k =
+      let u = r .vector in
+      let g = pos (r .divisor) in
+      let e : scale3 g (cross d u) ≡ zero3 =
+      sym (cross-scale d u g) ∙ ap (cross d) (s .times) ∙ cross-cross d p q ∙ nothing p q (dot q d) (dot p d) (k .low) (k .top) in
+      parallel d u short-one (cancel3 g (cross d u) (divisor-not p q s h) e)
+
+  -- document 01: "the shortest non-zero whole vector that place sends to zero", up to its sign
+  pub shortest : Shortest p q (r .vector)
+  shortest = record { null = short-null p q s h; all = short-all }
 
 -- and so is its negation
 pub shortest-neg : (p q u : V3) → Shortest p q u → Shortest p q (neg3 u)

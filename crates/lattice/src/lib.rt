@@ -1,11 +1,12 @@
 // Euclid's rule, and the rule that shortens a vector by the greatest common divisor of its components. specs/Lattice has what the shortened
-// cross product of two rows means: the shortest whole vector that both send to zero; specs/Independence what a cross product of zero means.
+// cross product of two rows means: the shortest whole vector that both send to zero; specs/Values what its divisor means: how far apart the values of
+// the two rows lie; specs/Independence what a cross product of zero means.
 ghost use mathlib.Core.Path.{_≡_};
 ghost use Prim.Native.Nat.{_≤_, _^_};
 ghost use lib.IntN.{pos, negℤ};
 ghost use lib.Signed.{quotZ};
 ghost use Rattle.lattice.specs.Gcd.{gcdOf};
-ghost use Rattle.lattice.specs.Shorten.{divisorOf, shortened};
+ghost use Rattle.lattice.specs.Shorten.{divisorOf, Shortens};
 use integers::V3;
 
 // A vector divided by the greatest common divisor of its components, and that divisor. The zero vector stays, with divisor 0.
@@ -54,9 +55,9 @@ fn quotient(x: i32, d: u32) -> i32
     if x < 0 { negative(q) } else { q as i32 }
 }
 
-// The shortening rule.
+// The shortening rule: the shortened vector times its divisor is the vector, and the divisor is the greatest common one.
 pub fn shorten(v: V3) -> Short
-    ensures { λ r. ⌜ r ≡ shortened v ⌝ }
+    ensures { λ r. ⌜ Shortens v r ⌝ }
 {
     let d = divisor(v);
     Short {

@@ -1,14 +1,15 @@
--- Document 01, Accept: the refusals 6 to 17, each by its number, all in order, and the figures that it answers. 9 is never given (request 2.2) and keeps its
+-- Document 01, Accept: the refusals 6 to 17, each by its number, all in order, and the figures and divisors that it answers. 9 is never given (request 2.2) and keeps its
 -- number.
+use mathlib.Core.Path.{_≡_}
 use mathlib.Core.Bool.{Bool, not, cond, _&&_}
-use mathlib.Core.List.{List, [], _∷_, _++_}
+use mathlib.Core.List.{List, [], _∷_, _++_, map}
 use Prim.Native.Nat.{ℕ, suc, _+_, _*_}
 use lib.Dec.{eqb, ltb}
-use lib.ListN.{length}
+use lib.ListN.{length, getD}
 use lib.IntN.{ℤ, pos, negsuc, _*ℤ_}
 use lib.Signed.{leZ, ltZ}
 use Rattle.integers.specs.Words.{eqZ}
-use Rattle.integers.specs.Vectors.{zero2, cross}
+use Rattle.integers.specs.Vectors.{zero2}
 use Rattle.integers.specs.declared.V3.{V3}
 use Rattle.integers.specs.declared.Matrix.{Matrix}
 use Rattle.meaning.specs.declared.Limits.{Limits}
@@ -16,16 +17,18 @@ use Rattle.meaning.specs.declared.Nest.{Nest}
 use Rattle.meaning.specs.declared.Stream.{Stream}
 use Rattle.meaning.specs.declared.Description.{Description}
 use Rattle.meaning.specs.declared.Figures.{Figures}
+use Rattle.meaning.specs.declared.Divisors.{Divisors}
 use Rattle.meaning.specs.declared.Acceptance.{Acceptance}
 use Rattle.meaning.specs.declared.Acceptance.the-variants.{Accepted, Refused}
 use Rattle.meaning.specs.Lists.{any, total}
 use Rattle.meaning.specs.Tests.{Test, _if_, refusal}
-use Rattle.meaning.specs.Loops.{instances, stepOf, placeOf, increment}
+use Rattle.meaning.specs.Loops.{instances, stepOf, placeOf, unshortened, divisor, increment}
 use Rattle.meaning.specs.Space.{eq2, processes}
 use Rattle.meaning.specs.Streams.{line, stationary, hop, elements, touched}
 use Rattle.meaning.specs.Pipes.{pipe, entries, pipeElements}
 use Rattle.meaning.specs.Description.{sizesOf, descriptionOf, streamsOf, written, refused1, refused2, refused3, refused4, refused5}
 use Rattle.meaning.specs.Body.{elementCount}
+use Rattle.meaning.specs.Answers.{acceptNumber}
 
 -- ---- 6, 7, 8 and 10: the nest
 
@@ -35,7 +38,7 @@ isZero3 v = eqZ (v .x) (pos 0) && eqZ (v .y) (pos 0) && eqZ (v .z) (pos 0)
 
 -- a matrix of two rows has "rank below r−1": the rows are dependent (of two loops: the row is zero)
 abbrev pub lowRank : Matrix → Bool
-lowRank m = isZero3 (cross (m .top) (m .low))
+lowRank m = isZero3 (unshortened m)
 
 -- a component from −1 to 1
 abbrev pub small : ℤ → Bool
@@ -150,10 +153,34 @@ figures d =
       steps = totalSteps n ss;
     }
 
+-- ---- the divisors, request 2.7: "for place and for each stream"
+
+-- that of stream i, 0 past the streams in use
+abbrev pub streamDivisor : Description → ℕ → ℕ
+streamDivisor d i = getD (map (λ s. divisor (s .map)) (streamsOf d)) i 0
+
+abbrev pub divisors : Description → Divisors
+divisors d =
+    record {
+      place = divisor (d .nest .place);
+      stream0 = streamDivisor d 0;
+      stream1 = streamDivisor d 1;
+      stream2 = streamDivisor d 2;
+      stream3 = streamDivisor d 3;
+      stream4 = streamDivisor d 4;
+      stream5 = streamDivisor d 5;
+    }
+
+-- ---- the call
+
 -- the answer to a description whose refusal is k
 abbrev pub answerOf : List ℕ → ℕ → Acceptance
-answerOf s k = cond (eqb k 0) (Accepted (figures (descriptionOf s))) (Refused k)
+answerOf s k = cond (eqb k 0) (Accepted (figures (descriptionOf s)) (divisors (descriptionOf s))) (Refused k)
 
 -- ACCEPT
 unfoldable pub accept : Limits → List ℕ → Acceptance
 accept l s = answerOf s (refusalOf l s)
+
+-- a description is accepted
+abbrev pub Accepts : Limits → List ℕ → Type 0
+Accepts l s = acceptNumber (accept l s) ≡ 0

@@ -7,14 +7,15 @@ use Rattle.meaning.specs.declared.Answer as Answer
 use Rattle.meaning.specs.declared.Ran as Ran
 use Rattle.meaning.specs.declared.Readiness as Readiness
 
--- Accept: "P, instances, E, pipes, state words and total steps"
+-- Accept: "P, instances, E, pipes, state words and total steps", and the divisors of place and of each stream (request 2.7)
 abbrev pub acceptNumber : Acceptance.Acceptance → ℕ
-acceptNumber (Acceptance.the-variants.Accepted f) = 0
+acceptNumber (Acceptance.the-variants.Accepted f g) = 0
 acceptNumber (Acceptance.the-variants.Refused n) = n
 
 abbrev pub acceptValues : Acceptance.Acceptance → List ℕ
-acceptValues (Acceptance.the-variants.Accepted f) =
-    f .processes ∷ f .instances ∷ f .elements ∷ f .pipes ∷ f .words ∷ f .steps ∷ []
+acceptValues (Acceptance.the-variants.Accepted f g) =
+    f .processes ∷ f .instances ∷ f .elements ∷ f .pipes ∷ f .words ∷ f .steps
+    ∷ g .place ∷ g .stream0 ∷ g .stream1 ∷ g .stream2 ∷ g .stream3 ∷ g .stream4 ∷ g .stream5 ∷ []
 acceptValues (Acceptance.the-variants.Refused n) = []
 
 -- Table, Start, Step, Result, Plain run: no values

@@ -25,7 +25,7 @@ use Rattle.meaning.specs.Calls.{table, start, run, result, plainRun}
 use Rattle.meaning.specs.LongerStrides.{formerAccept}
 use Rattle.meaning.specs.FixedPoint as FixedPoint
 use Rattle.meaning.specs.Comparison.{Case, _is_, naturals, number, planar, eqList, firstWrong, agree-after}
-use Rattle.meaning.specs.Designs.{bytes, pair, polynomial, designOne, designOneBy, designTwo, decimating, values, fixedValues, nest, stream, blank, startedWith}
+use Rattle.meaning.specs.Designs.{bytes, pair, polynomial, designOne, designOneBy, designTwo, decimating, values, fixedValues, nest, stream, blank, startedWith, undivided}
 use Rattle.meaning.specs.Singles as Singles
 
 -- c's values by the plain run, and by the network run to its end from a state of n words, in two calls, which are computed sooner than one
@@ -86,8 +86,8 @@ cases =
     ∷ (number (getD (processOne .soak) 2 0) is number 1)
     ∷ (number (getD (processOne .drain) 2 0) is number 1)
     -- state words 61, steps 97 in design one; design two takes 141 steps
-    ∷ (naturals (acceptValues (accept gaugeLimits designOne)) is naturals (3 ∷ 9 ∷ 11 ∷ 3 ∷ 61 ∷ 97 ∷ []))
-    ∷ (naturals (acceptValues (accept gaugeLimits designTwo)) is naturals (5 ∷ 9 ∷ 11 ∷ 3 ∷ 95 ∷ 141 ∷ []))
+    ∷ (naturals (acceptValues (accept gaugeLimits designOne)) is naturals (3 ∷ 9 ∷ 11 ∷ 3 ∷ 61 ∷ 97 ∷ undivided))
+    ∷ (naturals (acceptValues (accept gaugeLimits designTwo)) is naturals (5 ∷ 9 ∷ 11 ∷ 3 ∷ 95 ∷ 141 ∷ undivided))
     -- a 1,2,3, b 4,5,6, c zeros give c 4,13,28,27,18: by the plain run in both designs
     ∷ (plainly designOne values is product)
     ∷ (plainly designTwo values is product)
@@ -98,7 +98,7 @@ cases =
     ∷ (multiplied 6 4294967295 4294967295 is naturals (4294836224 ∷ 4294836224 ∷ []))
     ∷ (multiplied 6 65535 65537 is naturals (65535 ∷ 65535 ∷ []))
     -- design one with operation 6 has the figures of design one; a 1.0, 2.0, 3.0, b 4.0, 5.0, 6.0 give c 4.0, 13.0, 28.0, 27.0, 18.0
-    ∷ (naturals (acceptValues (accept gaugeLimits (designOneBy 6 2))) is naturals (3 ∷ 9 ∷ 11 ∷ 3 ∷ 61 ∷ 97 ∷ []))
+    ∷ (naturals (acceptValues (accept gaugeLimits (designOneBy 6 2))) is naturals (3 ∷ 9 ∷ 11 ∷ 3 ∷ 61 ∷ 97 ∷ undivided))
     ∷ (plainly (designOneBy 6 2) fixedValues is fixedProducts)
     -- it was 4 before the request, and design one was accepted then too; operation 7 is 4
     ∷ (number (acceptNumber (FixedPoint.formerAccept gaugeLimits (designOneBy 6 2))) is number 4)
@@ -115,10 +115,10 @@ cases =
     ∷ (number (acceptNumber (formerAccept gaugeLimits strided)) is number 9)
     ∷ (number (acceptNumber (formerAccept gaugeLimits designOne)) is number 0)
     -- the decimating filter: 7 processes, 9 instances, 15 elements, 3 pipes, 129 state words, 249 steps; it was 9
-    ∷ (naturals (acceptValues (accept gaugeLimits (decimating 2 2))) is naturals (7 ∷ 9 ∷ 15 ∷ 3 ∷ 129 ∷ 249 ∷ []))
+    ∷ (naturals (acceptValues (accept gaugeLimits (decimating 2 2))) is naturals (7 ∷ 9 ∷ 15 ∷ 3 ∷ 129 ∷ 249 ∷ undivided))
     ∷ (number (acceptNumber (formerAccept gaugeLimits (decimating 2 2))) is number 9)
     -- on loops 0..3 twice: 10 processes, 478 steps
-    ∷ (naturals (acceptValues (accept gaugeLimits (decimating 3 3))) is naturals (10 ∷ 16 ∷ 21 ∷ 3 ∷ 180 ∷ 478 ∷ []))
+    ∷ (naturals (acceptValues (accept gaugeLimits (decimating 3 3))) is naturals (10 ∷ 16 ∷ 21 ∷ 3 ∷ 180 ∷ 478 ∷ undivided))
     -- bounds 0..63 twice pass 6: with place 0 Accept answers 7, which comes after 6; 0..63 and 0..64 are 6
     ∷ (number (acceptNumber (accept gaugeLimits (sized (pos 0) 63 63))) is number 7)
     ∷ (number (acceptNumber (accept gaugeLimits (sized (pos 0) 63 64))) is number 6)

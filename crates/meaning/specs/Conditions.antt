@@ -26,7 +26,7 @@ use Rattle.meaning.specs.Space.{Box}
 use Rattle.meaning.specs.Points.{Direction, Between, Within, At, IsLine, Inside}
 use Rattle.meaning.specs.Operations.{lastOperation}
 use Rattle.meaning.specs.Description.{sizesOf, matrixWords, leftAt, rightAt, directionAt, stepAt, placeAt, mapAt, loadingAt, lineAt, descriptionOf, noStream, streamsOf, linesOf}
-use Rattle.meaning.specs.Accept.{accept, figures}
+use Rattle.meaning.specs.Accept.{accept, figures, divisors}
 
 -- ---- 1 to 4: the words
 
@@ -169,7 +169,7 @@ pub record Meets (l : Limits) (s : List ℕ) : Type 0 where
 
 -- DEMAND 2: accepted exactly if it meets the conditions
 abbrev pub AcceptedExactly : Type 0
-AcceptedExactly = (l : Limits) (s : List ℕ) → (accept l s ≡ Accepted (figures (descriptionOf s))) ↔ Meets l s
+AcceptedExactly = (l : Limits) (s : List ℕ) → (accept l s ≡ Accepted (figures (descriptionOf s)) (divisors (descriptionOf s))) ↔ Meets l s
 
 -- ---- refused by the number of the first that fails
 
@@ -236,7 +236,7 @@ pub record First (Holds : Condition → Type 0) (listed : List Condition) (k : �
 
 -- accepted, or refused by the first of some conditions that fails
 pub data AnsweredBy (l : Limits) (s : List ℕ) (listed : List Condition) : Type 0 where
-  accepted : accept l s ≡ Accepted (figures (descriptionOf s)) → AnsweredBy l s listed
+  accepted : accept l s ≡ Accepted (figures (descriptionOf s)) (divisors (descriptionOf s)) → AnsweredBy l s listed
   refused : (k : ℕ) → accept l s ≡ Refused k → First (Asks l s) listed k → AnsweredBy l s listed
 
 abbrev pub FirstFails : Limits → List ℕ → ℕ → Type 0

@@ -8,10 +8,10 @@ use lib.ListN.{length, drop}
 use Rattle.meaning.specs.declared.Limits.{Limits}
 use Rattle.meaning.specs.declared.Row.{Row}
 use Rattle.meaning.specs.Lists.{filter, position, numbers}
-use Rattle.meaning.specs.Loops.{instances}
+use Rattle.meaning.specs.Loops.{instances, divisor}
 use Rattle.meaning.specs.Space.{processes}
 use Rattle.meaning.specs.Description.{descriptionOf, streamsOf}
-use Rattle.meaning.specs.Accept.{refusalOf, accept, pipeCount, totalSteps}
+use Rattle.meaning.specs.Accept.{refusalOf, accept, Accepts, pipeCount, totalSteps, streamDivisor}
 use Rattle.meaning.specs.Array.{arrayOf, processCount}
 use Rattle.meaning.specs.Rules.{Memory, anyReady, runSteps}
 use Rattle.meaning.specs.Answers.{acceptNumber, acceptValues, answerNumber, ranNumber, ranValues, readyNumber, readyValues}
@@ -35,12 +35,13 @@ pub record Numbers (l : Limits) (s : List ℕ) : Type 0 where
 -- ---- the values of an answer that is no refusal
 
 pub record Values (l : Limits) (s : List ℕ) : Type 0 where
-  -- "P, instances, E, pipes, state words and total steps"
-  pub accept : acceptNumber (accept l s) ≡ 0
-      → let n = descriptionOf s .nest in
+  -- "P, instances, E, pipes, state words and total steps", then the divisors of place and of the six streams
+  pub accept : Accepts l s
+      → let d = descriptionOf s in
+      let n = d .nest in
       acceptValues (accept l s)
-      ≡ length (processes n) ∷ length (instances n) ∷ lengthOf (descriptionOf s) ∷ pipeCount n (streamsOf (descriptionOf s)) ∷ stateLength (descriptionOf s)
-      ∷ totalSteps n (streamsOf (descriptionOf s)) ∷ []
+      ≡ length (processes n) ∷ length (instances n) ∷ lengthOf d ∷ pipeCount n (streamsOf d) ∷ stateLength d ∷ totalSteps n (streamsOf d)
+      ∷ divisor (n .place) ∷ streamDivisor d 0 ∷ streamDivisor d 1 ∷ streamDivisor d 2 ∷ streamDivisor d 3 ∷ streamDivisor d 4 ∷ streamDivisor d 5 ∷ []
   -- "steps done and whether any is ready"
   pub run : (n : ℕ) (M : Memory) → ranNumber (run l s n M .answer) ≡ 0
       → let A = arrayOf (descriptionOf s) in

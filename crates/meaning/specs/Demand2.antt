@@ -15,9 +15,7 @@ use Rattle.meaning.specs.declared.Limits.{Limits}
 use Rattle.meaning.specs.declared.Nest.{Nest}
 use Rattle.meaning.specs.declared.Stream.{Stream}
 use Rattle.meaning.specs.declared.Description.{Description}
-use Rattle.meaning.specs.declared.Figures.{Figures}
 use Rattle.meaning.specs.declared.Row.{Row}
-use Rattle.meaning.specs.declared.Acceptance.the-variants.{Accepted}
 use Rattle.meaning.specs.declared.Answer.the-variants.{Done}
 use Rattle.meaning.specs.Sorted.{Sorted, Distinct}
 use Rattle.meaning.specs.Loops.{stepOf, placeOf, increment}
@@ -26,7 +24,7 @@ use Rattle.meaning.specs.Points.{Within, Earlier, At, IsLine, Inside, Ro
 use Rattle.meaning.specs.Streams.{line, move, pass}
 use Rattle.meaning.specs.Description.{descriptionOf}
 use Rattle.meaning.specs.Body.{executeAll}
-use Rattle.meaning.specs.Accept.{accept}
+use Rattle.meaning.specs.Accept.{Accepts}
 use Rattle.meaning.specs.Conditions.{LeastBox, Moves, streamOf}
 use Rattle.meaning.specs.Array.{arrayOf}
 use Rattle.meaning.specs.State.{Firings, read}
@@ -219,4 +217,4 @@ pub record Demand2 (l : Limits) (s : List ℕ) : Type 0 where
 
 -- DEMAND 2
 abbrev pub DemandTwo : Type 0
-DemandTwo = (l : Limits) (s : List ℕ) (f : Figures) → accept l s ≡ Accepted f → Demand2 l s
+DemandTwo = (l : Limits) (s : List ℕ) → Accepts l s → Demand2 l s

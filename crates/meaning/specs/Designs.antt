@@ -149,6 +149,38 @@ clearedTurned =
 abbrev pub clearedColumn : List ℕ
 clearedColumn = columnWith (clear 2 1 (pos 1) ∷ product)
 
+-- ---- request 2.7: places and elements that lie apart
+
+-- 2 by 2 with place (i+j, i−j), c kept: 9 processes, every second one of a row null
+abbrev pub matrixSlanted : List ℕ
+matrixSlanted = matricesBy product 1 (pos 1) (pos 1 ∷ pos 1 ∷ pos 0 ∷ pos 1 ∷ negsuc 0 ∷ pos 0 ∷ []) (pair (pos 1) (pos 0))
+
+-- y := y + x on loops 0..2 and 0..1, place 2i, step 2i+j, streams x: i, y: i, both kept: 5 processes, every second one null
+abbrev pub spaced : List ℕ
+spaced =
+    bytes
+    ((pos 2 ∷ pos 2 ∷ pos 1 ∷ pos 0 ∷ pos 0 ∷ pos 2 ∷ pos 1 ∷ pos 1 ∷ pos 1 ∷ pos 2 ∷ pos 1 ∷ pos 2 ∷ pos 0 ∷ [])
+    ++ ((pos 1 ∷ pos 0 ∷ pos 1 ∷ pos 0 ∷ pos 1 ∷ pos 1 ∷ []) ++ line 1 1 1 0))
+
+-- one instance, place −3i, step 2i+j, six streams with index maps i, 2i, 3i, 4i, −4i and −2i, all kept
+abbrev pub sixStreams : List ℕ
+sixStreams =
+    bytes
+    ((pos 2 ∷ pos 6 ∷ pos 1 ∷ pos 0 ∷ pos 0 ∷ pos 0 ∷ pos 0 ∷ pos 1 ∷ pos 1 ∷ pos 2 ∷ pos 1 ∷ negsuc 2 ∷ pos 0 ∷ [])
+    ++ ((pos 1 ∷ pos 0 ∷ pos 2 ∷ pos 0 ∷ pos 3 ∷ pos 0 ∷ pos 4 ∷ pos 0 ∷ negsuc 3 ∷ pos 0 ∷ negsuc 1 ∷ pos 0 ∷ [])
+    ++ ((pos 1 ∷ pos 1 ∷ pos 1 ∷ pos 1 ∷ pos 1 ∷ pos 1 ∷ []) ++ line 0 0 1 1)))
+
+-- one instance of three loops, place (i, j), step i+j+k, one stream with index map (4i+4j, 4i−4j), kept
+abbrev pub farApart : List ℕ
+farApart =
+    bytes
+    ((pos 3 ∷ pos 1 ∷ pos 1 ∷ pos 0 ∷ pos 0 ∷ pos 0 ∷ pos 0 ∷ pos 0 ∷ pos 0 ∷ pos 1 ∷ pos 1 ∷ pos 1 ∷ pos 1 ∷ pos 1 ∷ pos 1 ∷ [])
+    ++ ((pos 1 ∷ pos 0 ∷ pos 0 ∷ pos 0 ∷ pos 1 ∷ pos 0 ∷ pos 4 ∷ pos 4 ∷ pos 0 ∷ pos 4 ∷ negsuc 3 ∷ pos 0 ∷ pos 1 ∷ pos 0 ∷ []) ++ line 0 0 0 0))
+
+-- the divisors of place and of three streams, none above 1
+abbrev pub undivided : List ℕ
+undivided = 1 ∷ 1 ∷ 1 ∷ 1 ∷ 0 ∷ 0 ∷ 0 ∷ []
+
 -- a 1,2 above 3,4, b 5,6 above 7,8, c zeros
 abbrev pub matrixValues : List ℕ
 matrixValues = 1 ∷ 2 ∷ 3 ∷ 4 ∷ 5 ∷ 6 ∷ 7 ∷ 8 ∷ 0 ∷ 0 ∷ 0 ∷ 0 ∷ []

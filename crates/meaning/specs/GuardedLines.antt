@@ -10,10 +10,9 @@ use Rattle.integers.specs.declared.V3.{V3}
 use Rattle.meaning.specs.declared.Limits.{Limits}
 use Rattle.meaning.specs.declared.Line.{Line}
 use Rattle.meaning.specs.declared.Row.{Row}
-use Rattle.meaning.specs.declared.Figures.{Figures}
-use Rattle.meaning.specs.declared.Acceptance.the-variants.{Accepted, Refused}
+use Rattle.meaning.specs.declared.Acceptance.the-variants.{Refused}
 use Rattle.meaning.specs.Description.{sizesOf, lineAt, noLine, descriptionOf, linesOf}
-use Rattle.meaning.specs.Accept.{accept}
+use Rattle.meaning.specs.Accept.{accept, Accepts}
 use Rattle.meaning.specs.Rules.{Memory}
 use Rattle.meaning.specs.Answers.{answerNumber, ranNumber, readyNumber}
 use Rattle.meaning.specs.Calls.{table, start, step, run, readyCall, window, result, plainRun}
@@ -61,7 +60,7 @@ conditionsBefore = Begins ∷ Sizes-fit ∷ Long ∷ []
 
 pub record Guarded (l : Limits) (s : List ℕ) : Type 0 where
   -- "each line gains three words after its four"
-  pub words : (f : Figures) → accept l s ≡ Accepted f → (i : ℕ) → i < sizesOf s .lines → HasWords s i (getD (linesOf (descriptionOf s)) i noLine)
+  pub words : Accepts l s → (i : ℕ) → i < sizesOf s .lines → HasWords s i (getD (linesOf (descriptionOf s)) i noLine)
   -- "descriptions of the older length are declined by 3", of all sizes
   pub older-length : SizesFit (sizesOf s) → length s ≡ 4 * formerTotal (sizesOf s) → DeclinedBy l s 3
   -- "refusal 4 covers the new words"
@@ -70,7 +69,7 @@ pub record Guarded (l : Limits) (s : List ℕ) : Type 0 where
   -- "a guarded target still makes its stream written": Accept answers as it does to any other guard
   pub any-guard : (t : List ℕ) → OtherGuards s t → accept l s ≡ accept l t
   -- comparison 0: the line runs at every instance, as before
-  pub always : (f : Figures) → accept l s ≡ Accepted f → (t : Line) → In t (linesOf (descriptionOf s)) → t .comparison ≡ 0 → (x : V3) → Runs x t
+  pub always : Accepts l s → (t : Line) → In t (linesOf (descriptionOf s)) → t .comparison ≡ 0 → (x : V3) → Runs x t
   -- "the line runs only if that index compares so"
   pub runs : RunsLoops l s
 

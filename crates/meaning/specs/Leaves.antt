@@ -12,14 +12,12 @@ use Rattle.integers.specs.declared.V3.{V3}
 use Rattle.meaning.specs.declared.Limits.{Limits}
 use Rattle.meaning.specs.declared.Line.{Line}
 use Rattle.meaning.specs.declared.Description.{Description}
-use Rattle.meaning.specs.declared.Figures.{Figures}
-use Rattle.meaning.specs.declared.Acceptance.the-variants.{Accepted}
 use Rattle.meaning.specs.declared.Answer.the-variants.{Done}
 use Rattle.meaning.specs.Loops.{instances}
 use Rattle.meaning.specs.Operations.{modulus}
 use Rattle.meaning.specs.Description.{descriptionOf, linesOf}
 use Rattle.meaning.specs.Body.{touchedBy, gather, scatter}
-use Rattle.meaning.specs.Accept.{accept}
+use Rattle.meaning.specs.Accept.{Accepts}
 use Rattle.meaning.specs.Rules.{Memory}
 use Rattle.meaning.specs.Calls.{lengthOf, start, result, plainRun}
 use Rattle.meaning.specs.Demand3.{Call, memoryAfter, grantedBy, allReceived}
@@ -92,7 +90,7 @@ Words values = (v : ℕ) → In v values → v < modulus
 
 pub record RunsLoops (l : Limits) (s : List ℕ) : Type 0 where
   -- PLAIN RUN writes what the loops leave, and they leave nothing else
-  pub plain : (f : Figures) → accept l s ≡ Accepted f → (values output : List ℕ) → Words values → length values ≡ lengthOf (descriptionOf s)
+  pub plain : Accepts l s → (values output : List ℕ) → Words values → length values ≡ lengthOf (descriptionOf s)
       → length output ≡ lengthOf (descriptionOf s) → (left : List ℕ)
       → LoopsLeave (descriptionOf s) (instances (descriptionOf s .nest)) values left ↔ (plainRun l s values output ≡ record { answer = Done; output = left })
   -- THE NETWORK: after a start and any calls, when all values are out, Result answers and writes what Plain run does

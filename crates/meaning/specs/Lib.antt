@@ -28,9 +28,11 @@ pub mod LongerStrides
 pub mod Leaves
 pub mod FixedPoint
 pub mod GuardedLines
+pub mod CommonDivisors
 pub mod Designs
 pub mod Comparison
 pub mod Singles
 pub mod Cases
 pub mod Runs
 pub mod GuardedRuns
+pub mod Slanted

@@ -13,16 +13,15 @@ use Rattle.integers.specs.declared.V2.{V2}
 use Rattle.meaning.specs.declared.Limits.{Limits}
 use Rattle.meaning.specs.declared.Nest.{Nest}
 use Rattle.meaning.specs.declared.Row.{Row}
-use Rattle.meaning.specs.declared.Figures.{Figures}
 use Rattle.meaning.specs.declared.Acceptance.{Acceptance}
-use Rattle.meaning.specs.declared.Acceptance.the-variants.{Accepted, Refused}
+use Rattle.meaning.specs.declared.Acceptance.the-variants.{Refused}
 use Rattle.meaning.specs.Lists.{each, numbers}
 use Rattle.meaning.specs.Tests.{Test, _if_, refusal}
 use Rattle.meaning.specs.Loops.{placeOf, increment}
 use Rattle.meaning.specs.Space.{processes}
 use Rattle.meaning.specs.Points.{Within, At, IsLine}
 use Rattle.meaning.specs.Description.{sizesOf, descriptionOf, streamsOf, refused5}
-use Rattle.meaning.specs.Accept.{small, refused6, refused7, refused8, refused10, byteTests, testsFrom, answerOf, accept}
+use Rattle.meaning.specs.Accept.{small, refused6, refused7, refused8, refused10, byteTests, testsFrom, answerOf, accept, Accepts}
 use Rattle.meaning.specs.Calls.{table}
 use Rattle.meaning.specs.Conditions.{Small, Condition, Condition.Begins, Condition.Sizes-fit, Condition.Long, Condition.Words-fit, Condition.Bounds-fit, Condition.Instances, Condition.Place-rank, Condition.Increment, Condition.Processes, Asks, ofStream, AnsweredBy}
 use Rattle.meaning.specs.Demand2.{rowAt}
@@ -98,7 +97,7 @@ pub record Strides (l : Limits) (s : List ℕ) : Type 0 where
   pub was-nine : (formerAccept l s ≡ Refused 9) ↔ WasNine l s
   pub answered-after : WasNine l s → AnsweredBy l s (conditionsAfter (sizesOf s .streams))
   -- first and last are outermost
-  pub outermost : (f : Figures) → accept l s ≡ Accepted f → (lent : List Row) → length (processes (descriptionOf s .nest)) ≤ length lent
+  pub outermost : Accepts l s → (lent : List Row) → length (processes (descriptionOf s .nest)) ≤ length lent
       → TableOutermost l s lent
 
 abbrev pub LongerStrides : Type 0

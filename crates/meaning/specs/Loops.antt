@@ -1,4 +1,4 @@
--- Document 01, words of the trade: the instances and their written order, step, place, increment.
+-- Document 01, words of the trade: the instances and their written order, step, place; line and divisor of a matrix; increment.
 use mathlib.Core.Bool.{cond}
 use mathlib.Core.List.{List, [], _∷_, map}
 use Prim.Native.Nat.{ℕ, zero, suc}
@@ -9,6 +9,7 @@ use Rattle.integers.specs.Vectors.{dot, cross, neg3, image}
 use Rattle.integers.specs.declared.V3.{V3}
 use Rattle.integers.specs.declared.V2.{V2}
 use Rattle.integers.specs.declared.Matrix.{Matrix}
+use Rattle.lattice.specs.declared.Short.{Short}
 use Rattle.lattice.specs.Shorten.{shortened}
 use Rattle.meaning.specs.declared.Nest.{Nest}
 use Rattle.meaning.specs.Lists.{each}
@@ -43,10 +44,23 @@ placeOf n v = image (n .place) v
 abbrev pub turn : V3 → V3 → V3
 turn step v = cond (ltZ (dot step v) (pos 0)) (neg3 v) v
 
+-- "the vector before shortening", "for three" loops "the cross product of the two rows"; for two the padded rows' is "the row's second word and its first
+-- negated" (`flat-cross` of geometry)
+abbrev pub unshortened : Matrix → V3
+unshortened m = cross (m .top) (m .low)
+
+-- shortened, with the divisor that was taken out
+abbrev pub shortOf : Matrix → Short
+shortOf m = shortened (unshortened m)
+
 -- "the shortest non-zero whole vector that" a matrix "sends to zero, turned"; "found by dividing out the greatest common divisor"
--- (of the cross product of its rows: that this is the shortest, lattice's `shortest` says)
+-- (that this is the shortest, lattice's `shortest` says)
 unfoldable pub lineOf : Nest → Matrix → V3
-lineOf n m = turn (n .step) (shortened (cross (m .top) (m .low)) .vector)
+lineOf n m = turn (n .step) (shortOf m .vector)
+
+-- the divisor of a matrix: the one that its line's shortening took out
+abbrev pub divisor : Matrix → ℕ
+divisor m = shortOf m .divisor
 
 -- increment: the line of place
 abbrev pub increment : Nest → V3

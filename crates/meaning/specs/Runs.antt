@@ -21,7 +21,7 @@ use Rattle.meaning.specs.Rules.{moveDown, sound, writeAll, Memory, Step,
 use Rattle.meaning.specs.Answers.{acceptValues, answerNumber, ranValues, readyValues}
 use Rattle.meaning.specs.Calls.{start, run, readyCall, window, result, plainRun}
 use Rattle.meaning.specs.Comparison.{Case, _is_, naturals, number, eqList, firstWrong, agree-after}
-use Rattle.meaning.specs.Designs.{bytes, designOne, designTwo, values, turned, decimating, columnProduct, startedWith, startedOn}
+use Rattle.meaning.specs.Designs.{bytes, designOne, designTwo, values, turned, decimating, columnProduct, startedWith, startedOn, undivided}
 use Rattle.meaning.specs.Cases as P
 
 -- the highest ready step first, n times
@@ -87,7 +87,7 @@ abbrev pub spatialRun : List Case
 spatialRun =
     let vs : List ℕ = 1 ∷ 2 ∷ 3 ∷ 4 ∷ 5 ∷ 6 ∷ 0 ∷ 0 ∷ [] in
     let end = run gaugeLimits columnProduct 1000 (startedWith columnProduct vs 117) in
-    (naturals (acceptValues (accept gaugeLimits columnProduct)) is naturals (6 ∷ 4 ∷ 8 ∷ 7 ∷ 117 ∷ 56 ∷ []))
+    (naturals (acceptValues (accept gaugeLimits columnProduct)) is naturals (6 ∷ 4 ∷ 8 ∷ 7 ∷ 117 ∷ 56 ∷ undivided))
     ∷ (naturals (ranValues (end .answer)) is naturals (56 ∷ 0 ∷ []))
     ∷ (naturals (result gaugeLimits columnProduct (replicate 8 1) (end .memory) .output) is naturals (1 ∷ 2 ∷ 3 ∷ 4 ∷ 5 ∷ 6 ∷ 17 ∷ 39 ∷ []))
     ∷ (naturals (plainRun gaugeLimits columnProduct vs (replicate 8 1) .output) is naturals (1 ∷ 2 ∷ 3 ∷ 4 ∷ 5 ∷ 6 ∷ 17 ∷ 39 ∷ []))

@@ -22,7 +22,7 @@ use Rattle.meaning.specs.Rules.{moveDown, sound, writeAll, Memory, apply
 use Rattle.meaning.specs.Answers.{acceptNumber, acceptValues, answerNumber, ranNumber, readyNumber}
 use Rattle.meaning.specs.Calls.{table, start, step, run, readyCall, window, result, plainRun}
 use Rattle.meaning.specs.Comparison.{Case, _is_, naturals, number, planar, rowWords, eqList, firstWrong, agree}
-use Rattle.meaning.specs.Designs.{bytes, guarded, line, product, pair, polynomial, polynomialBy, designOne, designOneWith, designTwo, values, uncleared, turned, decimating, matrixProduct, matrixRising, matrixValues, columnWith, clearedOne, clearedTurned, clearedColumn, nest, blank, lent, startedWith, startedOn}
+use Rattle.meaning.specs.Designs.{bytes, guarded, line, product, pair, polynomial, polynomialBy, designOne, designOneWith, designTwo, values, uncleared, turned, decimating, matrixProduct, matrixRising, matrixValues, columnWith, clearedOne, clearedTurned, clearedColumn, nest, blank, lent, startedWith, startedOn, undivided}
 
 -- the words of a table of n rows lent
 abbrev tableWords : List ℕ → ℕ → List ℤ
@@ -138,9 +138,9 @@ guards =
     ∷ (against (line 3 3 0 1 ∷ guarded 1 2 2 3 (pos 0) (pos 1) (pos 64) ∷ []) is number 15)
     ∷ (against (line 3 3 0 1 ∷ []) is number 0)
     -- the figures of the designs that clear c are those without: they go by the loops and the streams
-    ∷ (naturals (acceptValues (accept gaugeLimits clearedOne)) is naturals (3 ∷ 9 ∷ 11 ∷ 3 ∷ 61 ∷ 97 ∷ []))
-    ∷ (naturals (acceptValues (accept gaugeLimits clearedTurned)) is naturals (3 ∷ 9 ∷ 11 ∷ 3 ∷ 61 ∷ 97 ∷ []))
-    ∷ (naturals (acceptValues (accept gaugeLimits clearedColumn)) is naturals (2 ∷ 4 ∷ 8 ∷ 4 ∷ 44 ∷ 44 ∷ []))
+    ∷ (naturals (acceptValues (accept gaugeLimits clearedOne)) is naturals (3 ∷ 9 ∷ 11 ∷ 3 ∷ 61 ∷ 97 ∷ undivided))
+    ∷ (naturals (acceptValues (accept gaugeLimits clearedTurned)) is naturals (3 ∷ 9 ∷ 11 ∷ 3 ∷ 61 ∷ 97 ∷ undivided))
+    ∷ (naturals (acceptValues (accept gaugeLimits clearedColumn)) is naturals (2 ∷ 4 ∷ 8 ∷ 4 ∷ 44 ∷ 44 ∷ undivided))
     -- c is 4 13 28 27 18 whatever it held, in direction −1 too, and 17 39 of the column
     ∷ (plainly clearedOne values is naturals (1 ∷ 2 ∷ 3 ∷ 4 ∷ 5 ∷ 6 ∷ 4 ∷ 13 ∷ 28 ∷ 27 ∷ 18 ∷ []))
     ∷ (plainly clearedOne uncleared is naturals (1 ∷ 2 ∷ 3 ∷ 4 ∷ 5 ∷ 6 ∷ 4 ∷ 13 ∷ 28 ∷ 27 ∷ 18 ∷ []))
@@ -176,7 +176,7 @@ calls =
     ∷ (rowWords (getD (table gaugeLimits (decimating 3 3) (replicate 10 blank) .rows) 4 blank)
     is naturals (4 ∷ 0 ∷ 2 ∷ 1 ∷ 2 ∷ 0 ∷ 2 ∷ 0 ∷ 0 ∷ 1 ∷ 4 ∷ 3 ∷ 0 ∷ 0 ∷ 0 ∷ 1 ∷ 5 ∷ 2 ∷ 0 ∷ 0 ∷ 0 ∷ []))
     -- direction −1 in loop 0: the figures, the table, and a plain run that subtracts in that order, modulo 2^32
-    ∷ (naturals (acceptValues (accept gaugeLimits turned)) is naturals (3 ∷ 9 ∷ 11 ∷ 3 ∷ 69 ∷ 97 ∷ []))
+    ∷ (naturals (acceptValues (accept gaugeLimits turned)) is naturals (3 ∷ 9 ∷ 11 ∷ 3 ∷ 69 ∷ 97 ∷ undivided))
     ∷ (tableWords turned 3 is naturals
     (0 ∷ 0 ∷ 3 ∷ 0 ∷ 0 ∷ 0 ∷ 0 ∷ 2 ∷ 0 ∷ 0 ∷ 0 ∷ 0 ∷ 0 ∷ 0 ∷ 0 ∷ 2 ∷ 0 ∷ 2 ∷ 0 ∷ 0 ∷ 0
     ∷ 1 ∷ 0 ∷ 3 ∷ 1 ∷ 0 ∷ 0 ∷ 1 ∷ 2 ∷ 0 ∷ 1 ∷ 0 ∷ 1 ∷ 0 ∷ 0 ∷ 0 ∷ 1 ∷ 0 ∷ 1 ∷ 0 ∷ 0 ∷ 0
@@ -196,11 +196,11 @@ calls =
     -- the keep of a at process 0, which has fired, is not given before the others are taken
     ∷ (stepNumber 3 0 0 stepped is number 24)
     -- three loops with null processes: the figures, and a null row
-    ∷ (naturals (acceptValues (accept gaugeLimits matrixProduct)) is naturals (9 ∷ 8 ∷ 12 ∷ 9 ∷ 171 ∷ 100 ∷ []))
+    ∷ (naturals (acceptValues (accept gaugeLimits matrixProduct)) is naturals (9 ∷ 8 ∷ 12 ∷ 9 ∷ 171 ∷ 100 ∷ undivided))
     ∷ (rowWords (getD (table gaugeLimits matrixProduct (replicate 9 blank) .rows) 2 blank)
     is negsuc 0 ∷ pos 1 ∷ naturals (replicate 7 0 ++ (1 ∷ 1 ∷ replicate 10 0)))
     -- an increment whose third component is −1 is accepted: the figures, and the row of its middle process
-    ∷ (naturals (acceptValues (accept gaugeLimits matrixRising)) is naturals (9 ∷ 8 ∷ 12 ∷ 9 ∷ 171 ∷ 100 ∷ []))
+    ∷ (naturals (acceptValues (accept gaugeLimits matrixRising)) is naturals (9 ∷ 8 ∷ 12 ∷ 9 ∷ 171 ∷ 100 ∷ undivided))
     ∷ (rowWords (getD (table gaugeLimits matrixRising (replicate 9 blank) .rows) 4 blank)
     is naturals (1 ∷ 1 ∷ 2 ∷ 0 ∷ 0 ∷ 1 ∷ 1 ∷ 1 ∷ 0 ∷ replicate 12 0))
     -- declined calls: the numbers in order, and nothing changed

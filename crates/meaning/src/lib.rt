@@ -2,7 +2,7 @@
 //
 //   Limits            those of refusals 6, 10 and 14, the former ones, and how many words they allow a state
 //   Lists, Tests      small helpers: lists filtered and searched, refusals tried in order
-//   Loops             instances, their written order, step, place, increment
+//   Loops             instances, their written order, step, place; the vector before shortening, line and divisor of a matrix; increment
 //   Space             boxes, row order, the process space; count, first and last
 //   Streams           line, move, hop; a stream's box and elements
 //   Pipes             pipes, their processes and elements; soak and drain
@@ -11,7 +11,7 @@
 //   Description       bytes to words, lengths, ranges, decoding
 //   Body              lines, one instance on a store, the plain run
 //   Lines             laws of lines that mathematics and code share
-//   Accept            the refusals 1 to 17 without 9, named one by one and chained; the figures
+//   Accept            the refusals 1 to 17 without 9, named one by one and chained; the figures and the divisors
 //   Points, Sorted    points, lines, boxes and lists in order as propositions
 //   Array, State      what the rules look at; the words of the state and where they stand
 //   Rules             send, take, fire, give, receive: ready and apply; sound; the lowest ready step
@@ -25,9 +25,11 @@
 //   Leaves            what operations put, when a line runs and what loops leave, as propositions; by the plain run and by the network
 //   FixedPoint        request 2.1: what Accept answers to operation 6
 //   GuardedLines      request 2.5: what Accept answers to descriptions of the older length and to guards, and when lines run
+//   CommonDivisors    request 2.7: what the divisors in Accept's answer are, and how far apart they say that values and working processes lie
 //   Designs, Cases    the documents' designs as bytes, and document 01's cases marked P, computed as one table (Comparison)
 //   Singles, Runs     cases beside them that hold the rules: tables, single steps and declined calls; states stopped in the middle, other orders
 //   GuardedRuns       runs under guards, plainly and in two orders
+//   Slanted           divisors above 1, and a run of a slanted grid
 //
 // Two loops are three, the third running from 0 to 0: its direction is 1, its step coefficient 0; place and every index map get a second row
 // (0, 0, 1), and a loading vector a second component 0. Then one set of definitions serves both.
@@ -95,6 +97,17 @@ pub struct Figures {
     pub steps: u32,
 }
 
+// And the divisors that the shortening rule took out, of place and of each stream's index map; 0 past the streams in use.
+pub struct Divisors {
+    pub place: u32,
+    pub stream0: u32,
+    pub stream1: u32,
+    pub stream2: u32,
+    pub stream3: u32,
+    pub stream4: u32,
+    pub stream5: u32,
+}
+
 // A row of the table.
 pub struct Row {
     pub point: V2,
@@ -107,7 +120,7 @@ pub struct Row {
 
 // The answers of the calls; a refusal has document 01's number.
 pub enum Acceptance {
-    Accepted(Figures),
+    Accepted(Figures, Divisors),
     Refused(u32),
 }
 

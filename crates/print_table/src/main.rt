@@ -184,7 +184,7 @@ fn print_accepted(s: &[u8], f: Figures) {
 fn print_table(s: &[u8]) {
     let answer = accept::accept(s);
     match answer {
-        Acceptance::Accepted(f) => print_accepted(s, f),
+        Acceptance::Accepted(f, _) => print_accepted(s, f),
         Acceptance::Refused(number) => print_refusal(number),
     }
 }

@@ -4,6 +4,7 @@
 // number of bytes, and what each prints stands below a line with `script` and its number.
 use meaning::Acceptance;
 use meaning::Answer;
+use meaning::Divisors;
 use meaning::Figures;
 use meaning::Ran;
 use meaning::Readiness;
@@ -37,7 +38,12 @@ fn print_list(name: &[u8], answer: Answer, list: &[u32], words: u32) {
     }
 }
 
-fn print_figures(f: Figures) {
+// How many words an accepted description has to show: the six figures and the divisors of place and of each stream in use.
+fn shown(streams: u32) -> u32 {
+    if streams <= 6 { 7 + streams } else { 13 }
+}
+
+fn print_figures(f: Figures, g: Divisors, streams: u32) {
     let words = [
         f.processes,
         f.instances,
@@ -45,8 +51,15 @@ fn print_figures(f: Figures) {
         f.pipes,
         f.words,
         f.steps,
+        g.place,
+        g.stream0,
+        g.stream1,
+        g.stream2,
+        g.stream3,
+        g.stream4,
+        g.stream5,
     ];
-    lines::print_words(b"accept", &words);
+    print_part(b"accept", &words, shown(streams));
 }
 
 fn flag(b: bool) -> u32 {
@@ -79,8 +92,9 @@ fn print_readiness(answer: Readiness, words: &[u64]) {
 fn accept_line(s: &[u8]) -> Lent {
     let answer = accept::accept(s);
     match answer {
-        Acceptance::Accepted(f) => {
-            print_figures(f);
+        Acceptance::Accepted(f, g) => {
+            let z = decode::sizes(s);
+            print_figures(f, g, z.streams);
             script::lent_by(f.elements, f.words)
         }
         Acceptance::Refused(number) => {

@@ -8,7 +8,7 @@ use Rattle.meaning.specs.declared.Limits.{Limits}
 use Rattle.meaning.specs.declared.Acceptance.{Acceptance}
 use Rattle.meaning.specs.declared.Acceptance.the-variants.{Accepted, Refused}
 use Rattle.meaning.specs.Description.{sizesOf, descriptionOf}
-use Rattle.meaning.specs.Accept.{refusalOf, accept, figures}
+use Rattle.meaning.specs.Accept.{refusalOf, accept, figures, divisors}
 use Rattle.meaning.specs.Answers.{acceptNumber}
 use Rattle.meaning.specs.Calls.{table, start, step, run, readyCall, window, result, plainRun}
 use Rattle.meaning.specs.Conditions.{Meets, Condition, Asks, conditions, FirstFails}
@@ -27,9 +27,9 @@ unfolding accept
 answered l s = go (eqb (refusalOf l s) 0) (accepted-exactly l s .0) (λ k. refused-exactly l s k .0)
   where
     says : Bool → Acceptance
-    says b = cond b (Accepted (figures (descriptionOf s))) (Refused (refusalOf l s))
+    says b = cond b (Accepted (figures (descriptionOf s)) (divisors (descriptionOf s))) (Refused (refusalOf l s))
 
-    go : (b : Bool) → (says b ≡ Accepted (figures (descriptionOf s)) → Meets l s) → ((k : ℕ) → says b ≡ Refused k → FirstFails l s k) → Answered l s
+    go : (b : Bool) → (says b ≡ Accepted (figures (descriptionOf s)) (divisors (descriptionOf s)) → Meets l s) → ((k : ℕ) → says b ≡ Refused k → FirstFails l s k) → Answered l s
     go true m f = meets (m refl)
     go false m f = fails (refusalOf l s) (f (refusalOf l s) refl)
 

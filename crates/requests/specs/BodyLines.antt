@@ -1,4 +1,4 @@
--- The lines of a description: each is that of its number, and those of one that meets the conditions have words in range. Assumes nothing.
+-- The lines of a description: each is that of its number, as each stream is, and those of one that meets the conditions have words in range. Assumes nothing.
 use mathlib.Core.Path.{_≡_, refl, sym, _∙_, ap, subst}
 use mathlib.Core.Bool.{Bool, true, false}
 use mathlib.Core.List.{List, _++_, map, List·Memᴰ as In, Memᴰ·map as in-map}
@@ -20,7 +20,7 @@ use Rattle.meaning.specs.Lists.{numbers}
 use Rattle.meaning.specs.Points.{Between}
 use Rattle.meaning.specs.Operations.{lastOperation}
 use Rattle.meaning.specs.Guards.{lastComparison}
-use Rattle.meaning.specs.Description.{sizesOf, lineAt, nestOf, streamOf, bodyLine, noStream, noLine, descriptionOf, linesOf}
+use Rattle.meaning.specs.Description.{sizesOf, lineAt, nestOf, streamOf, bodyLine, noStream, noLine, descriptionOf, streamsOf, linesOf}
 use Rattle.meaning.specs.Conditions.{SizesFit, WordsFit}
 use Rattle.geometry.specs.Members.{map-in, in-numbers, numbers-in}
 use Rattle.network.specs.Lists.{length-numbers, getD-first}
@@ -36,12 +36,18 @@ decoded u z =
       lines = map (bodyLine u z) (numbers (z .lines)) ++ replicate (8 - z .lines) noLine;
     }
 
+-- of n parts that are followed by others the first n are those, each at its number
+module _ {A : Type 0} (f : ℕ → A) (n : ℕ) (rest : List A) where
+  parts-are : take n (map f (numbers n) ++ rest) ≡ map f (numbers n)
+  parts-are =
+      subst (λ (k : ℕ). take k (map f (numbers n) ++ rest) ≡ map f (numbers n)) (length-numbers f 0 n) (take-append-seam (map f (numbers n)) rest)
+
+  part-at : (d : A) (i : ℕ) → i < n → getD (take n (map f (numbers n) ++ rest)) i d ≡ f i
+  part-at d i h = ap (λ (l : List A). getD l i d) parts-are ∙ getD-first f d n i h
+
 -- the lines in use
 pub lines-are : (u : List ℕ) (z : Sizes) → linesOf (decoded u z) ≡ map (bodyLine u z) (numbers (z .lines))
-lines-are u z =
-    let ls = map (bodyLine u z) (numbers (z .lines)) in
-    let rest = replicate (8 - z .lines) noLine in
-    subst (λ (n : ℕ). take n (ls ++ rest) ≡ ls) (length-numbers (bodyLine u z) 0 (z .lines)) (take-append-seam ls rest)
+lines-are u z = parts-are (bodyLine u z) (z .lines) (replicate (8 - z .lines) noLine)
 
 -- ---- a word from 0 to n as bits
 
@@ -83,7 +89,12 @@ module _ (s : List ℕ) where
 
   pub line-at : (i : ℕ) → i < z .lines → getD (linesOf (descriptionOf s)) i noLine ≡ bodyLine s z i
   unfolding descriptionOf
-  line-at i h = ap (λ (ts : List Line). getD ts i noLine) (lines-are s z) ∙ getD-first (bodyLine s z) noLine (z .lines) i h
+  line-at i h = part-at (bodyLine s z) (z .lines) (replicate (8 - z .lines) noLine) noLine i h
+
+  -- and a stream too
+  pub stream-at : (i : ℕ) → i < z .streams → getD (streamsOf (descriptionOf s)) i noStream ≡ streamOf s z i
+  unfolding descriptionOf
+  stream-at i h = part-at (streamOf s z) (z .streams) (replicate (6 - z .streams) noStream) noStream i h
 
   pub allowed : SizesFit z → WordsFit s z → (t : Line) → In t (linesOf (descriptionOf s)) → Allowed t
   unfolding bodyLine wordAt

@@ -12,12 +12,11 @@ use Rattle.integers.specs.declared.V3.{V3}
 use Rattle.meaning.specs.declared.Limits.{Limits}
 use Rattle.meaning.specs.declared.Sizes.{Sizes}
 use Rattle.meaning.specs.declared.Line.{Line}
-use Rattle.meaning.specs.declared.Figures.{Figures}
-use Rattle.meaning.specs.declared.Acceptance.the-variants.{Accepted, Refused}
+use Rattle.meaning.specs.declared.Acceptance.the-variants.{Refused}
 use Rattle.meaning.specs.Operations.{lastOperation}
 use Rattle.meaning.specs.Guards.{indexOf}
 use Rattle.meaning.specs.Description.{sizesOf, bodyLine, noLine, descriptionOf, linesOf}
-use Rattle.meaning.specs.Accept.{refusalOf, accept}
+use Rattle.meaning.specs.Accept.{refusalOf, accept, Accepts}
 use Rattle.meaning.specs.Answers.{acceptNumber}
 use Rattle.meaning.specs.Calls.{orElse}
 use Rattle.meaning.specs.Conditions.{SizesFit, formerTotal, GuardFits, WordsFit, Meets, Condition, Condition.Begins, Condition.Sizes-fit, Condition.Long, Condition.Words-fit, Asks}
@@ -104,15 +103,15 @@ module _ (l : Limits) (s : List ℕ) where
 
   -- ---- lines
 
-  meets : (f : Figures) → accept l s ≡ Accepted f → Meets l s
-  meets f e = accepted-meets l s (accepted-not-refused l s f e)
+  meets : Accepts l s → Meets l s
+  meets e = accepted-meets l s (accepted-not-refused l s e)
 
-  words : (f : Figures) → accept l s ≡ Accepted f → (i : ℕ) → i < z .lines → HasWords s i (getD (linesOf (descriptionOf s)) i noLine)
+  words : Accepts l s → (i : ℕ) → i < z .lines → HasWords s i (getD (linesOf (descriptionOf s)) i noLine)
   unfolding bodyLine wordAt
-  words f e i h = subst (HasWords s i) (sym (line-at s i h)) has
+  words e i h = subst (HasWords s i) (sym (line-at s i h)) has
     where
       m : Meets l s
-      m = meets f e
+      m = meets e
 
       w : WordsFit s z
       w = m .words
@@ -138,9 +137,9 @@ module _ (l : Limits) (s : List ℕ) where
             bound = refl;
           }
 
-  always-running : (f : Figures) → accept l s ≡ Accepted f → (t : Line) → In t (linesOf (descriptionOf s)) → t .comparison ≡ 0 → (x : V3) → Runs x t
-  always-running f e t k c x =
-      let m = meets f e in always-runs x t (allowed s (m .sizes) (m .words) t k) c
+  always-running : Accepts l s → (t : Line) → In t (linesOf (descriptionOf s)) → t .comparison ≡ 0 → (x : V3) → Runs x t
+  always-running e t k c x =
+      let m = meets e in always-runs x t (allowed s (m .sizes) (m .words) t k) c
 
 -- REQUEST 2.5
 pub guarded-lines : GuardedLines

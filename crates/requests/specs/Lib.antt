@@ -14,3 +14,4 @@ pub mod PlainLoops
 pub mod RunsLoops
 pub mod FixedPoint
 pub mod GuardedLines
+pub mod CommonDivisors

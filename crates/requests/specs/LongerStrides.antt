@@ -87,5 +87,5 @@ longer-strides l s =
       as-before = as-before l s;
       was-nine = (was-nine l s, nine-was l s);
       answered-after = λ w. nine l s .answered-after (w .held);
-      outermost = λ f e lent h. table-outermost l s lent f e h;
+      outermost = λ e lent h. table-outermost l s lent e h;
     }

@@ -25,7 +25,7 @@ use Rattle.meaning.specs.declared.Acceptance.the-variants.{Accepted, Refused}
 use Rattle.meaning.specs.Tests.{_if_, refusal}
 use Rattle.meaning.specs.Lists.{any, numbersFrom}
 use Rattle.meaning.specs.Description.{sizesOf, matrixWords, leftAt, rightAt, directionAt, stepAt, placeAt, mapAt, loadingAt, lineAt, wordsOf, inRange, vectorAt, unit3, matrixAt, nestOf, loadingOf, streamOf, bodyLine, noStream, descriptionOf, streamsOf, written, refused1, refused2, refused3, refused4}
-use Rattle.meaning.specs.Accept.{nestTests, testsFrom, refusalOf, figures, accept}
+use Rattle.meaning.specs.Accept.{nestTests, testsFrom, refusalOf, figures, divisors, accept}
 use Rattle.meaning.specs.Conditions.{SizesFit}
 use Rattle.network.specs.Cases.{Order, less, atLeast, order}
 use Rattle.network.specs.Lists.{same-numbers, same-every}
@@ -42,7 +42,7 @@ module _ (l : Limits) where
       let k =
       refusal
       ((1 if refused1 u) ∷ (2 if refused2 z) ∷ (3 if refused3 u z) ∷ (4 if refused4 u z) ∷ (nestTests l (d .nest) ++ testsFrom l d 0 (streamsOf d))) in
-      cond (eqb k 0) (Accepted (figures d)) (Refused k)
+      cond (eqb k 0) (Accepted (figures d) (divisors d)) (Refused k)
 
   accept-is : (u : List ℕ) → accept l u ≡ answered u (sizesOf u) (decoded u (sizesOf u))
   unfolding accept refusalOf descriptionOf
@@ -53,7 +53,7 @@ module _ (l : Limits) where
   unfolding refusal
   by-sizes u z d e = rw e (go (refused1 u))
     where
-      go : (b : Bool) → cond (eqb (cond b 1 2) 0) (Accepted (figures d)) (Refused (cond b 1 2)) ≡ Refused (cond b 1 2)
+      go : (b : Bool) → cond (eqb (cond b 1 2) 0) (Accepted (figures d) (divisors d)) (Refused (cond b 1 2)) ≡ Refused (cond b 1 2)
       go true = refl
       go false = refl
 

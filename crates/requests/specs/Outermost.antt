@@ -14,13 +14,11 @@ use Rattle.meaning.specs.declared.Limits.{Limits}
 use Rattle.meaning.specs.declared.Nest.{Nest}
 use Rattle.meaning.specs.declared.Description.{Description}
 use Rattle.meaning.specs.declared.Row.{Row}
-use Rattle.meaning.specs.declared.Figures.{Figures}
-use Rattle.meaning.specs.declared.Acceptance.the-variants.{Accepted}
 use Rattle.meaning.specs.Loops.{increment}
 use Rattle.meaning.specs.Space.{processes}
 use Rattle.meaning.specs.Points.{Within, At, IsLine}
 use Rattle.meaning.specs.Description.{descriptionOf}
-use Rattle.meaning.specs.Accept.{accept}
+use Rattle.meaning.specs.Accept.{Accepts}
 use Rattle.meaning.specs.Calls.{table}
 use Rattle.meaning.specs.Demand2.{ComputingRow, rowAt}
 use Rattle.meaning.specs.LongerStrides.{Outermost, TableOutermost}
@@ -84,9 +82,9 @@ module _ (l : Limits) (s : List ℕ) (lent : List Row) where
   abbrev pass : ℕ → ℕ → V3
   pass p k = shift3 (left p .first) (pos k) (increment nest)
 
-  pub table-outermost : (f : Figures) → accept l s ≡ Accepted f → length (processes nest) ≤ length lent → TableOutermost l s lent
-  table-outermost f e h p q c =
-      let says = demand-two l s f e .table lent h in
+  pub table-outermost : Accepts l s → length (processes nest) ≤ length lent → TableOutermost l s lent
+  table-outermost e h p q c =
+      let says = demand-two l s e .table lent h in
       let row = says .1 .rows p q in
       let passes : (k : ℕ) → k < left p .count → At nest (nest .place) (getD (processes nest) p zero2) (pass p k) =
       λ k i. subst (λ (y : V2). At nest (nest .place) y (pass p k)) (row .point)

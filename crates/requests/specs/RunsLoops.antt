@@ -7,12 +7,10 @@ use Prim.Native.Nat.{ℕ}
 use lib.ListN.{length}
 use Rattle.meaning.specs.declared.Limits.{Limits}
 use Rattle.meaning.specs.declared.Description.{Description}
-use Rattle.meaning.specs.declared.Figures.{Figures}
-use Rattle.meaning.specs.declared.Acceptance.the-variants.{Accepted}
 use Rattle.meaning.specs.declared.Answer.the-variants.{Done}
 use Rattle.meaning.specs.Loops.{instances}
 use Rattle.meaning.specs.Description.{descriptionOf}
-use Rattle.meaning.specs.Accept.{refusalOf, answerOf, accept}
+use Rattle.meaning.specs.Accept.{refusalOf, answerOf, accept, Accepts}
 use Rattle.meaning.specs.Rules.{Memory}
 use Rattle.meaning.specs.Calls.{lengthOf, start, result, Written, plainRun}
 use Rattle.meaning.specs.Conditions.{Meets}
@@ -33,11 +31,11 @@ module _ (l : Limits) (s : List ℕ) where
   unfolding accept
   accepted-meets ok = accepted-exactly l s .0 (ap (answerOf s) ok)
 
-  plain : (f : Figures) → accept l s ≡ Accepted f → (values output : List ℕ) → Words values → length values ≡ lengthOf d
+  plain : Accepts l s → (values output : List ℕ) → Words values → length values ≡ lengthOf d
       → length output ≡ lengthOf d → (left : List ℕ)
       → LoopsLeave d (instances (d .nest)) values left ↔ (plainRun l s values output ≡ record { answer = Done; output = left })
-  plain f e values output w h k left =
-      let ok = accepted-not-refused l s f e in
+  plain e values output w h k left =
+      let ok = accepted-not-refused l s e in
       let m = accepted-meets ok in
       let done = plain-done l s ok values output h k in
       let loops = loops-exactly d (allowed s (m .sizes) (m .words)) (instances (d .nest)) values left w in (

@@ -6,6 +6,8 @@
 //         first and last of Table's rows are the outermost points of the process's own line in the bounds (Outermost)
 //   2.5   GuardedLines: `guarded-lines`: descriptions of the older length are refused by 3, a guard out of its ranges by 4; Accept answers every guard in its
 //         ranges alike; a line of comparison 0 always runs; Plain run and the network run a line only if its index compares so (RunsLoops)
+//   2.7   CommonDivisors: `common-divisors`: of an accepted description each divisor in use is the one that the shortening rule takes out, is not 0 and says how
+//         far apart the values of its matrix lie; those past the streams in use are 0; working processes lie at values of place
 //   2.8   FivePlaces: `five-places`: what has no moving hop from 6 to 8 is answered as before by every call; what has one is refused by 14 or by what
 //         comes before it; no answer of Accept becomes another one than 14
 //

@@ -1,13 +1,14 @@
-// Vectors of small words, as the tests of Accept use them: dot and cross product, the image under a matrix, the line of a matrix.
+// Vectors of small words, as the tests of Accept use them: dot and cross product, the image under a matrix, line and divisor of a matrix.
 ghost use mathlib.Core.Path.{_≡_};
 ghost use lib.IntN.{_-ℤ_, _*ℤ_};
 ghost use Rattle.integers.specs.Differences.{Abs};
 ghost use Rattle.integers.specs.Vectors.{dot, cross, neg3, image};
-ghost use Rattle.meaning.specs.Loops.{turn, lineOf};
+ghost use Rattle.meaning.specs.Loops.{turn, shortOf, lineOf};
 ghost use Rattle.vectors.specs.Within.{Within, Rows, Within2};
 use integers::Matrix;
 use integers::V2;
 use integers::V3;
+use lattice::Short;
 use meaning::Nest;
 
 // The last component of a cross product.
@@ -81,14 +82,22 @@ pub fn turned(step: V3, v: V3) -> V3
     if dot_of(step, v) < 0 { negated(v) } else { v }
 }
 
+// The cross product of a matrix's rows shortened, and the divisor that was taken out.
+pub fn short_of(m: Matrix) -> Short
+    requires { ⌜ Rows 4 m ⌝ }
+    ensures { λ r. ⌜ (r ≡ shortOf m) × (Within 200 (r .vector)) ⌝ }
+{
+    let top = m.top;
+    let low = m.low;
+    lattice::shorten(cross_of(top, low))
+}
+
 // The line of a matrix; place's is the increment.
 pub fn line_of(n: Nest, m: Matrix) -> V3
     requires { ⌜ (Within 8 (n .step)) × (Rows 4 m) ⌝ }
     ensures { λ r. ⌜ (r ≡ lineOf n m) × (Within 200 r) ⌝ }
 {
-    let top = m.top;
-    let low = m.low;
-    let short = lattice::shorten(cross_of(top, low));
+    let short = short_of(m);
     let v = short.vector;
     let step = n.step;
     turned(step, v)

@@ -5,10 +5,12 @@ use reference::description::Description;
 use reference::designs::{
     cleared_column, cleared_matrix, cleared_one, cleared_turned, decimating, decimating_channels,
     matrix_moving, matrix_slanted, matrix_straight, needs_its_hops, polynomial_one, polynomial_two,
+    spaced,
 };
 use reference::network::Step;
 use reference::random::Random;
 use reference::random_description::accepted;
+use reference::random_divisor::divided;
 use reference::random_stride::strided;
 use reference::Refusal;
 
@@ -227,6 +229,15 @@ fn longer_strides_finish_alike() {
 }
 
 #[test]
+fn larger_divisors_finish_alike() {
+    let mut random = Random::new(2027);
+    for _ in 0..ARRAYS / 10 {
+        let description = divided(&mut random);
+        check_orders(&description, &mut random);
+    }
+}
+
+#[test]
 fn designs_finish_alike() {
     let mut random = Random::new(2025);
     for n in 0..=2 {
@@ -239,6 +250,7 @@ fn designs_finish_alike() {
             needs_its_hops(),
             cleared_one(n),
             cleared_matrix(n),
+            spaced(n),
         ] {
             check_orders(&design, &mut random);
         }

@@ -136,6 +136,11 @@ impl Coverage {
                     .any(|pipe| null_between(array, &pipe.processes)),
             ),
             ("longer stride", !within_one(&array.increment)),
+            ("divisor of place above 1", array.divisor > 1),
+            (
+                "divisor of a stream above 1",
+                array.streams.iter().any(|stream| stream.divisor > 1),
+            ),
             ("over 500 processes", array.processes.len() > 500),
             ("4096 instances", array.instances.len() == 4096),
         ] {
@@ -221,12 +226,12 @@ fn designs_run_to_their_end() {
     }
 }
 
-/// After the examples come pairs of scripts on request 2.5's designs: by Run, and by the highest ready step.
+/// After the examples come pairs of scripts on designs of requests 2.5 and 2.7: by Run, and by the highest ready step.
 #[test]
 fn two_orders_have_one_end() {
     let scripts = replay_scripts();
     let pairs = scripts[examples().len() + example_scripts().len()..].chunks_exact(2);
-    for pair in pairs.take(4) {
+    for pair in pairs.take(6) {
         let [by_run, by_steps] = [0, 1].map(|number| replay(&pair[number]));
         let end = |output: &str| {
             let lines: Vec<&str> = output.lines().collect();
@@ -249,6 +254,8 @@ fn check_arrays(coverage: &Coverage) {
         "stationary",
         "negative direction",
         "longer stride",
+        "divisor of place above 1",
+        "divisor of a stream above 1",
         "over 500 processes",
         "4096 instances",
     ]

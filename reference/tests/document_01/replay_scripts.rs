@@ -49,7 +49,7 @@ fn every_call() {
         [RESULT, 0, 0, 0],
     ]);
     let expected = "\
-accept 1 1 3 3 27 13
+accept 1 1 3 3 27 13 1 1 1 1
 start
 ready 0 1 0 0 0 0 0 0 0 0 0 0 0 0 0 0 0 0
 step
@@ -227,7 +227,7 @@ fn cut_off_scripts() {
 #[test]
 fn the_examples() {
     let polynomial = "\
-accept 5 9 11 3 95 141
+accept 5 9 11 3 95 141 1 1 1 1
 start
 run 40 1
 ready 3 0 7 0 0 0 0 0 0 0 0 0 0 0 0 0 0 0
@@ -235,7 +235,7 @@ run 101 0
 result 1 2 3 4 5 6 4 13 28 27 18
 ";
     let smoothing = "\
-accept 6 18 17 3 112 256
+accept 6 18 17 3 112 256 1 1 1 1
 start
 run 40 1
 ready 2 1 6 0 0 0 0 0 0 0 0 0 0 0 0 0 0 0
@@ -243,14 +243,22 @@ run 216 0
 result 16384 32768 16384 98304 131072 294912 196608 147456 131072 65536 32768 163840 229376 208896 155648 118784 73728
 ";
     let cleared = "\
-accept 3 9 11 3 61 97
+accept 3 9 11 3 61 97 1 1 1 1
 start
 run 40 1
 ready 2 1 6 0 0 0 0 0 0 0 0 0 0 0 0 0 0 0
 run 57 0
 result 1 2 3 4 5 6 4 13 28 27 18
 ";
-    let expected = [polynomial, smoothing, cleared];
+    let slanted = "\
+accept 25 27 27 11 433 303 2 1 1 1
+start
+run 40 1
+ready 8 3 17912 0 0 0 0 0 0 0 0 0 0 0 0 0 0 0
+run 263 0
+result 1 2 3 4 5 6 7 8 9 9 8 7 6 5 4 3 2 1 30 24 18 84 69 54 138 114 90
+";
+    let expected = [polynomial, smoothing, cleared, slanted];
     assert_eq!(example_scripts().len(), expected.len());
     for (example, expected) in example_scripts().iter().zip(expected) {
         assert_eq!(replay(&example.script.bytes()), expected);
@@ -338,6 +346,6 @@ fn a_declined_start_leaves_the_lists() {
         values: vec![3, 5],
         calls: vec![[WINDOW, 0, 0, 0], [RUN, 99, 0, 0], [RESULT, 0, 0, 0]],
     };
-    let expected = "accept 1 1 3 3 27 13\nrefused 20\nwindow 0\nrun 13 0\nresult 0 0 0\n";
+    let expected = "accept 1 1 3 3 27 13 1 1 1 1\nrefused 20\nwindow 0\nrun 13 0\nresult 0 0 0\n";
     assert_eq!(replay(&script.bytes()), expected);
 }

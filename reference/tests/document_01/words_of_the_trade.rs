@@ -118,14 +118,18 @@ fn soak_count_and_drain_make_a_moving_pipe() {
 
 #[test]
 fn divisors() {
-    assert_eq!(shorten(&[0, 0, 0]), (0, vec![0, 0, 0]));
-    assert_eq!(shorten(&[i32::MIN, 0, 0]), (1 << 31, vec![-1, 0, 0]));
-    assert_eq!(shorten(&[i32::MIN, 1, 0]), (1, vec![i32::MIN, 1, 0]));
+    let shortened = |vector: [i32; 3]| {
+        let short = shorten(&vector);
+        (short.divisor, short.vector)
+    };
+    assert_eq!(shortened([0, 0, 0]), (0, vec![0, 0, 0]));
+    assert_eq!(shortened([i32::MIN, 0, 0]), (1 << 31, vec![-1, 0, 0]));
+    assert_eq!(shortened([i32::MIN, 1, 0]), (1, vec![i32::MIN, 1, 0]));
     assert_eq!(
-        shorten(&[0, i32::MAX, i32::MAX]),
+        shortened([0, i32::MAX, i32::MAX]),
         (i32::MAX as u32, vec![0, 1, 1])
     );
-    assert_eq!(shorten(&[-12, 18, 30]), (6, vec![-2, 3, 5]));
+    assert_eq!(shortened([-12, 18, 30]), (6, vec![-2, 3, 5]));
     for a in -20i32..=20 {
         for b in 1..=20 {
             let largest = (1..=20).filter(|d| a % d == 0 && b % d == 0).max();

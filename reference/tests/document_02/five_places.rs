@@ -21,8 +21,8 @@ fn long_hop(description: &Description) -> Option<usize> {
     (0..description.streams()).find(|&stream| {
         let line = shortest(&description.maps[stream], &description.step, 11, 12);
         line.is_ok_and(|line| {
-            let moving = !is_zero(&times(&description.place, &line));
-            moving && (6..=8).contains(&dot(&description.step, &line))
+            let moving = !is_zero(&times(&description.place, &line.vector));
+            moving && (6..=8).contains(&dot(&description.step, &line.vector))
         })
     })
 }

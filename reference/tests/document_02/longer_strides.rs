@@ -16,7 +16,8 @@ use reference::Refusal;
 use crate::{accept, results, streams_before};
 
 fn increment(description: &Description) -> Point {
-    shortest(&description.place, &description.step, 7, 8).expect("an increment")
+    let short = shortest(&description.place, &description.step, 7, 8);
+    short.expect("an increment").vector
 }
 
 fn table(description: &Description) -> Vec<Row> {
@@ -151,7 +152,7 @@ fn answered_by_what_comes_after() {
         assert_ne!(number, 9);
         let long = Description::read(bytes).is_ok_and(|description| {
             let increment = shortest(&description.place, &description.step, 7, 8);
-            increment.is_ok_and(|increment| !within_one(&increment))
+            increment.is_ok_and(|increment| !within_one(&increment.vector))
         });
         if long && !(1..=8).contains(&number) {
             *answers.entry(number).or_default() += 1;
@@ -200,6 +201,7 @@ fn the_decimating_filter() {
         pipes: 3,
         words: 129,
         steps: 249,
+        divisors: [1, 1, 1, 1, 0, 0, 0],
     };
     assert_eq!(accept(&description), Ok(figures));
     let rows = table(&description);

@@ -1,5 +1,6 @@
 //! Tests of the second implementation against document 02.
 
+mod divisors;
 mod five_places;
 mod fixed_point;
 mod guards;

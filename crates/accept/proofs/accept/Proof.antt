@@ -1,10 +1,13 @@
 -- `accept::accept` meets its contract. Assumes nothing.
 use borrow.Author.Needs.{needs}
-use mathlib.Core.Path.{sym, _∙_, ap}
+use mathlib.Core.Path.{sym, _∙_, ap, subst}
 use denote.Ref.{now}
 use Rattle.meaning.specs.Limits.{gaugeLimits}
-use Rattle.meaning.specs.Accept.{figures}
+use Rattle.meaning.specs.Description.{descriptionOf}
+use Rattle.meaning.specs.Accept.{figures, divisors}
 use Rattle.refusals.specs.Accepted.{accepted-within}
+use Rattle.divisors.specs.Used.{Used}
+use Rattle.pipes.specs.Accepted.{streams-used}
 use Rattle.accept.specs.Shares.{described, accepts, refuses}
 use Rattle.accept.proofs.accept.Statement.{statement}
 use Rattle.accept.proofs.accept.Tie as tie
@@ -19,10 +22,17 @@ figures-of-requires : tie.Need-figures-of-requires
 figures-of-requires c κs =
     rw (← c .description .ensures) at (described (now (c .before .before .before .before .args .s)) (sym (c .before .before .refusal-of .ensures) ∙ c .before .if1 .taken))
 
+divisors-of-requires : tie.Need-divisors-of-requires
+divisors-of-requires c κs =
+    let s = now (c .before .before .before .before .before .args .s) in
+    let a = accepted-within gaugeLimits s (sym (c .before .before .before .refusal-of .ensures) ∙ c .before .before .if1 .taken) in
+    subst Used (sym (c .before .description .ensures)) (record { ranged = a .0 .ranged; streams = streams-used s })
+
 returns : tie.Need-returns
 returns c =
-    accepts (now (c .before .before .before .before .before .args .s)) (sym (c .before .before .before .refusal-of .ensures) ∙ c .before .before .if1 .taken)
-    (c .figures-of .ensures ∙ ap figures (c .before .description .ensures))
+    accepts (now (c .before .before .before .before .before .before .args .s)) (sym (c .before .before .before .before .refusal-of .ensures) ∙ c .before .before .before .if1 .taken)
+    (c .before .figures-of .ensures ∙ ap figures (c .before .before .description .ensures))
+    (c .divisors-of .ensures ∙ ap divisors (c .before .before .description .ensures))
 
 returns-2 : tie.Need-returns-2
 returns-2 c = refuses (now (c .before .before .before .args .s)) (c .before .refusal-of .ensures) (c .if1 .left)
@@ -30,4 +40,4 @@ returns-2 c = refuses (now (c .before .before .before .args .s)) (c .before .ref
 pub accept-spec : {M : Type 1} → statement M
 accept-spec =
     tie.close
-    (tie.spec refusal-of-requires description-requires figures-of-requires returns returns-2)
+    (tie.spec refusal-of-requires description-requires figures-of-requires divisors-of-requires returns returns-2)

@@ -1,0 +1,2 @@
+-- What the divisors are found from.
+pub mod Used
