@@ -2,7 +2,7 @@
 -- and a second row (0, 0, 1) into every matrix. Here is that this changes nothing: what document 01 says of two loops is what the definitions say of
 -- the padded ones. Assumes nothing.
 use mathlib.Core.Path.{_≡_, sym, _∙_, ap, ap₂, subst, subst₂}
-use mathlib.Core.Logic.{_⊎_, inl, inr}
+use mathlib.Core.Logic.{_⊎_, inl, inr, _↔_}
 use mathlib.Core.Bool.{cond}
 use mathlib.Core.List.{List}
 use Prim.Native.Nat.{ℕ, _+_, _*_}
@@ -12,11 +12,12 @@ use lib.IntN.{ℤ, pos, negℤ, _+ℤ_, _-ℤ_, _*ℤ_}
 use lib.Signed.{_≤ℤ_, _<ℤ_, <ℤ-irrefl}
 use Rattle.integers.specs.Differences.{gaps, parts, up}
 use Rattle.integers.specs.Variables.{linear}
-use Rattle.integers.specs.Ring.{ring, quotes, literal, solve, solve3}
-use Rattle.integers.specs.Vectors.{dot, cross, image}
+use Rattle.integers.specs.Ring.{ring, quotes, literal, solve, solve3, solve-by, given, Ex.var, Ex.minus}
+use Rattle.integers.specs.Vectors.{sub3, scale3, dot, cross, image, same2}
 use Rattle.integers.specs.declared.V3.{V3}
 use Rattle.integers.specs.declared.V2.{V2}
 use Rattle.integers.specs.declared.Matrix.{Matrix}
+use Rattle.lattice.specs.Values.{Value, minorsWith}
 use Rattle.meaning.specs.declared.Nest.{Nest}
 use Rattle.meaning.specs.declared.Sizes.{Sizes}
 use Rattle.meaning.specs.Loops.{size}
@@ -93,6 +94,29 @@ flat-row k p e f g = one (up (p .a -ℤ k .lo .a)) (size (k .lo .b) (k .hi .b)) 
         times : (i : ℕ) → i * 1 + 0 ≡ i
         times i = omega arith
 
+-- ---- the values of the row
+
+-- at a whole pair
+flat-dot : (p : V3) (i j : ℤ) → dot p (record { x = i; y = j; z = pos 0 }) ≡ p .x *ℤ i +ℤ p .y *ℤ j
+flat-dot = ring 1 2 _ λ ρ. simp (quotes, literal ρ) (solve ρ _ _ tt)
+
+pub flat-value : {m : Matrix} → Flat m → (a : ℤ)
+    → Value m (record { a = a; b = pos 0 }) ↔ ((i : ℤ) × (j : ℤ) × (m .top .x *ℤ i +ℤ m .top .y *ℤ j ≡ a))
+flat-value {m} f a = (
+  λ v. let x = v .0 in (x .x, x .y, two-terms (m .top) x (f .top) ∙ ap (λ (y : V2). y .a) (v .1)),
+  λ w. (record { x = w .0; y = w .1; z = pos 0 }, same2 (flat-dot (m .top) (w .0) (w .1) ∙ w .2) (no-second f _)),
+)
+  where
+    two-terms : (p x : V3) → p .z ≡ pos 0 → p .x *ℤ x .x +ℤ p .y *ℤ x .y ≡ dot p x
+    two-terms = ring 2 0 _ λ ρ. simp (quotes, literal ρ) (λ e. solve-by _ _ (given (minus (var 5)) e) tt)
+
+-- the minors with one are that value alone, negated
+pub flat-minors : {m : Matrix} → Flat m → (a : ℤ) → minorsWith m (record { a = a; b = pos 0 }) ≡ record { x = pos 0; y = pos 0; z = negℤ a }
+flat-minors {m} f a = ap (λ (w : V3). sub3 (scale3 (pos 0) (m .top)) (scale3 a w)) (f .low) ∙ go (m .top) a
+  where
+    go : (p : V3) (a : ℤ) → sub3 (scale3 (pos 0) p) (scale3 a unit3) ≡ record { x = pos 0; y = pos 0; z = negℤ a }
+    go = ring 1 1 _ λ ρ. simp (quotes, literal ρ) (solve3 (solve ρ _ _ tt) (solve ρ _ _ tt) (solve ρ _ _ tt))
+
 -- ---- lines
 
 -- the cross product of the padded rows is (b, −a, 0)
@@ -111,11 +135,8 @@ pub flat-shortest : {n : Nest} {m : Matrix} {u : V3} → Flat m → Line n m u �
     → (t : ℤ) × (i ≡ t *ℤ u .x) × (j ≡ t *ℤ u .y)
 flat-shortest {m} {u} f l i j e =
     let d : V3 = record { x = i; y = j; z = pos 0 } in
-    let r = l .short .all d (record { top = top (m .top) i j ∙ e; low = no-second f d }) in
+    let r = l .short .all d (record { top = flat-dot (m .top) i j ∙ e; low = no-second f d }) in
     (r .by, ap (λ (w : V3). w .x) (r .eq), ap (λ (w : V3). w .y) (r .eq))
-  where
-    top : (p : V3) (i j : ℤ) → dot p (record { x = i; y = j; z = pos 0 }) ≡ p .x *ℤ i +ℤ p .y *ℤ j
-    top = ring 1 2 _ λ ρ. simp (quotes, literal ρ) (solve ρ _ _ tt)
 
 -- ---- the written order is that of the two loops
 

@@ -23,11 +23,11 @@ use Rattle.lattice.specs.Independence.{combined, only-trivial}
 abbrev pub Value : Matrix → V2 → Type 0
 Value m y = (x : V3) × (image m x ≡ y)
 
--- the minors of m with y as a further column: of each column of m and y, the first times the second's last less the last times the second's first
+-- the minors of m with y as a further column: of each column of m, its first word times y's second less its second times y's first
 abbrev pub minorsWith : Matrix → V2 → V3
 minorsWith m y = sub3 (scale3 (y .b) (m .top)) (scale3 (y .a) (m .low))
 
--- how far apart the values of m lie, if g is its divisor: `rows` and `columns` apart, which times each other are g
+-- how far apart the values of m lie: `rows` times `columns` is g
 pub record Apart (m : Matrix) (g : ℕ) : Type 0 where
   pub rows : ℕ
   pub columns : ℕ
@@ -115,7 +115,7 @@ added : (p x y : V3) (a b : ℤ) → dot p x ≡ a -ℤ b → dot p y ≡ b → 
 added = ring 3 2 _ λ ρ. simp quotes (λ d e. solve-by _ _ (given (plain 1) d also given (plain 1) e) tt)
 
 module _ (m : Matrix) {r : Short} (s : Shortens (cross (m .top) (m .low)) r) (h : Independent (m .top) (m .low)) where
-  -- the first row shortened: its divisor is that of the rows
+  -- the first row shortened: its divisor is how far apart the rows lie
   abbrev first : Short
   first = shortened (m .top)
 

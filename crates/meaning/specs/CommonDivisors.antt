@@ -3,9 +3,9 @@
 use mathlib.Core.Path.{_≡_}
 use mathlib.Core.Logic.{_↔_}
 use mathlib.Core.List.{List}
-use Prim.Native.Nat.{ℕ, _+_, _≤_, _<_}
+use Prim.Native.Nat.{ℕ, _+_, _≤_, _<_, _∣_}
 use lib.ListN.{length, getD}
-use lib.IntN.{pos, negℤ}
+use lib.IntN.{ℤ, pos, negℤ, natAbs, _+ℤ_, _*ℤ_}
 use Rattle.integers.specs.Vectors.{zero2, cross}
 use Rattle.integers.specs.declared.V3.{V3}
 use Rattle.integers.specs.declared.V2.{V2}
@@ -39,11 +39,12 @@ pub record Shown (d : Description) (m : Matrix) (k : ℕ) : Type 0 where
   pub shortens : Shortens before (record { vector = short; divisor = k })
   pub line : IsLine (d .nest) m (turn (d .nest .step) short)
   pub not-zero : k ≡ 0 → ⊥
-  -- the values of the matrix at all whole points: those whose minors with it the divisor divides
-  pub values : (y : V2) → Value m y ↔ Divides k (minorsWith m y)
-  -- "how far apart" they lie: every so many rows, and every so many points in such a row; of two loops the divisor is how far apart they lie in the one row
+  -- "how far apart" the values of the matrix at all whole points lie: for two loops, every k-th whole number is one
+  pub multiples : d .sizes .loops ≡ 2 → (a : ℤ) → ((i : ℤ) × (j : ℤ) × (m .top .x *ℤ i +ℤ m .top .y *ℤ j ≡ a)) ↔ (k ∣ natAbs a)
+  -- for three, every so many rows hold some, and in such a row every so many points are, so that of all points one in k is; they are the points with which k
+  -- divides the matrix's minors
   pub apart : Apart m k
-  pub one-row : d .sizes .loops ≡ 2 → apart .columns ≡ 1
+  pub values : (y : V2) → Value m y ↔ Divides k (minorsWith m y)
 
 -- value i of Accept's answer, from 0: the six figures, then the divisors of place and of the six streams
 abbrev pub valueAt : Limits → List ℕ → ℕ → ℕ

@@ -155,11 +155,11 @@ clearedColumn = columnWith (clear 2 1 (pos 1) ∷ product)
 abbrev pub matrixSlanted : List ℕ
 matrixSlanted = matricesBy product 1 (pos 1) (pos 1 ∷ pos 1 ∷ pos 0 ∷ pos 1 ∷ negsuc 0 ∷ pos 0 ∷ []) (pair (pos 1) (pos 0))
 
--- y := y + x on loops 0..2 and 0..1, place 2i, step 2i+j, streams x: i, y: i, both kept: 5 processes, every second one null
+-- y := y + x on loops 0..2 twice, place 2i, step 2i+j, streams x: i, y: i, both kept: 5 processes, every second one null
 abbrev pub spaced : List ℕ
 spaced =
     bytes
-    ((pos 2 ∷ pos 2 ∷ pos 1 ∷ pos 0 ∷ pos 0 ∷ pos 2 ∷ pos 1 ∷ pos 1 ∷ pos 1 ∷ pos 2 ∷ pos 1 ∷ pos 2 ∷ pos 0 ∷ [])
+    ((pos 2 ∷ pos 2 ∷ pos 1 ∷ pos 0 ∷ pos 0 ∷ pos 2 ∷ pos 2 ∷ pos 1 ∷ pos 1 ∷ pos 2 ∷ pos 1 ∷ pos 2 ∷ pos 0 ∷ [])
     ++ ((pos 1 ∷ pos 0 ∷ pos 1 ∷ pos 0 ∷ pos 1 ∷ pos 1 ∷ []) ++ line 1 1 1 0))
 
 -- one instance, place −3i, step 2i+j, six streams with index maps i, 2i, 3i, 4i, −4i and −2i, all kept

@@ -33,8 +33,8 @@ slanted =
     (naturals (acceptValues (accept gaugeLimits matrixSlanted)) is naturals (9 ∷ 8 ∷ 12 ∷ 7 ∷ 165 ∷ 88 ∷ 2 ∷ 1 ∷ 1 ∷ 1 ∷ 0 ∷ 0 ∷ 0 ∷ []))
     ∷ (counts matrixSlanted 9 is naturals (0 ∷ 2 ∷ 0 ∷ 2 ∷ 0 ∷ 2 ∷ 0 ∷ 2 ∷ 0 ∷ []))
     -- a place 2i for two loops: 2, and every second process works
-    ∷ (naturals (acceptValues (accept gaugeLimits spaced)) is naturals (5 ∷ 6 ∷ 6 ∷ 2 ∷ 61 ∷ 78 ∷ 2 ∷ 1 ∷ 1 ∷ 0 ∷ 0 ∷ 0 ∷ 0 ∷ []))
-    ∷ (counts spaced 5 is naturals (2 ∷ 0 ∷ 2 ∷ 0 ∷ 2 ∷ []))
+    ∷ (naturals (acceptValues (accept gaugeLimits spaced)) is naturals (5 ∷ 9 ∷ 6 ∷ 2 ∷ 61 ∷ 81 ∷ 2 ∷ 1 ∷ 1 ∷ 0 ∷ 0 ∷ 0 ∷ 0 ∷ []))
+    ∷ (counts spaced 5 is naturals (3 ∷ 0 ∷ 3 ∷ 0 ∷ 3 ∷ []))
     -- each of six streams has its own, positive whatever the sign of its words; the most that three loops can have is 32
     ∷ (naturals (acceptValues (accept gaugeLimits sixStreams)) is naturals (1 ∷ 1 ∷ 6 ∷ 6 ∷ 49 ∷ 25 ∷ 3 ∷ 1 ∷ 2 ∷ 3 ∷ 4 ∷ 4 ∷ 2 ∷ []))
     ∷ (naturals (acceptValues (accept gaugeLimits farApart)) is naturals (1 ∷ 1 ∷ 1 ∷ 1 ∷ 9 ∷ 5 ∷ 1 ∷ 32 ∷ 0 ∷ 0 ∷ 0 ∷ 0 ∷ 0 ∷ []))

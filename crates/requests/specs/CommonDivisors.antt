@@ -1,37 +1,39 @@
 -- Request 2.7: the divisors in Accept's answer are those that the shortening rule takes out, and tell how far apart values and working processes lie. Assumes nothing.
 use mathlib.Core.Path.{_≡_, refl, sym, _∙_, ap, subst}
+use mathlib.Core.Logic.{_↔_}
 use mathlib.Core.Bool.{Bool, true, false}
 use mathlib.Core.List.{List, [], _∷_, map}
-use Prim.Native.Nat.{ℕ, zero, suc, _+_, _≤_, _<_}
-use native.Mathlib.Nat.{eq-one-of-dvd-one}
+use Prim.Native.Nat.{ℕ, zero, suc, _+_, _≤_, _<_, _∣_}
+use native.Mathlib.Nat.{dvd-zero}
 use native.Mathlib.Omega.{arith}
 use lib.Dec.{eqb}
 use lib.ListN.{length, getD, drop}
-use lib.IntN.{pos}
+use lib.IntN.{ℤ, pos, natAbs, _+ℤ_, _*ℤ_}
 use lib.Seq.{getD-drop}
 use borrow.Author.Tests.{eqb-true, eqb-false}
 use Rattle.integers.specs.declared.V3.{V3}
+use Rattle.integers.specs.declared.V2.{V2}
 use Rattle.integers.specs.declared.Matrix.{Matrix}
-use Rattle.integers.specs.Ring.{ring, quotes, literal, solve}
-use Rattle.integers.specs.Vectors.{zero2, zero3, shift3, dot, same2}
-use Rattle.lattice.specs.Shorten.{Shortens, shortens}
+use Rattle.integers.specs.Bounds.{abs-neg}
+use Rattle.integers.specs.Vectors.{zero2, shift3}
+use Rattle.lattice.specs.Shorten.{Divides, Shortens, shortens}
 use Rattle.lattice.specs.Lattice.{Independent, divisor-not}
 use Rattle.lattice.specs.Independence.{trivial-only}
-use Rattle.lattice.specs.Values.{Value, Apart, values, apart}
+use Rattle.lattice.specs.Values.{Value, minorsWith, values, apart}
 use Rattle.meaning.specs.declared.Limits.{Limits}
 use Rattle.meaning.specs.declared.Stream.{Stream}
 use Rattle.meaning.specs.declared.Row.{Row}
 use Rattle.meaning.specs.declared.Description.{Description}
 use Rattle.meaning.specs.Loops.{unshortened, shortOf, lineOf, divisor, increment}
 use Rattle.meaning.specs.Space.{processes}
-use Rattle.meaning.specs.Description.{sizesOf, unit3, descriptionOf}
+use Rattle.meaning.specs.Description.{sizesOf, descriptionOf}
 use Rattle.meaning.specs.Accept.{accept, Accepts, streamDivisor}
 use Rattle.meaning.specs.Answers.{acceptValues}
 use Rattle.meaning.specs.Calls.{table}
 use Rattle.meaning.specs.Conditions.{FullRank, HasLine, streamOf, Meets}
 use Rattle.meaning.specs.Demand2.{rowAt}
 use Rattle.meaning.specs.CommonDivisors.{Before, Before.of-two, Before.of-three, Shown, valueAt, Divided, CommonDivisors}
-use Rattle.geometry.specs.TwoLoops.{Flat, planar, flat-stream, no-second, flat-cross}
+use Rattle.geometry.specs.TwoLoops.{Flat, planar, flat-stream, flat-value, flat-minors, flat-cross}
 use Rattle.geometry.specs.Divisors.{in-use, past-use}
 use Rattle.guarantee.specs.NestConditions.{line-found}
 use Rattle.guarantee.specs.Acceptance.{accepted-not-refused, streams-length}
@@ -60,19 +62,17 @@ module _ (d : Description) (m : Matrix) (sizes : (2 ≤ d .sizes .loops) × (d .
       go true f g = of-two (f refl) (flat-cross (flat (f refl)))
       go false f g = of-three (let n = g refl in omega (arith, sizes .0, sizes .1)) refl
 
-  -- of two loops the values of a row are all its points
-  one-row : (a : Apart m (divisor m)) → d .sizes .loops ≡ 2 → a .columns ≡ 1
-  one-row a e = eq-one-of-dvd-one (a .within zero2 (zero3, same2 (sent-zero (m .top)) (sent-zero (m .low))) (pos 1) .0 (
-    unit3,
-    same2
-        (sent-unit (m .top) ∙ flat e .top) (no-second (flat e) unit3),
-  ))
-    where
-      sent-zero : (p : V3) → dot p zero3 ≡ pos 0
-      sent-zero = ring 1 0 _ λ ρ. simp (quotes, literal ρ) (solve ρ _ _ tt)
-
-      sent-unit : (p : V3) → dot p unit3 ≡ p .z
-      sent-unit = ring 1 0 _ λ ρ. simp (quotes, literal ρ) (solve ρ _ _ tt)
+  -- of two loops the row's values are the multiples of the divisor
+  multiples : ((y : V2) → Value m y ↔ Divides (divisor m) (minorsWith m y)) → d .sizes .loops ≡ 2 → (a : ℤ)
+      → ((i : ℤ) × (j : ℤ) × (m .top .x *ℤ i +ℤ m .top .y *ℤ j ≡ a)) ↔ (divisor m ∣ natAbs a)
+  multiples h e a =
+      let v = flat-value (flat e) a in
+      let w = h (record { a = a; b = pos 0 }) in
+      let minors = flat-minors (flat e) a in (
+        λ p. subst (λ (n : ℕ). divisor m ∣ n) (ap (λ (u : V3). natAbs (u .z)) minors ∙ abs-neg a) (w .0 (v .1 p) .atz),
+        λ k. v .0 (w .1 (subst (Divides (divisor m)) (sym minors)
+            (record { atx = dvd-zero _; aty = dvd-zero _; atz = subst (λ (n : ℕ). divisor m ∣ n) (sym (abs-neg a)) k }))),
+      )
 
   shown : FullRank m → HasLine (d .nest) m → Shown d m (divisor m)
   unfolding lineOf
@@ -84,9 +84,9 @@ module _ (d : Description) (m : Matrix) (sizes : (2 ≤ d .sizes .loops) × (d .
         shortens = short;
         line = line-found (d .nest) m f h;
         not-zero = λ e. divisor-not (m .top) (m .low) short free (ap pos e);
-        values = values m short free;
+        multiples = multiples (values m short free);
         apart = apart m short free;
-        one-row = one-row (apart m short free);
+        values = values m short free;
       }
     where
       short : Shortens (unshortened m) (shortOf m)
