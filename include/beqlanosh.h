@@ -23,8 +23,8 @@ extern "C" {
 #define BEQLANOSH_MOST_PROCESSES 1024
 
 /* Accept: processes, instances, elements, pipes, state words and total steps go into the first six figures, then the divisor of place and those of the six
- * streams, 0 past the streams in use. The divisor of a matrix is the greatest common divisor of its row's two words, or of the cross product of its two
- * rows: of all whole points that many times fewer are values of the matrix. Declines by 1 to 17. */
+ * streams, 0 past the streams in use. The divisor of a matrix is the greatest common divisor of its row's two words, or of the words of its rows' cross
+ * product: of all whole points one in so many is a value of the matrix. Declines by 1 to 17. */
 uint32_t beqlanosh_accept(const uint8_t *bytes, size_t length, uint32_t figures[13]);
 
 /* Table: a row for each process, in row order, goes into the words, 21 words a row. Declines by 1 to 17, and by 18 if there is no room for all rows. */

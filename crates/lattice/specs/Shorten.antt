@@ -67,7 +67,7 @@ whole-divides {d} u e =
       atz = divides-times d (u .z) (ap (λ (w : V3). w .z) e);
     }
 
-pub divisor-divides : (v : V3) → Divides (divisorOf v) v
+divisor-divides : (v : V3) → Divides (divisorOf v) v
 divisor-divides v =
     let h = gcd-greatest (natAbs (v .x)) (gcdOf (natAbs (v .y)) (natAbs (v .z))) in
     let k = gcd-greatest (natAbs (v .y)) (natAbs (v .z)) in
