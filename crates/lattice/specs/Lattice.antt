@@ -31,22 +31,7 @@ pub record Shortest (p q u : V3) : Type 0 where
 abbrev pub Independent : V3 → V3 → Type 0
 Independent p q = cross p q ≡ zero3 → ⊥
 
--- ---- L1: the shortened cross product is sent to zero
-
-module _ (p q : V3) {r : Short} (s : Shortens (cross p q) r) (h : Independent p q) where
-  pub divisor-not : pos (r .divisor) ≡ pos 0 → ⊥
-  divisor-not e = h (divisor-zero s (ap natAbs e))
-
-  -- a row that sends the cross product to zero sends the shortened one there
-  row : (w : V3) → dot w (cross p q) ≡ pos 0 → dot w (r .vector) ≡ pos 0
-  row w e =
-      cancel-zero (pos (r .divisor)) (dot w (r .vector)) divisor-not
-      (sym (dot-scale w (r .vector) (pos (r .divisor))) ∙ ap (dot w) (s .times) ∙ e)
-
-  pub short-null : Null p q (r .vector)
-  short-null = record { top = row p (cross-left p q); low = row q (cross-right p q) }
-
--- ---- L3: every vector that is sent to zero is a whole multiple of it
+-- ---- the shortened cross product
 
 -- d × u = 0, and u's components have a sum of multiples that is 1: d is that sum of its own components times u
 parallel : (d u : V3) → Bezout3 (pos 1) u → cross d u ≡ zero3 → Multiple u d
@@ -67,20 +52,34 @@ nothing = ring 2 2 _ λ ρ. simp (quotes, literal ρ) (λ e f. solve3
     (solve-by _ _ (given (var 2) e also given (minus (var 5)) f) tt))
 
 module _ (p q : V3) {r : Short} (s : Shortens (cross p q) r) (h : Independent p q) where
+  pub divisor-not : pos (r .divisor) ≡ pos 0 → ⊥
+  divisor-not e = h (divisor-zero s (ap natAbs e))
+
+  -- a row that sends the cross product to zero sends the shortened one there
+  row : (w : V3) → dot w (cross p q) ≡ pos 0 → dot w (r .vector) ≡ pos 0
+  row w e =
+      cancel-zero (pos (r .divisor)) (dot w (r .vector)) divisor-not
+      (sym (dot-scale w (r .vector) (pos (r .divisor))) ∙ ap (dot w) (s .times) ∙ e)
+
+  -- L1: the rows send it to zero
+  pub short-null : Null p q (r .vector)
+  short-null = record { top = row p (cross-left p q); low = row q (cross-right p q) }
+
   pub short-one : Bezout3 (pos 1) (r .vector)
   short-one = shortened-one s (λ e. h (divisor-zero s e))
 
+  -- L3: every vector that they send there is a whole multiple of it
   pub short-all : (d : V3) → Null p q d → Multiple (r .vector) d
   short-all d k =
       let u = r .vector in
       let g = pos (r .divisor) in
       let e : scale3 g (cross d u) ≡ zero3 =
       sym (cross-scale d u g) ∙ ap (cross d) (s .times) ∙ cross-cross d p q ∙ nothing p q (dot q d) (dot p d) (k .low) (k .top) in
-      parallel d u short-one (cancel3 g (cross d u) (divisor-not p q s h) e)
+      parallel d u short-one (cancel3 g (cross d u) divisor-not e)
 
   -- document 01: "the shortest non-zero whole vector that place sends to zero", up to its sign
   pub shortest : Shortest p q (r .vector)
-  shortest = record { null = short-null p q s h; all = short-all }
+  shortest = record { null = short-null; all = short-all }
 
 -- and so is its negation
 pub shortest-neg : (p q u : V3) → Shortest p q u → Shortest p q (neg3 u)

@@ -1,10 +1,10 @@
 -- The values of a matrix at all whole vectors, and how far apart they lie: the divisor of the cross product of its rows tells. Assumes nothing.
-use mathlib.Core.Path.{_≡_, refl, sym, _∙_, ap, ap₂}
+use mathlib.Core.Path.{_≡_, refl, sym, _∙_, ap, ap₂, subst}
 use mathlib.Core.Logic.{_↔_}
 use Prim.Native.Nat.{ℕ, _*_, _/_, _∣_}
 use native.Mathlib.Nat.{mul-div-cancel'}
 use native.Mathlib.Omega.{arith}
-use lib.IntN.{ℤ, pos, natAbs, _-ℤ_, _*ℤ_}
+use lib.IntN.{ℤ, pos, negsuc, natAbs, _+ℤ_, _-ℤ_, _*ℤ_}
 use lib.Signed.{quotZ}
 use Rattle.integers.specs.declared.V3.{V3}
 use Rattle.integers.specs.declared.V2.{V2}
@@ -13,7 +13,7 @@ use Rattle.integers.specs.Differences.{gaps}
 use Rattle.integers.specs.Variables.{linear}
 use Rattle.integers.specs.Ring.{ring, quotes, literal, solve, solve3, solve-by, given, _also_, Ex.var, Ex.minus, Ex.plain, Ex._⊗_}
 use Rattle.integers.specs.Order.{cancel, cancel-zero}
-use Rattle.integers.specs.Vectors.{zero3, add3, sub3, scale3, dot, cross, image, cross-scale, cross-cross, same2}
+use Rattle.integers.specs.Vectors.{zero3, sub3, scale3, shift3, shift2, dot, cross, image, cross-scale, cross-cross, image-shift, same2}
 use Rattle.lattice.specs.declared.Short.{Short}
 use Rattle.lattice.specs.Shorten.{Divides, Shortens, over, shortened, shortens, divisor-zero, exact, divides-whole, whole-divides, divides-times, Bezout3, shortened-one}
 use Rattle.lattice.specs.Lattice.{Independent, divisor-not, short-one}
@@ -36,6 +36,10 @@ pub record Apart (m : Matrix) (g : ℕ) : Type 0 where
   pub holds : (a : ℤ) → ((b : ℤ) × Value m (record { a = a; b = b })) ↔ (rows ∣ natAbs a)
   -- in a row that holds one, every `columns`-th point from it on is one, either way, and no other
   pub within : (y : V2) → Value m y → (b : ℤ) → Value m (record { a = y .a; b = b }) ↔ (columns ∣ natAbs (b -ℤ y .b))
+
+-- a value and a whole number of times another
+values-shift : (m : Matrix) {y z : V2} → Value m y → Value m z → (t : ℤ) → Value m (shift2 y t z)
+values-shift m v w t = (shift3 (v .0) t (w .0), image-shift m (v .0) (w .0) t ∙ ap₂ (λ (y z : V2). shift2 y t z) (v .1) (w .1))
 
 -- ---- y is a value exactly if the divisor divides the minors with it
 
@@ -108,12 +112,6 @@ level-minors = ring 2 2 _ λ ρ. simp (quotes, literal ρ) (solve3 (solve ρ _ _
 summed : (b u w : V3) (c k t : ℤ) → dot b u ≡ pos 1 → dot b (scale3 (c *ℤ k) w) ≡ dot b (scale3 (c *ℤ t) u) → c *ℤ (k *ℤ dot b w) ≡ c *ℤ t
 summed = ring 3 3 _ λ ρ. simp (quotes, literal ρ) (λ o e. solve-by _ _ (given (plain 1) e also given (var 9 ⊗ var 11) o) tt)
 
-moved : (p x y : V3) (a b c : ℤ) → dot p x ≡ a → dot p y ≡ b → a -ℤ b ≡ c → dot p (sub3 x y) ≡ c
-moved = ring 3 3 _ λ ρ. simp quotes (λ d e f. solve-by _ _ (given (plain 1) d also given (minus (plain 1)) e also given (plain 1) f) tt)
-
-added : (p x y : V3) (a b : ℤ) → dot p x ≡ a -ℤ b → dot p y ≡ b → dot p (add3 x y) ≡ a
-added = ring 3 2 _ λ ρ. simp quotes (λ d e. solve-by _ _ (given (plain 1) d also given (plain 1) e) tt)
-
 module _ (m : Matrix) {r : Short} (s : Shortens (cross (m .top) (m .low)) r) (h : Independent (m .top) (m .low)) where
   -- the first row shortened: its divisor is how far apart the rows lie
   abbrev first : Short
@@ -178,22 +176,28 @@ module _ (m : Matrix) {r : Short} (s : Shortens (cross (m .top) (m .low)) r) (h 
 
   within : (y : V2) → Value m y → (b : ℤ) → Value m (record { a = y .a; b = b }) ↔ (columns ∣ natAbs (b -ℤ y .b))
   within y v b = (
-    λ w. on-level (b -ℤ y .b) .0 (
-      sub3 (w .0) (v .0),
-      same2
-          (moved (m .top) (w .0) (v .0) (y .a) (y .a) (pos 0) (ap (λ (z : V2). z .a) (w .1)) (ap (λ (z : V2). z .a) (v .1)) (none (y .a)))
-          (moved (m .low) (w .0) (v .0) b (y .b) (b -ℤ y .b) (ap (λ (z : V2). z .b) (w .1)) (ap (λ (z : V2). z .b) (v .1)) refl),
-    ),
-    λ d. let w = on-level (b -ℤ y .b) .1 d in (
-      add3 (w .0) (v .0),
-      same2
-          (added (m .top) (w .0) (v .0) (y .a) (y .a) (ap (λ (z : V2). z .a) (w .1) ∙ sym (none (y .a))) (ap (λ (z : V2). z .a) (v .1)))
-          (added (m .low) (w .0) (v .0) b (y .b) (ap (λ (z : V2). z .b) (w .1)) (ap (λ (z : V2). z .b) (v .1))),
-    ),
+    λ w. on-level (b -ℤ y .b) .0 (subst (Value m) (less (y .a) b (y .b)) (values-shift m w v (negsuc 0))),
+    λ d. subst (Value m) (more (y .a) b (y .b)) (values-shift m v (on-level (b -ℤ y .b) .1 d) (pos 1)),
   )
     where
-      none : (a : ℤ) → a -ℤ a ≡ pos 0
-      none = linear 0 1 _ λ p m. simp gaps (omega arith)
+      -- less the value that is there, and with it again
+      less : (a b c : ℤ) → shift2 (record { a = a; b = b }) (negsuc 0) (record { a = a; b = c }) ≡ record { a = pos 0; b = b -ℤ c }
+      less a b c = same2 (none a) (rest b c)
+        where
+          none : (a : ℤ) → a +ℤ negsuc 0 *ℤ a ≡ pos 0
+          none = linear 0 1 _ λ p m. simp gaps (omega arith)
+
+          rest : (b c : ℤ) → b +ℤ negsuc 0 *ℤ c ≡ b -ℤ c
+          rest = linear 0 2 _ λ p m. simp gaps (omega arith)
+
+      more : (a b c : ℤ) → shift2 (record { a = a; b = c }) (pos 1) (record { a = pos 0; b = b -ℤ c }) ≡ record { a = a; b = b }
+      more a b c = same2 (same a) (whole b c)
+        where
+          same : (a : ℤ) → a +ℤ pos 1 *ℤ pos 0 ≡ a
+          same = linear 0 1 _ λ p m. simp gaps (omega arith)
+
+          whole : (b c : ℤ) → c +ℤ pos 1 *ℤ (b -ℤ c) ≡ b
+          whole = linear 0 2 _ λ p m. simp gaps (omega arith)
 
   pub apart : Apart m (r .divisor)
   apart = record { rows = first .divisor; columns = columns; product = product; holds = holds; within = within }

@@ -23,7 +23,7 @@ pub fn gcd(a: u32, b: u32) -> u32
 }
 
 // The greatest common divisor of a vector's components.
-pub fn divisor(v: V3) -> u32
+fn divisor(v: V3) -> u32
     ensures { λ r. ⌜ r ≡ divisorOf v ⌝ }
 {
     gcd(

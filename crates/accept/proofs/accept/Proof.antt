@@ -3,7 +3,6 @@ use borrow.Author.Needs.{needs}
 use mathlib.Core.Path.{sym, _∙_, ap, subst}
 use denote.Ref.{now}
 use Rattle.meaning.specs.Limits.{gaugeLimits}
-use Rattle.meaning.specs.Description.{descriptionOf}
 use Rattle.meaning.specs.Accept.{figures, divisors}
 use Rattle.refusals.specs.Accepted.{accepted-within}
 use Rattle.divisors.specs.Used.{Used}
