@@ -22,7 +22,7 @@ use Rattle.meaning.specs.Sorted.{Sorted, Distinct}
 use Rattle.geometry.specs.Members.{Mapped, map-in, in-each, each-in}
 use Rattle.geometry.specs.Sorting.{sorted-map, sorted-by-map, sorted-each}
 use Rattle.geometry.specs.Numbers.{and-left, and-right, both, lt-le}
-use Rattle.geometry.specs.Instances.{loop-in, in-loop, walk-sorted, within-in, in-within}
+use Rattle.geometry.specs.Instances.{loop-in, in-loop, progression-sorted, within-in, in-within}
 
 -- ---- boxes
 
@@ -125,10 +125,10 @@ module _ (k : Box) where
   pub points-sorted : Sorted Row (points k)
   unfolding points
   points-sorted =
-      sorted-each {R = Precedes (pos 1)} row (λ i. sorted-by-map (at i) (λ u v r. by-b refl (runs-lt u v r)) (walk-sorted onward _ _))
+      sorted-each {R = Precedes (pos 1)} row (λ i. sorted-by-map (at i) (λ u v r. by-b refl (runs-lt u v r)) (progression-sorted onward _ _))
       (λ i j p q r u w.
       by-a (subst (λ (z : ℤ). z <ℤ q .a) (sym (row-a i p u)) (subst (λ (z : ℤ). i <ℤ z) (sym (row-a j q w)) (runs-lt i j r))))
-      (walk-sorted onward _ _)
+      (progression-sorted onward _ _)
 
 -- ---- the box around points has them all
 

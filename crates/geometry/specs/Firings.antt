@@ -133,7 +133,7 @@ module _ {n : Nest} (layout : Layout n) where
       (sorted-map (λ x x' r e. r .2 (one-step (r .0) (r .1) e))
       (sorted-with (RunAt n y) (in-at (layout .dirs) y) (sent-distinct (layout .dirs) (n .place) y)))
 
-  sooner-later : (y : V2) (i j : ℕ) → i < j → Sooner n (runAt n y i) (runAt n y j)
+  pub sooner-later : (y : V2) (i j : ℕ) → i < j → Sooner n (runAt n y i) (runAt n y j)
   sooner-later y i j h =
       subst₂ _<ℤ_ (sym (dot-shift (n .step) (first n y) (increment n) (pos i))) (sym (dot-shift (n .step) (first n y) (increment n) (pos j)))
       (on-less (pos i) (pos j) (stepOf n (increment n)) (stepOf n (first n y)) (layout .inc .ahead) (lt-in (omega arith)))

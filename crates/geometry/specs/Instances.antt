@@ -11,7 +11,7 @@ use Rattle.integers.specs.Variables.{linear}
 use Rattle.integers.specs.declared.V3.{V3}
 use Rattle.meaning.specs.declared.Nest.{Nest}
 use Rattle.meaning.specs.Lists.{each}
-use Rattle.meaning.specs.Loops.{walk, size, loop, instances}
+use Rattle.meaning.specs.Loops.{progression, size, loop, instances}
 use Rattle.meaning.specs.Points.{Direction, Direction.onward, Direction.back, Between, Precedes, Directed, Within, Earlier, Earlier.by-outer, Earlier.by-middle, Earlier.by-inner}
 use Rattle.meaning.specs.Sorted.{Sorted, Sorted.none, Sorted.more, Distinct}
 use Rattle.geometry.specs.Members.{map-in, in-each, each-in, each-length, total-same}
@@ -30,49 +30,55 @@ pub record Nth (a d : ℤ) (n : ℕ) (x : ℤ) : Type 0 where
 pub next : (i : ℕ) (a d : ℤ) → (a +ℤ d) +ℤ pos i *ℤ d ≡ a +ℤ pos (suc i) *ℤ d
 next i = linear 0 2 _ λ p m. simp gaps (omega arith)
 
-pub walk-in : (a d : ℤ) (n : ℕ) {x : ℤ} → In x (walk a d n) → Nth a d n x
-unfolding walk
-walk-in a d zero h = elim h [ ]
-walk-in a d (suc n) (here e) = record { at = 0; lt = omega arith; eq = e ∙ sym (zero-on a d) }
-walk-in a d (suc n) (there k) =
-    let r = walk-in (a +ℤ d) d n k in record { at = suc (r .at); lt = omega (arith, r .lt); eq = r .eq ∙ next (r .at) a d }
+pub progression-in : (a d : ℤ) (n : ℕ) {x : ℤ} → In x (progression a d n) → Nth a d n x
+unfolding progression
+progression-in a d zero h = elim h [ ]
+progression-in a d (suc n) (here e) = record { at = 0; lt = omega arith; eq = e ∙ sym (zero-on a d) }
+progression-in a d (suc n) (there k) =
+    let r = progression-in (a +ℤ d) d n k in record { at = suc (r .at); lt = omega (arith, r .lt); eq = r .eq ∙ next (r .at) a d }
 
-in-walk : (a d : ℤ) (n i : ℕ) {x : ℤ} → i < n → x ≡ a +ℤ pos i *ℤ d → In x (walk a d n)
-unfolding walk
-in-walk a d zero i h e = absurd (omega arith)
-in-walk a d (suc n) zero h e = here (e ∙ zero-on a d)
-in-walk a d (suc n) (suc i) h e = there (in-walk (a +ℤ d) d n i (omega arith) (e ∙ sym (next i a d)))
+in-progression : (a d : ℤ) (n i : ℕ) {x : ℤ} → i < n → x ≡ a +ℤ pos i *ℤ d → In x (progression a d n)
+unfolding progression
+in-progression a d zero i h e = absurd (omega arith)
+in-progression a d (suc n) zero h e = here (e ∙ zero-on a d)
+in-progression a d (suc n) (suc i) h e = there (in-progression (a +ℤ d) d n i (omega arith) (e ∙ sym (next i a d)))
 
-pub walk-length : (a d : ℤ) (n : ℕ) → length (walk a d n) ≡ n
-unfolding walk
-walk-length a d zero = refl
-walk-length a d (suc n) = ap suc (walk-length (a +ℤ d) d n)
+pub progression-length : (a d : ℤ) (n : ℕ) → length (progression a d n) ≡ n
+unfolding progression
+progression-length a d zero = refl
+progression-length a d (suc n) = ap suc (progression-length (a +ℤ d) d n)
+
+pub progression-at : (a d : ℤ) (n i : ℕ) (z : ℤ) → i < n → getD (progression a d n) i z ≡ a +ℤ pos i *ℤ d
+unfolding progression
+progression-at a d zero i z h = absurd (omega arith)
+progression-at a d (suc n) zero z h = sym (zero-on a d)
+progression-at a d (suc n) (suc i) z h = progression-at (a +ℤ d) d n i z (omega arith) ∙ next i a d
 
 -- its values are the whole numbers in the bounds
 pub loop-in : (l r : ℤ) {d x : ℤ} → Direction d → In x (loop l r d) → Between l r x
-loop-in l r {x} onward h = let k = walk-in l (pos 1) (size l r) h in let b = go (k .at) l r x (k .lt) (k .eq) in record { lo = b .0; hi = b .1 }
+loop-in l r {x} onward h = let k = progression-in l (pos 1) (size l r) h in let b = go (k .at) l r x (k .lt) (k .eq) in record { lo = b .0; hi = b .1 }
   where
     go : (i : ℕ) (l r x : ℤ) → i < size l r → x ≡ l +ℤ pos i *ℤ pos 1 → (l ≤ℤ x) × (x ≤ℤ r)
     go i = linear 0 3 _ λ p m. simp (gaps, parts) (λ h e. (omega arith, omega arith))
-loop-in l r {x} back h = let k = walk-in r (negsuc 0) (size l r) h in let b = go (k .at) l r x (k .lt) (k .eq) in record { lo = b .0; hi = b .1 }
+loop-in l r {x} back h = let k = progression-in r (negsuc 0) (size l r) h in let b = go (k .at) l r x (k .lt) (k .eq) in record { lo = b .0; hi = b .1 }
   where
     go : (i : ℕ) (l r x : ℤ) → i < size l r → x ≡ r +ℤ pos i *ℤ negsuc 0 → (l ≤ℤ x) × (x ≤ℤ r)
     go i = linear 0 3 _ λ p m. simp (gaps, parts) (λ h e. (omega arith, omega arith))
 
 pub in-loop : (l r : ℤ) {d x : ℤ} → Direction d → Between l r x → In x (loop l r d)
-in-loop l r {x} onward h = in-walk l (pos 1) (size l r) (up (x -ℤ l)) (go l r x (h .lo) (h .hi) .0) (go l r x (h .lo) (h .hi) .1)
+in-loop l r {x} onward h = in-progression l (pos 1) (size l r) (up (x -ℤ l)) (go l r x (h .lo) (h .hi) .0) (go l r x (h .lo) (h .hi) .1)
   where
     go : (l r x : ℤ) → l ≤ℤ x → x ≤ℤ r → (up (x -ℤ l) < size l r) × (x ≡ l +ℤ pos (up (x -ℤ l)) *ℤ pos 1)
     go = linear 0 3 _ λ p m. simp (gaps, parts) (λ h k. (omega arith, omega arith))
-in-loop l r {x} back h = in-walk r (negsuc 0) (size l r) (up (r -ℤ x)) (go l r x (h .lo) (h .hi) .0) (go l r x (h .lo) (h .hi) .1)
+in-loop l r {x} back h = in-progression r (negsuc 0) (size l r) (up (r -ℤ x)) (go l r x (h .lo) (h .hi) .0) (go l r x (h .lo) (h .hi) .1)
   where
     go : (l r x : ℤ) → l ≤ℤ x → x ≤ℤ r → (up (r -ℤ x) < size l r) × (x ≡ r +ℤ pos (up (r -ℤ x)) *ℤ negsuc 0)
     go = linear 0 3 _ λ p m. simp (gaps, parts) (λ h k. (omega arith, omega arith))
 
-pub walk-sorted : {d : ℤ} → Direction d → (a : ℤ) (n : ℕ) → Sorted (Precedes d) (walk a d n)
-unfolding walk
-walk-sorted p a zero = none
-walk-sorted {d} p a (suc n) = more (λ y k. let r = walk-in (a +ℤ d) d n k in go p a y (r .at) (r .eq)) (walk-sorted p (a +ℤ d) n)
+pub progression-sorted : {d : ℤ} → Direction d → (a : ℤ) (n : ℕ) → Sorted (Precedes d) (progression a d n)
+unfolding progression
+progression-sorted p a zero = none
+progression-sorted {d} p a (suc n) = more (λ y k. let r = progression-in (a +ℤ d) d n k in go p a y (r .at) (r .eq)) (progression-sorted p (a +ℤ d) n)
   where
     f : (i : ℕ) (a y : ℤ) → y ≡ (a +ℤ pos 1) +ℤ pos i *ℤ pos 1 → (pos 1 *ℤ a) <ℤ (pos 1 *ℤ y)
     f i = linear 0 2 _ λ p m. simp gaps (omega arith)
@@ -125,7 +131,7 @@ module _ {n : Nest} (h : Directed n) where
       }
 
   row-sorted : (i j : ℤ) → Sorted (Earlier (n .direction)) (row i j)
-  row-sorted i j = sorted-by-map (point i j) (λ k k' r. by-inner refl refl r) (walk-sorted (h .inner) _ _)
+  row-sorted i j = sorted-by-map (point i j) (λ k k' r. by-inner refl refl r) (progression-sorted (h .inner) _ _)
 
   plane-sorted : (i : ℤ) → Sorted (Earlier (n .direction)) (plane i)
   plane-sorted i =
@@ -135,7 +141,7 @@ module _ {n : Nest} (h : Directed n) where
       let d = map-in (point i j') lz b in
       by-middle (ap (λ (w : V3). w .x) (c .is) ∙ sym (ap (λ (w : V3). w .x) (d .is)))
       (subst₂ (Precedes (n .direction .y)) (sym (ap (λ (w : V3). w .y) (c .is))) (sym (ap (λ (w : V3). w .y) (d .is))) r))
-      (walk-sorted (h .middle) _ _)
+      (progression-sorted (h .middle) _ _)
 
   plane-x : (i : ℤ) (p : V3) → In p (plane i) → p .x ≡ i
   plane-x i p k =
@@ -149,14 +155,14 @@ module _ {n : Nest} (h : Directed n) where
   instances-sorted =
       sorted-each {R = Precedes (n .direction .x)} plane plane-sorted
       (λ i j p q r a b. by-outer (subst₂ (Precedes (n .direction .x)) (sym (plane-x i p a)) (sym (plane-x j q b)) r))
-      (walk-sorted (h .outer) _ _)
+      (progression-sorted (h .outer) _ _)
 
 -- they are as many as the numbers of each loop, multiplied
 pub instances-length : (n : Nest) → length (instances n)
     ≡ (size (n .left .x) (n .right .x) * size (n .left .y) (n .right .y)) * size (n .left .z) (n .right .z)
 unfolding instances
 instances-length n =
-    each-length (λ i. plane i) lx ∙ total-same (λ i. length (plane i)) (b * c) plane-length lx ∙ ap (λ (k : ℕ). k * (b * c)) (walk-length _ _ a)
+    each-length (λ i. plane i) lx ∙ total-same (λ i. length (plane i)) (b * c) plane-length lx ∙ ap (λ (k : ℕ). k * (b * c)) (progression-length _ _ a)
     ∙ regroup a b c
   where
     a : ℕ
@@ -184,11 +190,11 @@ instances-length n =
     plane i = each (λ j. row i j) ly
 
     row-length : (i j : ℤ) → length (row i j) ≡ c
-    row-length i j = length-map lz (λ k. record { x = i; y = j; z = k }) ∙ walk-length _ _ c
+    row-length i j = length-map lz (λ k. record { x = i; y = j; z = k }) ∙ progression-length _ _ c
 
     plane-length : (i : ℤ) → length (plane i) ≡ b * c
     plane-length i =
-        each-length (row i) ly ∙ total-same (λ j. length (row i j)) c (row-length i) ly ∙ ap (λ (k : ℕ). k * c) (walk-length _ _ b)
+        each-length (row i) ly ∙ total-same (λ j. length (row i j)) c (row-length i) ly ∙ ap (λ (k : ℕ). k * c) (progression-length _ _ b)
 
     regroup : (a b c : ℕ) → a * (b * c) ≡ (a * b) * c
     regroup a b c = omega arith

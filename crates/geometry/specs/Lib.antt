@@ -29,6 +29,7 @@ pub mod Counts
 pub mod Report
 pub mod PipeLists
 pub mod Passes
+pub mod Walk
 pub mod Wiring
 pub mod Arrays
 pub mod PipeOrder

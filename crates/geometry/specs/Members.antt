@@ -76,6 +76,18 @@ module _ {A : Type 0} where
       go true u = tt
       go false u = u
 
+  -- the same of two lists with the same members
+  pub any-same : (f : A → Bool) {l m : List A} → ((x : A) → In x l → In x m) → ((x : A) → In x m → In x l) → any f l ≡ any f m
+  any-same f {l} {m} p q =
+      go (any f l) (any f m) (λ t. let r = any-yes f l t in yes-any f (p (r .it) (r .mem)) (r .ok))
+      (λ t. let r = any-yes f m t in yes-any f (q (r .it) (r .mem)) (r .ok))
+    where
+      go : (a b : Bool) → (T a → T b) → (T b → T a) → a ≡ b
+      go true true g h = refl
+      go true false g h = absurd (g tt)
+      go false true g h = absurd (h tt)
+      go false false g h = refl
+
   -- ---- backwards
 
   in-reverseAux : {x : A} (l m : List A) → In x l ⊎ In x m → In x (reverseAux l m)

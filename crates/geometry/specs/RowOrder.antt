@@ -9,29 +9,23 @@ use lib.IntN.{ℤ, pos, _+ℤ_, _-ℤ_, _*ℤ_}
 use lib.Signed.{_≤ℤ_}
 use Rattle.integers.specs.Differences.{gaps, parts, up}
 use Rattle.integers.specs.Variables.{linear}
-use Rattle.integers.specs.Vectors.{same2}
+use Rattle.integers.specs.Vectors.{zero2, same2}
 use Rattle.integers.specs.declared.V2.{V2}
-use Rattle.meaning.specs.Loops.{walk, size, loop}
+use Rattle.meaning.specs.Loops.{progression, size, loop}
 use Rattle.meaning.specs.Space.{Box, points, rowIndex}
 use Rattle.meaning.specs.Points.{Between, Inside}
+use Rattle.meaning.specs.Sorted.{Sorted}
 use Rattle.geometry.specs.Members.{map-at, each-length, each-at, total-same}
-use Rattle.geometry.specs.Numbers.{zero-on}
-use Rattle.geometry.specs.Places.{getD-in, distinct-at}
-use Rattle.geometry.specs.Instances.{next, walk-length}
+use Rattle.geometry.specs.Places.{getD-in, distinct-at, sorted-from}
+use Rattle.geometry.specs.Instances.{progression-length, progression-at}
 use Rattle.geometry.specs.Boxes.{row-distinct, points-inside, points-sorted}
-
-walk-at : (a d : ℤ) (n i : ℕ) (z : ℤ) → i < n → getD (walk a d n) i z ≡ a +ℤ pos i *ℤ d
-unfolding walk
-walk-at a d zero i z h = absurd (omega arith)
-walk-at a d (suc n) zero z h = sym (zero-on a d)
-walk-at a d (suc n) (suc i) z h = walk-at (a +ℤ d) d n i z (omega arith) ∙ next i a d
 
 -- a number between l and r is number x − l among them
 in-size : (l r x : ℤ) → l ≤ℤ x → x ≤ℤ r → up (x -ℤ l) < size l r
 in-size = linear 0 3 _ λ p m. simp (gaps, parts) (omega arith)
 
-among : (l r x : ℤ) → Between l r x → getD (walk l (pos 1) (size l r)) (up (x -ℤ l)) (pos 0) ≡ x
-among l r x b = walk-at l (pos 1) (size l r) (up (x -ℤ l)) (pos 0) (in-size l r x (b .lo) (b .hi)) ∙ back l x (b .lo)
+among : (l r x : ℤ) → Between l r x → getD (progression l (pos 1) (size l r)) (up (x -ℤ l)) (pos 0) ≡ x
+among l r x b = progression-at l (pos 1) (size l r) (up (x -ℤ l)) (pos 0) (in-size l r x (b .lo) (b .hi)) ∙ back l x (b .lo)
   where
     back : (l x : ℤ) → l ≤ℤ x → l +ℤ pos (up (x -ℤ l)) *ℤ pos 1 ≡ x
     back = linear 0 2 _ λ p m. simp (gaps, parts) (omega arith)
@@ -47,14 +41,14 @@ module _ (k : Box) where
   row i = map (λ j. record { a = i; b = j }) lb
 
   row-length : (i : ℤ) → length (row i) ≡ size (k .lo .b) (k .hi .b)
-  row-length i = length-map lb (λ j. record { a = i; b = j }) ∙ walk-length (k .lo .b) (pos 1) (size (k .lo .b) (k .hi .b))
+  row-length i = length-map lb (λ j. record { a = i; b = j }) ∙ progression-length (k .lo .b) (pos 1) (size (k .lo .b) (k .hi .b))
 
   -- the number of a box's points
   pub points-length : length (points k) ≡ size (k .lo .a) (k .hi .a) * size (k .lo .b) (k .hi .b)
   unfolding points
   points-length =
       each-length row la ∙ total-same (λ i. length (row i)) (size (k .lo .b) (k .hi .b)) row-length la
-      ∙ ap (λ (c : ℕ). c * size (k .lo .b) (k .hi .b)) (walk-length (k .lo .a) (pos 1) (size (k .lo .a) (k .hi .a)))
+      ∙ ap (λ (c : ℕ). c * size (k .lo .b) (k .hi .b)) (progression-length (k .lo .a) (pos 1) (size (k .lo .a) (k .hi .a)))
 
   -- a point stands at its number
   pub row-at : (p : V2) (d : V2) → Inside k p → getD (points k) (rowIndex k p) d ≡ p
@@ -65,9 +59,9 @@ module _ (k : Box) where
       let x = in-size (k .lo .a) (k .hi .a) (p .a) (h .ina .lo) (h .ina .hi) in
       let y = in-size (k .lo .b) (k .hi .b) (p .b) (h .inb .lo) (h .inb .hi) in
       each-at row (size (k .lo .b) (k .hi .b)) row-length la i j (pos 0) d
-      (subst (λ (c : ℕ). i < c) (sym (walk-length (k .lo .a) (pos 1) (size (k .lo .a) (k .hi .a)))) x) y
+      (subst (λ (c : ℕ). i < c) (sym (progression-length (k .lo .a) (pos 1) (size (k .lo .a) (k .hi .a)))) x) y
       ∙ map-at (λ j. record { a = getD la i (pos 0); b = j }) lb j (pos 0) d
-      (subst (λ (c : ℕ). j < c) (sym (walk-length (k .lo .b) (pos 1) (size (k .lo .b) (k .hi .b)))) y)
+      (subst (λ (c : ℕ). j < c) (sym (progression-length (k .lo .b) (pos 1) (size (k .lo .b) (k .hi .b)))) y)
       ∙ same2 (among (k .lo .a) (k .hi .a) (p .a) (h .ina)) (among (k .lo .b) (k .hi .b) (p .b) (h .inb))
 
   pub row-lt : (p : V2) → Inside k p → rowIndex k p < length (points k)
@@ -84,3 +78,10 @@ module _ (k : Box) where
       let w = points-inside k (getD (points k) i d) (getD-in (points k) i d h) in
       distinct-at (row-distinct (points-sorted k)) (rowIndex k (getD (points k) i d)) i d (row-lt (getD (points k) i d) w) h
       (row-at (getD (points k) i d) d w)
+
+  -- so numbers rise in row order
+  pub numbers-rise : Sorted (λ p q. rowIndex k p < rowIndex k q) (points k)
+  numbers-rise =
+      sorted-from (points k) zero2 λ i j h l.
+      let a = row-number i zero2 (omega arith) in
+      let b = row-number j zero2 l in omega arith

@@ -3,7 +3,7 @@
 use mathlib.Core.Path.{_≡_, refl, sym, _∙_, ap, subst}
 use mathlib.Core.Logic.{_⊎_, inl, inr}
 use mathlib.Core.Bool.{Bool, true, false, cond}
-use mathlib.Core.List.{List, [], _∷_, _++_, map, reverse, reverseAux, List·Memᴰ as In, List·Memᴰ·head as here, List·Memᴰ·tail as there, Memᴰ·cast, Memᴰ·map as in-map, List·Memᴰ·append-cases}
+use mathlib.Core.List.{List, [], _∷_, _++_, map, reverse, reverseAux, List·Memᴰ as In, List·Memᴰ·head as here, List·Memᴰ·tail as there, Memᴰ·cast, Memᴰ·map as in-map, List·Memᴰ·append-cases, List·Permᴰ as Rearranged, List·Permᴰ·nil as Rearranged·nil, List·Permᴰ·cons as Rearranged·cons, List·Permᴰ·swap as Rearranged·swap, List·Permᴰ·trans as Rearranged·trans, Permᴰ·refl as unchanged}
 use Prim.Native.Nat.{ℕ, zero, suc, _≤_, _<_}
 use native.Mathlib.Omega.{arith}
 use lib.ListN.{length, length-map}
@@ -142,6 +142,21 @@ module _ {A : Type 0} where
       let o = take-out (f x (here refl)) in
       let k : length l ≤ length (o .rest) = fewer s (λ y i. ins-other (o .ins) (h y i) (f y (there i))) in
       omega (arith, ins-length (o .ins))
+
+  -- the one with a put in somewhere, and a in front of it
+  ins-rearranged : {a : A} {l l' : List A} → Ins a l l' → Rearranged (a ∷ l) l'
+  ins-rearranged (front {l}) = unchanged _
+  ins-rearranged (behind i) = Rearranged·trans (Rearranged·swap refl refl) (Rearranged·cons refl (ins-rearranged i))
+
+  -- a list of different members that are all in another, no longer one, is a rearrangement of it
+  pub rearranged : {l m : List A} → Distinct l → ((x : A) → In x l → In x m) → length m ≤ length l → Rearranged l m
+  rearranged {m = []} none f h = Rearranged·nil
+  rearranged {m = y ∷ m} none f h = absurd (omega arith)
+  rearranged {m} (more {x} {l} d s) f h =
+      let o = take-out (f x (here refl)) in
+      Rearranged·trans
+      (Rearranged·cons refl (rearranged s (λ y i. ins-other (o .ins) (d y i) (f y (there i))) (omega (arith, ins-length (o .ins)))))
+      (ins-rearranged (o .ins))
 
   pub record Listed (e : ℕ → A) (n : ℕ) (x : A) : Type 0 where
     pub at : ℕ

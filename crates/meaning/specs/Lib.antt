@@ -29,6 +29,7 @@ pub mod Leaves
 pub mod FixedPoint
 pub mod GuardedLines
 pub mod CommonDivisors
+pub mod Walk
 pub mod Designs
 pub mod Comparison
 pub mod Singles

@@ -15,9 +15,9 @@ use Rattle.meaning.specs.declared.Nest.{Nest}
 use Rattle.meaning.specs.Lists.{each}
 
 -- n numbers from a on, d apart
-unfoldable pub walk : ℤ → ℤ → ℕ → List ℤ
-walk a d zero = []
-walk a d (suc n) = a ∷ walk (a +ℤ d) d n
+unfoldable pub progression : ℤ → ℤ → ℕ → List ℤ
+progression a d zero = []
+progression a d (suc n) = a ∷ progression (a +ℤ d) d n
 
 -- how many whole numbers there are from a to b
 abbrev pub size : ℤ → ℤ → ℕ
@@ -25,7 +25,7 @@ size a b = up (b +ℤ pos 1 -ℤ a)
 
 -- the values of one loop as it runs: "direction 1 from left to right bound, −1 from right to left"
 abbrev pub loop : ℤ → ℤ → ℤ → List ℤ
-loop left right direction = walk (cond (ltZ direction (pos 0)) right left) direction (size left right)
+loop left right direction = progression (cond (ltZ direction (pos 0)) right left) direction (size left right)
 
 -- the instances, "whole points in the bounds", in the order of the plain run, "loop 0 outermost"
 unfoldable pub instances : Nest → List V3

@@ -11,7 +11,7 @@ use Rattle.lattice.specs.Gcd.{gcdOf, euclid}
 use Rattle.meaning.specs.Limits.{gaugeLimits}
 use Rattle.meaning.specs.Lists.{filter, any, every, position, best, bestOr, total, each, numbersFrom}
 use Rattle.meaning.specs.Tests.{refusal}
-use Rattle.meaning.specs.Loops.{walk, instances, lineOf, increment}
+use Rattle.meaning.specs.Loops.{progression, instances, lineOf, increment}
 use Rattle.meaning.specs.Space.{points, widenAll, around, boxOf, sentTo, firstOf, lastOf}
 use Rattle.meaning.specs.Pipes.{stays, march, lineIn, pipe, usedOn, pipeElements}
 use Rattle.meaning.specs.Description.{nestOf, streamOf, bodyLine, descriptionOf}
@@ -231,5 +231,5 @@ abbrev pub singles : List Case
 singles = calls ++ (threePlaces ++ (nullProcess ++ guards))
 
 pub proved : map (λ c. c .got) singles ≡ map (λ c. c .wanted) singles
-unfolding eqList firstWrong bytes bitsAt wordAt gcdOf euclid filter any every position best bestOr total each numbersFrom refusal walk instances lineOf points widenAll around boxOf sentTo firstOf lastOf stays march lineIn pipe usedOn pipeElements nestOf streamOf bodyLine descriptionOf runLines touchedFrom scatter execute executeAll testsFrom refusalOf accept insertByStep byStep pipesFrom arrayOf moveDown sound writeAll apply firstReady runSteps applyAll table start step run readyCall window result plainRun
+unfolding eqList firstWrong bytes bitsAt wordAt gcdOf euclid filter any every position best bestOr total each numbersFrom refusal progression instances lineOf points widenAll around boxOf sentTo firstOf lastOf stays march lineIn pipe usedOn pipeElements nestOf streamOf bodyLine descriptionOf runLines touchedFrom scatter execute executeAll testsFrom refusalOf accept insertByStep byStep pipesFrom arrayOf moveDown sound writeAll apply firstReady runSteps applyAll table start step run readyCall window result plainRun
 proved = agree singles refl

@@ -15,7 +15,7 @@ use Rattle.integers.specs.declared.V2.{V2}
 use Rattle.integers.specs.declared.Matrix.{Matrix}
 use Rattle.meaning.specs.declared.Nest.{Nest}
 use Rattle.meaning.specs.Lists.{filter, bestOr, each}
-use Rattle.meaning.specs.Loops.{walk, size, instances, stepOf}
+use Rattle.meaning.specs.Loops.{progression, size, instances, stepOf}
 
 -- two points are one
 abbrev pub eq2 : V2 → V2 → Bool
@@ -34,8 +34,8 @@ inside k p = leZ (k .lo .a) (p .a) && leZ (p .a) (k .hi .a) && leZ (k .lo .b) (p
 -- "row order: last coordinate fastest"
 unfoldable pub points : Box → List V2
 points k =
-    each (λ i. map (λ j. record { a = i; b = j }) (walk (k .lo .b) (pos 1) (size (k .lo .b) (k .hi .b))))
-    (walk (k .lo .a) (pos 1) (size (k .lo .a) (k .hi .a)))
+    each (λ i. map (λ j. record { a = i; b = j }) (progression (k .lo .b) (pos 1) (size (k .lo .b) (k .hi .b))))
+    (progression (k .lo .a) (pos 1) (size (k .lo .a) (k .hi .a)))
 
 -- the number of a point in row order
 abbrev pub rowIndex : Box → V2 → ℕ

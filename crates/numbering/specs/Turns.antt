@@ -13,30 +13,19 @@ use Rattle.integers.specs.Vectors.{zero3}
 use Rattle.integers.specs.declared.V3.{V3}
 use Rattle.meaning.specs.declared.Nest.{Nest}
 use Rattle.meaning.specs.Lists.{each}
-use Rattle.meaning.specs.Loops.{walk, size, loop, instances}
+use Rattle.meaning.specs.Loops.{progression, size, loop, instances}
 use Rattle.meaning.specs.Points.{Direction, Direction.onward, Direction.back}
 use Rattle.geometry.specs.Members.{map-at, each-length, each-at, total-same}
 use Rattle.geometry.specs.Numbers.{zero-on}
-use Rattle.geometry.specs.Instances.{next}
+use Rattle.geometry.specs.Instances.{progression-length, progression-at}
 use Rattle.numbering.specs.declared.Loop.{Loop}
 use Rattle.numbering.specs.declared.Turns.{Turns}
 use Rattle.numbering.specs.Ranges.{Bounded, turns, values, outerOf, middleOf, innerOf, size-some, size-most}
 
 -- ---- one loop
 
-walk-length : (a d : ℤ) (n : ℕ) → length (walk a d n) ≡ n
-unfolding walk
-walk-length a d zero = refl
-walk-length a d (suc n) = ap suc (walk-length (a +ℤ d) d n)
-
-walk-at : (a d : ℤ) (n i : ℕ) → i < n → getD (walk a d n) i (pos 0) ≡ a +ℤ pos i *ℤ d
-unfolding walk
-walk-at a d zero i h = absurd (omega arith)
-walk-at a d (suc n) zero h = sym (zero-on a d)
-walk-at a d (suc n) (suc i) h = walk-at (a +ℤ d) d n i (omega arith) ∙ next i a d
-
 values-length : (l : Loop) → length (values l) ≡ turns l
-values-length l = walk-length _ _ (turns l)
+values-length l = progression-length _ _ (turns l)
 
 in-values : (l : Loop) {i : ℕ} → i < turns l → i < length (values l)
 in-values l h = omega (arith, values-length l)
@@ -44,13 +33,13 @@ in-values l h = omega (arith, values-length l)
 -- its value after i turns, by its direction
 pub value-back : {d : ℤ} → Direction d → d <ℤ pos 0 → (l r : ℤ) (i : ℕ) → i < size l r → r -ℤ pos i ≡ getD (loop l r d) i (pos 0)
 value-back onward t l r i h = absurd (t .lt)
-value-back back t l r i h = sym (walk-at r (negsuc 0) (size l r) i h ∙ go r (pos i))
+value-back back t l r i h = sym (progression-at r (negsuc 0) (size l r) i (pos 0) h ∙ go r (pos i))
   where
     go : (r t : ℤ) → r +ℤ t *ℤ negsuc 0 ≡ r -ℤ t
     go = linear 0 2 _ λ p m. simp gaps (omega arith)
 
 pub value-onward : {d : ℤ} → Direction d → pos 0 ≤ℤ d → (l r : ℤ) (i : ℕ) → i < size l r → l +ℤ pos i ≡ getD (loop l r d) i (pos 0)
-value-onward onward t l r i h = sym (walk-at l (pos 1) (size l r) i h ∙ go l (pos i))
+value-onward onward t l r i h = sym (progression-at l (pos 1) (size l r) i (pos 0) h ∙ go l (pos i))
   where
     go : (l t : ℤ) → l +ℤ t *ℤ pos 1 ≡ l +ℤ t
     go = linear 0 2 _ λ p m. simp gaps (omega arith)
