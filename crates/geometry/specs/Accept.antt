@@ -1,8 +1,11 @@
 -- What the tests of Accept leave is what the geometry asks for. Assumes directions of 1 or −1, which refusal 4 leaves.
 use mathlib.Core.Path.{_≡_, sym, _∙_, ap, subst}
 use mathlib.Core.Bool.{Bool, true, false, not, cond}
+use mathlib.Core.List.{map, Memᴰ·cast, Memᴰ·map as in-map}
+use Prim.Native.Nat.{_≤_}
 use native.Mathlib.Omega.{arith}
 use lib.Dec.{T, T-not}
+use lib.ListN.{length, length-map}
 use lib.IntN.{ℤ, pos, _*ℤ_}
 use lib.Signed.{_<ℤ_, ltZ, ltZ-no}
 use Rattle.integers.specs.Differences.{gaps, eq-out, lt-out}
@@ -17,15 +20,16 @@ use Rattle.meaning.specs.declared.Nest.{Nest}
 use Rattle.meaning.specs.declared.Stream.{Stream}
 use Rattle.meaning.specs.Loops.{instances, stepOf, placeOf, lineOf}
 use Rattle.meaning.specs.Space.{eq2, boxOf}
-use Rattle.meaning.specs.Streams.{line, stationary, touches, touched}
+use Rattle.meaning.specs.Streams.{line, stationary, elements, touches, touched}
 use Rattle.meaning.specs.Accept.{isZero3, lowRank, refused7, refused8, refused11, refused12, against, refused16, refused17}
 use Rattle.meaning.specs.Points.{IsLine as Line, Direction, Direction.onward, Direction.back, Directed, Earlier, Earlier.by-outer, Earlier.by-middle, Earlier.by-inner, Inside}
 use Rattle.meaning.specs.Conditions.{Onward, Onward.by-first, Onward.by-second, Onward.by-third}
 use Rattle.geometry.specs.Members.{any-yes, yes-any}
 use Rattle.geometry.specs.Numbers.{eqZ-eq, eq-eqZ, eq2-eq, eq-eq2, not-zero, positive-not}
 use Rattle.geometry.specs.Lines.{line-is, line-not}
-use Rattle.geometry.specs.Instances.{in-within}
-use Rattle.geometry.specs.Boxes.{inside-points}
+use Rattle.geometry.specs.Sorting.{fewer}
+use Rattle.geometry.specs.Instances.{within-in, in-within}
+use Rattle.geometry.specs.Boxes.{row-distinct, points-inside, inside-points, points-sorted}
 use Rattle.geometry.specs.Processes.{Layout}
 use Rattle.geometry.specs.Pipes.{Touched, Accepted}
 
@@ -48,6 +52,19 @@ touch {n} s d full e k =
     go : (b : Bool) → (T (not b) → T (not (touched n s e))) → T b
     go true f = tt
     go false f = T-not (refused17 n s) full (yes-any (λ w. not (touched n s w)) (inside-points (boxOf n (s .map)) e k) (f tt))
+
+-- so there are no more than instances
+pub touched-few : {n : Nest} (s : Stream) → Directed n → ((e : V2) → Inside (boxOf n (s .map)) e → Touched n s e)
+    → length (elements n s) ≤ length (instances n)
+touched-few {n} s d full =
+    omega (
+      arith,
+      length-map (instances n) (image (s .map)),
+      fewer {m = map (image (s .map)) (instances n)}
+          (row-distinct (points-sorted (boxOf n (s .map)))) λ p k.
+          let t = full p (points-inside (boxOf n (s .map)) p k) .at in
+          Memᴰ·cast (sym (t .to)) (in-map (image (s .map)) (within-in d (t .within))),
+    )
 
 -- a stream that is not refused, whatever the limits and refusals 13 and 14 say
 pub accepted : {n : Nest} {s : Stream} → Layout n → T (not (refused11 s)) → T (not (refused12 n s)) → T (not (refused16 n s))

@@ -186,6 +186,13 @@ module _ {A B : Type 0} where
       ap (λ (c : ℕ). getD (f x ++ each f l) c e) (add-assoc (length (f x)) (total (λ x. length (f x)) (take q l)) i)
       ∙ getD-append-add (f x) (each f l) (total (λ x. length (f x)) (take q l) + i) e ∙ each-part f l q i d e (omega arith) k
 
+-- one more member summed
+pub total-next : {A : Type 0} (f : A → ℕ) (l : List A) (i : ℕ) (d : A) → i < length l → total f (take (suc i) l) ≡ total f (take i l) + f (getD l i d)
+unfolding total
+total-next f [] i d h = absurd (omega arith)
+total-next f (x ∷ l) zero d h = omega arith
+total-next f (x ∷ l) (suc i) d h = omega (arith, total-next f l i d (omega arith))
+
 pub total-same : {A : Type 0} (f : A → ℕ) (w : ℕ) → ((x : A) → f x ≡ w) → (l : List A) → total f l ≡ length l * w
 unfolding total
 total-same f w g [] = omega arith

@@ -2,7 +2,7 @@
 -- to last. Assumes directions of 1 or −1 and an increment of positive step, which `Layout` says.
 use mathlib.Core.Path.{_≡_, refl, sym, _∙_, ap, subst}
 use mathlib.Core.Bool.{Bool}
-use mathlib.Core.List.{List, List·Memᴰ as In, Memᴰ·cast, Memᴰ·map as in-map}
+use mathlib.Core.List.{List·Memᴰ as In, Memᴰ·cast, Memᴰ·map as in-map}
 use Prim.Native.Nat.{ℕ, suc, _<_}
 use native.Mathlib.Omega.{arith}
 use lib.ListN.{length}
@@ -13,7 +13,7 @@ use Rattle.integers.specs.declared.V3.{V3}
 use Rattle.integers.specs.declared.V2.{V2}
 use Rattle.meaning.specs.declared.Nest.{Nest}
 use Rattle.meaning.specs.Lists.{any, numbers}
-use Rattle.meaning.specs.Loops.{instances, stepOf, placeOf, increment}
+use Rattle.meaning.specs.Loops.{instances, placeOf, increment}
 use Rattle.meaning.specs.Space.{rowIndex, space, processes, count, first, last}
 use Rattle.meaning.specs.Sorted.{Sorted, Distinct}
 use Rattle.meaning.specs.Points.{Within}

@@ -12,7 +12,7 @@ use integers::V3;
 use meaning::Nest;
 
 // The point that lies k times d on from x.
-fn later(x: V3, d: V3, k: u32) -> V3
+pub fn later(x: V3, d: V3, k: u32) -> V3
     requires { ⌜ (Within 64 x) × (Within 200 d) × (k ≤ 4096) ⌝ }
     ensures { λ r. ⌜ r ≡ shift3 x (pos k) d ⌝ }
 {
@@ -24,7 +24,7 @@ fn later(x: V3, d: V3, k: u32) -> V3
 }
 
 // The first instance of process p.
-fn first_of(n: Nest, ends: &[u32], p: usize) -> V3
+pub fn first_of(n: Nest, ends: &[u32], p: usize) -> V3
     requires { ⌜ Computes n (now ends) p ⌝ }
     ensures { λ r. ⌜ (r ≡ first n (processOf n p)) × (Within 64 r) ⌝ }
 {

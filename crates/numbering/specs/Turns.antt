@@ -1,7 +1,7 @@
 -- The instance of a number, by how often each loop has turned before it. Assumes nothing.
 use mathlib.Core.Path.{_≡_, refl, sym, _∙_, ap, subst}
 use mathlib.Core.List.{List, map}
-use Prim.Native.Nat.{ℕ, zero, suc, _+_, _*_, _/_, _%_, _≤_, _<_}
+use Prim.Native.Nat.{ℕ, _+_, _*_, _/_, _%_, _≤_, _<_}
 use native.Mathlib.Nat.{div-add-mod', mod-lt, div-lt-iff-lt-mul, mul-le-mul, mul-le-mul-right}
 use native.Mathlib.Omega.{arith}
 use lib.ListN.{length, getD, length-map}
@@ -13,10 +13,9 @@ use Rattle.integers.specs.Vectors.{zero3}
 use Rattle.integers.specs.declared.V3.{V3}
 use Rattle.meaning.specs.declared.Nest.{Nest}
 use Rattle.meaning.specs.Lists.{each}
-use Rattle.meaning.specs.Loops.{progression, size, loop, instances}
+use Rattle.meaning.specs.Loops.{size, loop, instances}
 use Rattle.meaning.specs.Points.{Direction, Direction.onward, Direction.back}
 use Rattle.geometry.specs.Members.{map-at, each-length, each-at, total-same}
-use Rattle.geometry.specs.Numbers.{zero-on}
 use Rattle.geometry.specs.Instances.{progression-length, progression-at}
 use Rattle.numbering.specs.declared.Loop.{Loop}
 use Rattle.numbering.specs.declared.Turns.{Turns}

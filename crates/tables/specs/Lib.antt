@@ -1,5 +1,4 @@
--- Passes over the instances by number, the search for an untouched element, and what both mean.
+-- Passes over the instances by number, and what they mean.
 pub mod Sweep
 pub mod Ends
-pub mod Touched
 pub mod Tables

@@ -1,6 +1,6 @@
--- The tables by number, and document 01's words: counts, firsts and lasts, refusal 17. Assumes that directions are 1 or −1.
+-- The tables by number, and document 01's words: counts, firsts and lasts. Assumes that directions are 1 or −1.
 use mathlib.Core.Path.{_≡_, refl, sym, _∙_, ap, ap₂, subst}
-use mathlib.Core.Bool.{Bool, true, false, not, cond}
+use mathlib.Core.Bool.{Bool, true, false, cond}
 use mathlib.Core.List.{List, [], _∷_, map, _++_}
 use Prim.Native.Nat.{ℕ, suc, _+_, _≤_, _<_}
 use native.Mathlib.Nat.{zero-add}
@@ -16,12 +16,9 @@ use Rattle.integers.specs.declared.V3.{V3}
 use Rattle.integers.specs.declared.V2.{V2}
 use Rattle.integers.specs.declared.Matrix.{Matrix}
 use Rattle.meaning.specs.declared.Nest.{Nest}
-use Rattle.meaning.specs.declared.Stream.{Stream}
-use Rattle.meaning.specs.Lists.{filter, any, best, bestOr, numbersFrom, numbers}
+use Rattle.meaning.specs.Lists.{filter, best, bestOr}
 use Rattle.meaning.specs.Loops.{instances, stepOf}
 use Rattle.meaning.specs.Space.{eq2, points, rowIndex, boxOf, sentTo, countOf, sooner, later, firstOf, lastOf}
-use Rattle.meaning.specs.Streams.{elements, touched}
-use Rattle.meaning.specs.Accept.{refused17}
 use Rattle.meaning.specs.Points.{Directed, Inside}
 use Rattle.geometry.specs.Members.{map-at}
 use Rattle.geometry.specs.Numbers.{eq2-eq, eq-eq2}
@@ -32,7 +29,6 @@ use Rattle.geometry.specs.RowOrder.{row-at, row-lt, row-number}
 use Rattle.numbering.specs.Numbers.{numbersOf}
 use Rattle.tables.specs.Sweep.{visits, countIn, Listed}
 use Rattle.tables.specs.Ends.{betterBy, endOf, endIn}
-use Rattle.tables.specs.Touched.{holds, lacks}
 
 -- the first entries of a list are the row numbers of all instances' images, which lie among so many points
 pub record Table (n : Nest) (m : Matrix) (table : List ℕ) (count size : ℕ) : Type 0 where
@@ -105,20 +101,6 @@ module _ {A : Type 0} where
           → best b (cond t (at y) (at x)) (map at l) ≡ at (best (λ i j. b (at i) (at j)) (cond t y x) l)
       go true p q = p
       go false p q = q
-
-  any-map : (f : ℕ → Bool) (h : A → ℕ) (g : A → Bool) (xs : List A) (d : A) → ((i : ℕ) → i < length xs → f (h (getD xs i d)) ≡ g (getD xs i d))
-      → any f (map h xs) ≡ any g xs
-  unfolding any
-  any-map f h g [] d e = refl
-  any-map f h g (x ∷ l) d e = ap₂ (λ (a b : Bool). cond a true b) (e 0 (omega arith)) (any-map f h g l d λ i b. e (suc i) (omega arith))
-
-  any-numbers : (f : ℕ → Bool) (g : A → Bool) (k : ℕ) (xs : List A) (d : A) → ((i : ℕ) → i < length xs → f (k + i) ≡ g (getD xs i d))
-      → any f (numbersFrom k (length xs)) ≡ any g xs
-  unfolding any numbersFrom
-  any-numbers f g k [] d e = refl
-  any-numbers f g k (x ∷ l) d e =
-      ap₂ (λ (a b : Bool). cond a true b) (ap f (omega arith) ∙ e 0 (omega arith))
-      (any-numbers f g (suc k) l d λ i b. ap f (omega arith) ∙ e (suc i) (omega arith))
 
 -- every number of a list is below n
 data Under (n : ℕ) : List ℕ → Type 0 where
@@ -259,16 +241,3 @@ module _ {n : Nest} {m : Matrix} {table : List ℕ} {count size : ℕ} (dirs : D
       go : (l : List ℕ) → endOf (betterBy steps last) l ≡ 0 → length l ≡ 0
       go [] e = refl
       go (x ∷ l) e = absurd (omega arith)
-
--- refusal 17 is the search for an element that the stream's table lacks
-pub refusal-is : {n : Nest} (s : Stream) {table : List ℕ} {count size : ℕ} → Directed n → Table n (s .map) table count size
-    → lacks (take count table) (numbers size) ≡ refused17 n s
-refusal-is {n} s {table} {count} {size} dirs t =
-    ap₂ (λ (l : List ℕ) (c : ℕ). lacks l (numbers c)) (t .entries) (t .sized)
-    ∙ any-numbers (λ e. not (holds (numbersOf n m) e)) (λ e. not (touched n s e)) 0 (elements n s) zero2 λ i h.
-    ap (λ (e : ℕ). not (holds (numbersOf n m) e)) (zero-add i)
-    ∙ ap not (any-map (λ q. eqb q i) (λ x. rowIndex (boxOf n m) (image m x)) (λ x. eq2 (image m x) (getD (elements n s) i zero2)) (instances n) zero3
-    λ j b. by-number dirs m i (getD (instances n) j zero3) h (lies dirs m j b))
-  where
-    m : Matrix
-    m = s .map

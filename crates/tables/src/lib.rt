@@ -1,25 +1,22 @@
 // What one pass over the instances leaves for each point of a box: how many instances have their image there, and which of them has the least
-// and which the greatest step; and refusal 17. All of it over the table of numbers that `numbering::fill_numbers` leaves: of each instance, in
+// and which the greatest step. All of it over the table of numbers that `numbering::fill_numbers` leaves: of each instance, in
 // the written order, the row number of its image.
 //
 // specs/, by file:
 //
 //   Sweep       a pass that changes, for each instance, the entry of its point; `sweep-is`: what it leaves, point by point
 //   Ends        the best of a list of instances by their numbers, as the pass finds it
-//   Touched     the search for a number that the table does not hold
-//   Tables      document 01's words: `counts-are`, `firsts-are`, `lasts-are`, `ends-none`, `refusal-is`
+//   Tables      document 01's words: `counts-are`, `firsts-are`, `lasts-are`, `ends-none`
 ghost use mathlib.Core.Path.{_≡_};
 ghost use mathlib.Core.Bool.{true, false};
 ghost use mathlib.Core.List.{map, _++_};
 ghost use Prim.Native.Nat.{_+_, _^_, _≤_, _<_};
 ghost use lib.ListN.{length, getD, take, drop};
 ghost use Rattle.integers.specs.Fill.{fillBy};
-ghost use Rattle.meaning.specs.Lists.{numbers as upTo};
 ghost use Rattle.meaning.specs.Loops.{instances as instancesOf, stepOf};
 ghost use Rattle.numbering.specs.Ranges.{Bounded};
 ghost use Rattle.tables.specs.Sweep.{Listed, Countable, countIn};
 ghost use Rattle.tables.specs.Ends.{Comparable, betterBy, chosen, endIn};
-ghost use Rattle.tables.specs.Touched.{lacks};
 use meaning::Nest;
 
 // The steps of all instances, in the written order.
@@ -132,28 +129,4 @@ pub fn fill_lasts(numbers: &[u32], instances: u32, steps: &[i32], points: u32, l
     ensures { λ r. ⌜ now (lasts .exit) ≡ fillBy (endIn (now (steps .entry)) true (take instances (now (numbers .entry)))) points (now (lasts .entry)) ⌝ }
 {
     fill_ends(numbers, instances, steps, true, points, lasts);
-}
-
-// Refusal 17: some element of the box is touched by no instance.
-pub fn untouched(numbers: &[u32], instances: u32, elements: u32) -> bool
-    requires { ⌜ instances ≤ length (now numbers) ⌝ }
-    ensures { λ r. ⌜ r ≡ lacks (take instances (now (numbers .entry))) (upTo elements) ⌝ }
-{
-    let mut found = false;
-    let mut e: u32 = 0;
-    'elements: while e < elements {
-        let mut k: u32 = 0;
-        loop {
-            if k == instances {
-                found = true;
-                break 'elements;
-            }
-            if numbers[k as usize] == e {
-                break;
-            }
-            k += 1;
-        }
-        e += 1;
-    }
-    found
 }

@@ -1,0 +1,146 @@
+// The walk by process of request 2.4, as words: the instances process by process in row order, along each process's own line from first to last; and refusal 17,
+// the search along it for an element that no instance touches. The words of an instance are its three coordinates.
+//
+// specs/, by file:
+//
+//   Words     instances as words, and lines of them stored one after the other
+//   Walked    what the words of a walk say: `Walked`; the walk stored process by process
+//   Touched   the search for a number that is not among those passed, with marks
+//   Search    `refusal-is`: the search along the walk is refusal 17; `too-many`: more elements than instances
+ghost use Prim.Native.Nat.{_+_, _*_, _≤_, _<_};
+ghost use mathlib.Core.Path.{_≡_};
+ghost use lib.ListN.{length};
+ghost use lib.IntN.{pos};
+ghost use Rattle.integers.specs.Vectors.{shift3};
+ghost use Rattle.meaning.specs.Space.{count};
+ghost use Rattle.geometry.specs.Processes.{runAt};
+ghost use Rattle.numbering.specs.Extents.{boxed};
+ghost use Rattle.layout.specs.Ends.{processOf};
+ghost use Rattle.walk.specs.Words.{vectorAt, put, Lined, Running};
+ghost use Rattle.walk.specs.Walked.{Walked, Walkable, Lining};
+ghost use Rattle.walk.specs.Touched.{Misses};
+ghost use Rattle.walk.specs.Search.{numberOn, Numbered, Searching};
+use integers::Matrix;
+use integers::V3;
+use meaning::Nest;
+use numbering::Extent;
+
+// ---- the walk
+
+// Instance k of the words.
+pub fn instance_at(walk: &[i32], k: usize) -> V3
+    requires { ⌜ 3 * k + 2 < length (now walk) ⌝ }
+    ensures { λ r. ⌜ r ≡ vectorAt (now (walk .entry)) k ⌝ }
+{
+    V3 {
+        x: walk[3 * k],
+        y: walk[3 * k + 1],
+        z: walk[3 * k + 2],
+    }
+}
+
+fn put_instance(walk: &mut [i32], k: usize, v: V3)
+    requires { ⌜ 3 * k + 2 < length (now walk) ⌝ }
+    ensures { λ r. ⌜ now (walk .exit) ≡ put (now (walk .entry)) k v ⌝ }
+{
+    let x = v.x;
+    let y = v.y;
+    let z = v.z;
+    walk[3 * k] = x;
+    walk[3 * k + 1] = y;
+    walk[3 * k + 2] = z;
+}
+
+// So many instances, from the first by the increment on, into the places from `from` on.
+fn put_instances(first: V3, increment: V3, count: u32, from: usize, walk: &mut [i32])
+    requires { ⌜ Running first increment count from (now walk) ⌝ }
+    ensures { λ r. ⌜ Lined (λ k. shift3 first (pos k) increment) from count (now (walk .entry)) (now (walk .exit)) ⌝ }
+{
+    let mut k: u32 = 0;
+    while k < count {
+        put_instance(
+            walk,
+            from + k as usize,
+            instances::later(first, increment, k),
+        );
+        k += 1;
+    }
+}
+
+// The line of process p, from first to last, into the places from `from` on, and the place behind it; a null process has none.
+fn put_line(n: Nest, increment: V3, ends: &[u32], p: usize, from: usize, walk: &mut [i32]) -> usize
+    requires { ⌜ Lining n increment (now ends) p from (now walk) ⌝ }
+    ensures { λ r. ⌜ (r ≡ from + count n (processOf n p))
+        × (Lined (runAt n (processOf n p)) from (count n (processOf n p)) (now (walk .entry)) (now (walk .exit))) ⌝ }
+{
+    let count = ends[p];
+    if count == 0 {
+        return from;
+    }
+    put_instances(
+        instances::first_of(n, ends, p),
+        increment,
+        count,
+        from,
+        walk,
+    );
+    from + count as usize
+}
+
+// The lines of all processes, in row order.
+pub fn fill_walk(n: Nest, processes: u32, ends: &[u32], walk: &mut [i32])
+    requires { ⌜ Walkable n processes (now ends) (now walk) ⌝ }
+    ensures { λ r. ⌜ Walked n (now (walk .exit)) ⌝ }
+{
+    let place = n.place;
+    let increment = vectors::line_of(n, place);
+    let mut from: usize = 0;
+    let mut p: u32 = 0;
+    while p < processes {
+        from = put_line(n, increment, ends, p as usize, from, walk);
+        p += 1;
+    }
+}
+
+// ---- refusal 17
+
+// The number of the element that instance k of the walk touches.
+fn number_at(m: Matrix, e: Extent, walk: &[i32], k: usize) -> usize
+    requires { ⌜ Numbered m (boxed e) (now walk) k ⌝ }
+    ensures { λ r. ⌜ r ≡ numberOn m (boxed e) (now (walk .entry)) k ⌝ }
+{
+    numbering::row_number(e, vectors::image_of(m, instance_at(walk, k))) as usize
+}
+
+// Whether some element of the box is touched by no instance of the walk. For each element in turn the search goes on along the walk from where it stopped, marking
+// the elements that it passes, until this one is marked or the walk is over.
+pub fn untouched(
+    m: Matrix,
+    e: Extent,
+    walk: &[i32],
+    instances: usize,
+    elements: usize,
+    marks: &mut [bool],
+) -> bool
+    requires { ⌜ Searching m (boxed e) (now walk) instances elements (now marks) ⌝ }
+    ensures { λ r. ⌜ Misses (numberOn m (boxed e) (now (walk .entry))) instances elements r ⌝ }
+{
+    let mut found = false;
+    let mut k: usize = 0;
+    let mut q: usize = 0;
+    'elements: while q < elements {
+        loop {
+            if marks[q] {
+                break;
+            }
+            if k == instances {
+                found = true;
+                break 'elements;
+            }
+            marks[number_at(m, e, walk, k)] = true;
+            k += 1;
+        }
+        q += 1;
+    }
+    found
+}
