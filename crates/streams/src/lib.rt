@@ -1,12 +1,10 @@
-// Document 01's refusals 11 to 17, of one stream.
+// Document 01's refusals 11 to 17, of one stream; the words of the walk are lent.
 ghost use mathlib.Core.Path.{_≡_};
-ghost use Prim.Native.Nat.{_≤_};
-ghost use lib.ListN.{length};
 ghost use Rattle.meaning.specs.Tests.{refusal};
-ghost use Rattle.meaning.specs.Loops.{instances};
 ghost use Rattle.meaning.specs.Accept.{against, refused13, refused14, refused15, refused16, refused17, streamTests};
 ghost use Rattle.vectors.specs.Within.{Within};
 ghost use Rattle.refusals.specs.InRange.{InRange};
+ghost use Rattle.walk.specs.Walked.{Along};
 ghost use Rattle.refusals.specs.Stages.{orderTests, moveTests};
 use integers::V3;
 use meaning::Limits;
@@ -68,20 +66,25 @@ fn loading_refused(n: Nest, s: Stream) -> bool
     }
 }
 
-// Refusal 17: some element of the box is touched by no instance; the table is lent for the numbers of the elements that are.
-fn elements_refused(n: Nest, s: Stream, table: &mut [u32; 4096]) -> bool
-    requires { ⌜ (InRange n s) × (length (instances n) ≤ 4096) ⌝ }
+// Refusal 17: some element of the box is touched by no instance. With more elements than instances some are; else the walk tells.
+fn elements_refused(n: Nest, s: Stream, walk: &[i32]) -> bool
+    requires { ⌜ (InRange n s) × (Along n (now walk)) ⌝ }
     ensures { λ r. ⌜ r ≡ refused17 n s ⌝ }
 {
     let map = s.map;
     let e = numbering::extent_of(n, map);
-    numbering::fill_numbers(n, map, e, table);
-    tables::untouched(table, numbering::instance_count(n), numbering::size_of(e))
+    let elements = numbering::size_of(e) as usize;
+    let instances = numbering::instance_count(n) as usize;
+    if instances < elements {
+        return true;
+    }
+    let mut marks = [false; 4096];
+    walk::untouched(map, e, walk, instances, elements, &mut marks)
 }
 
 // The first of the refusals 15 to 17 that applies, 0 if none does.
-fn order_refusal(n: Nest, s: Stream, written: bool, table: &mut [u32; 4096]) -> u32
-    requires { ⌜ (InRange n s) × (length (instances n) ≤ 4096) ⌝ }
+fn order_refusal(n: Nest, s: Stream, written: bool, walk: &[i32]) -> u32
+    requires { ⌜ (InRange n s) × (Along n (now walk)) ⌝ }
     ensures { λ r. ⌜ r ≡ refusal (orderTests n written s) ⌝ }
 {
     let backward = order_refused(n, s, written);
@@ -91,13 +94,13 @@ fn order_refusal(n: Nest, s: Stream, written: bool, table: &mut [u32; 4096]) -> 
     } else if misloaded {
         16
     } else {
-        if elements_refused(n, s, table) { 17 } else { 0 }
+        if elements_refused(n, s, walk) { 17 } else { 0 }
     }
 }
 
 // The same of 13 to 17.
-fn move_refusal(n: Nest, s: Stream, written: bool, limits: Limits, table: &mut [u32; 4096]) -> u32
-    requires { ⌜ (InRange n s) × (length (instances n) ≤ 4096) ⌝ }
+fn move_refusal(n: Nest, s: Stream, written: bool, limits: Limits, walk: &[i32]) -> u32
+    requires { ⌜ (InRange n s) × (Along n (now walk)) ⌝ }
     ensures { λ r. ⌜ r ≡ refusal (moveTests limits n written s) ⌝ }
 {
     if move_refused(n, s) {
@@ -105,7 +108,7 @@ fn move_refusal(n: Nest, s: Stream, written: bool, limits: Limits, table: &mut [
     } else if hop_refused(n, s, limits) {
         14
     } else {
-        order_refusal(n, s, written, table)
+        order_refusal(n, s, written, walk)
     }
 }
 
@@ -115,9 +118,9 @@ pub fn stream_refusal(
     s: Stream,
     written: bool,
     limits: Limits,
-    table: &mut [u32; 4096],
+    walk: &[i32],
 ) -> u32
-    requires { ⌜ (InRange n s) × (length (instances n) ≤ 4096) ⌝ }
+    requires { ⌜ (InRange n s) × (Along n (now walk)) ⌝ }
     ensures { λ r. ⌜ r ≡ refusal (streamTests limits n written s) ⌝ }
 {
     let map = s.map;
@@ -126,6 +129,6 @@ pub fn stream_refusal(
     } else if refusals::still(n, map) {
         12
     } else {
-        move_refusal(n, s, written, limits, table)
+        move_refusal(n, s, written, limits, walk)
     }
 }

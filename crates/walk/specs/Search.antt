@@ -1,5 +1,5 @@
 -- Refusal 17 by the search along the walk. Assumes nothing.
-use mathlib.Core.Path.{_≡_, refl, sym, _∙_, ap, subst}
+use mathlib.Core.Path.{_≡_, refl, sym, _∙_, ap, subst, subst₂}
 use mathlib.Core.Bool.{Bool, true, false, not}
 use mathlib.Core.List.{List}
 use Prim.Native.Nat.{ℕ, _+_, _*_, _≤_, _<_}
@@ -32,7 +32,7 @@ use Rattle.vectors.specs.Within.{Within, Rows}
 use Rattle.numbering.specs.Ranges.{Bounded, point-small}
 use Rattle.numbering.specs.Extents.{Spanning, box-spanning}
 use Rattle.walk.specs.Words.{vectorAt}
-use Rattle.walk.specs.Walked.{Walked}
+use Rattle.walk.specs.Walked.{Walked, Along}
 use Rattle.walk.specs.Touched.{Touch, Misses, Misses.untouched, Misses.all-touched}
 
 -- the number in a box of what a matrix sends instance i of the words to
@@ -130,6 +130,30 @@ module _ {n : Nest} (bounded : Bounded n) (layout : Layout n) (s : Stream) {w : 
       false-is : {b : Bool} → (T b → ⊥) → false ≡ b
       false-is {b = true} g = absurd (g tt)
       false-is {b = false} g = refl
+
+-- the same by the box and the numbers that code has found
+pub record Sized (n : Nest) (s : Stream) (k : Box) (many size : ℕ) : Type 0 where
+  pub box : k ≡ boxOf n (s .map)
+  pub counted : many ≡ length (instances n)
+  pub sized : size ≡ length (points k)
+
+module _ {n : Nest} {s : Stream} {k : Box} {many size : ℕ} (z : Sized n s k many size) where
+  pub size-is : size ≡ length (elements n s)
+  size-is = z .sized ∙ ap (λ (b : Box). length (points b)) (z .box)
+
+  module _ (bounded : Bounded n) {w : List ℤ} (along : Along n w) where
+    pub searching-by : {marks : List Bool} → Rows 4 (s .map) → size ≤ length marks → ((e : ℕ) → e < size → getD marks e false ≡ false)
+        → Searching (s .map) k w many size marks
+    searching-by {marks} rows few clear =
+        subst (λ (b : Box). Searching (s .map) b w many size marks) (sym (z .box))
+        (subst₂ (λ (c e : ℕ). Searching (s .map) (boxOf n (s .map)) w c e marks) (sym (z .counted)) (sym size-is)
+        (searching bounded (along .layout) s (along .walked) rows (omega (arith, along .few, along .room)) (omega (arith, size-is)) (λ e h. clear e (omega (arith, size-is)))))
+
+    pub refusal-by : {r : Bool} → Misses (numberOn (s .map) k w) many size r → r ≡ refused17 n s
+    refusal-by {r} m =
+        refusal-is bounded (along .layout) s (along .walked)
+        (subst₂ (λ (c e : ℕ). Misses (numberOn (s .map) (boxOf n (s .map)) w) c e r) (z .counted) size-is
+        (subst (λ (b : Box). Misses (numberOn (s .map) b w) many size r) (z .box) m))
 
 -- with more elements than instances some are untouched
 pub too-many : {n : Nest} (s : Stream) → Directed n → length (instances n) < length (elements n s) → true ≡ refused17 n s

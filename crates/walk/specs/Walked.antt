@@ -28,6 +28,13 @@ use Rattle.walk.specs.Words.{vectorAt, Lined, lined-none}
 pub record Walked (n : Nest) (w : List ℤ) : Type 0 where
   pub at : (k : ℕ) → k < length (walk n) → vectorAt w k ≡ getD (walk n) k zero3
 
+-- the words of a walk that searches go along, of a nest that 7 and 8 do not refuse
+pub record Along (n : Nest) (w : List ℤ) : Type 0 where
+  pub layout : Layout n
+  pub walked : Walked n w
+  pub few : length (instances n) ≤ 4096
+  pub room : length w ≡ 12288
+
 -- what the walk is stored by: a nest that 1 to 10 do not refuse, with few processes and instances, and the words of its processes
 pub record Walkable (n : Nest) (many : ℕ) (ends : List ℕ) (w : List ℤ) : Type 0 where
   pub nest : Bounded n

@@ -1,8 +1,9 @@
 -- `streams::elements_refused` meets its contract. Assumes nothing.
-use mathlib.Core.Path.{_∙_, ap}
-use lib.ListN.{length}
-use Rattle.meaning.specs.Space.{Box, points}
-use Rattle.tables.specs.Tables.{filled-table, refusal-is}
+use mathlib.Core.Bool.{false}
+use Prim.Native.Nat.{_≤_}
+use native.Mathlib.Omega.{arith}
+use lib.ListN.{getD-replicate}
+use Rattle.walk.specs.Search.{Sized, size-is, searching-by, refusal-by, too-many}
 use borrow.Author.Needs.{needs}
 use Rattle.streams.proofs.elements_refused.Statement.{statement}
 use Rattle.streams.proofs.elements_refused.Tie as tie
@@ -10,33 +11,65 @@ use Rattle.streams.proofs.elements_refused.Tie as tie
 extent-of-requires : tie.Need-extent-of-requires
 extent-of-requires c κs = search needs
 
-fill-numbers-requires : tie.Need-fill-numbers-requires
-fill-numbers-requires c κs = search needs
+size-of-requires : tie.Need-size-of-requires
+size-of-requires c κs = search needs
+
+cast-elements : tie.Need-cast-elements
+cast-elements c = search needs
 
 instance-count-requires : tie.Need-instance-count-requires
 instance-count-requires c κs = search needs
 
-size-of-requires : tie.Need-size-of-requires
-size-of-requires c κs = search needs
-
-untouched-requires : tie.Need-untouched-requires
-untouched-requires c κs = search needs
+cast-instances : tie.Need-cast-instances
+cast-instances c = search needs
 
 returns : tie.Need-returns
 returns c =
-    let b = c .before .before .before .before .before in
-    let a = b .before .before .before .before in
-    c .untouched .ensures
-    ∙ refusal-is (a .args .s) (a .pre .0 .nest .directed) (filled-table _ (b .fill-numbers .ensures) (c .before .before .instance-count .ensures .0)
-    (c .before .size-of .ensures .0 ∙ ap (λ (k : Box). length (points k)) (b .before .before .extent-of .ensures .0)))
+    let s = c .before .before .before .before .before in
+    let z : Sized (s .args .n) (s .args .s) _ _ _ =
+    record {
+      box = c .before .before .before .extent-of .ensures .0;
+      counted = c .before .instance-count .ensures .0;
+      sized = c .before .before .size-of .ensures .0;
+    } in
+    too-many (s .args .s) (s .pre .0 .nest .directed) (omega (arith, size-is z, z .counted, c .if1 .taken))
+
+slice-aggregate-untouched : tie.Need-slice-aggregate-untouched
+slice-aggregate-untouched c = search needs
+
+untouched-requires : tie.Need-untouched-requires
+untouched-requires c κs =
+    let s = c .before .before .before .before .before .before in
+    let z : Sized (s .args .n) (s .args .s) _ _ _ =
+    record {
+      box = c .before .before .before .before .extent-of .ensures .0;
+      counted = c .before .before .instance-count .ensures .0;
+      sized = c .before .before .before .size-of .ensures .0;
+    } in
+    let b : c .before .before .before .size-of .result ≤ 4096 = omega (arith, z .counted, s .pre .1 .few, c .before .if1 .left) in
+    searching-by z (s .pre .0 .nest) (s .pre .1) (s .pre .0 .map) b (λ e h. getD-replicate 4096 e false false (omega (arith, b, h)))
+
+returns-2 : tie.Need-returns-2
+returns-2 c =
+    let s = c .before .before .before .before .before .before .before .before in
+    refusal-by {s = s .args .s}
+    (record {
+      box = c .before .before .before .before .before .before .extent-of .ensures .0;
+      counted = c .before .before .before .before .instance-count .ensures .0;
+      sized = c .before .before .before .before .before .size-of .ensures .0;
+    })
+    (s .pre .0 .nest) (s .pre .1) (c .before .untouched .ensures)
 
 pub elements-refused-spec : {M : Type 1} → statement M
 elements-refused-spec =
     tie.close
     (tie.spec
     extent-of-requires
-    fill-numbers-requires
-    instance-count-requires
     size-of-requires
+    cast-elements
+    instance-count-requires
+    cast-instances
+    returns
+    slice-aggregate-untouched
     untouched-requires
-    returns)
+    returns-2)

@@ -23,7 +23,7 @@ returns-2 c =
 
 returns-3 : tie.Need-returns-3
 returns-3 c =
-    let b = c .before .before in
+    let b = c .before in
     let a = b .before .before in
     skips 13 _ (a .before .move-refused .ensures) (a .if1 .left)
     (skips 14 _ (b .before .hop-refused .ensures) (b .if2 .left) (c .order-refusal .ensures))

@@ -24,16 +24,16 @@ returns-2 c =
 
 returns-3 : tie.Need-returns-3
 returns-3 c =
-    let a = c .before .before .before .before in
+    let a = c .before .before .before in
     let b = a .before in
-    skips 15 _ (b .before .order-refused .ensures) (a .if1 .left) (skips 16 _ (b .loading-refused .ensures) (c .before .before .before .if2 .left)
+    skips 15 _ (b .before .order-refused .ensures) (a .if1 .left) (skips 16 _ (b .loading-refused .ensures) (c .before .before .if2 .left)
     (applies 17 _ (c .before .elements-refused .ensures) (c .if3 .taken)))
 
 returns-4 : tie.Need-returns-4
 returns-4 c =
-    let a = c .before .before .before .before in
+    let a = c .before .before .before in
     let b = a .before in
-    skips 15 _ (b .before .order-refused .ensures) (a .if1 .left) (skips 16 _ (b .loading-refused .ensures) (c .before .before .before .if2 .left)
+    skips 15 _ (b .before .order-refused .ensures) (a .if1 .left) (skips 16 _ (b .loading-refused .ensures) (c .before .before .if2 .left)
     (skips 17 _ (c .before .elements-refused .ensures) (c .if3 .left) accepts))
 
 pub order-refusal-spec : {M : Type 1} → statement M

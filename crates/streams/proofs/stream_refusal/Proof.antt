@@ -23,7 +23,7 @@ returns-2 c =
 
 returns-3 : tie.Need-returns-3
 returns-3 c =
-    let b = c .before .before in
+    let b = c .before in
     let a = b .before .before in
     let x = a .before .before .before .args in
     skips 11 _ (a .before .low-rank .ensures) (a .if1 .left)
