@@ -23,9 +23,11 @@ use Rattle.meaning.specs.Streams.{line}
 use Rattle.meaning.specs.Description.{sizesOf, directionAt, stepAt, wordsOf, inRange, nestOf, noStream, descriptionOf, streamsOf, written, refused2, refused4, refused5}
 use Rattle.meaning.specs.Accept.{against, streamTests, testsFrom, nestTests, byteTests, refusalOf}
 use Rattle.meaning.specs.Tests.{Test, refusal}
+use Rattle.meaning.specs.Walk.{walkTests, walkRefusal}
 use Rattle.meaning.specs.Points.{Direction, Direction.onward, Direction.back, Directed, Within, Earlier}
 use Rattle.geometry.specs.Members.{in-numbers}
 use Rattle.geometry.specs.Numbers.{eqZ-eq, and-left, and-right}
+use Rattle.geometry.specs.Tests.{numbered as tests-numbered, both-pass}
 use Rattle.geometry.specs.Processes.{Layout}
 use Rattle.geometry.specs.Pipes.{Accepted}
 use Rattle.geometry.specs.Accept.{line-of, layout-of, accepted, line-leads}
@@ -171,6 +173,23 @@ some-instance n t =
       inz = record { lo = ≤ℤ-refl (n .left .z); hi = ltZ-no (u .1) };
     }
 
+-- ---- the loops and their layout
+
+-- what is not refused has a walk
+pub walk-passes : (l : Limits) (s : List ℕ) → refusalOf l s ≡ 0 → walkRefusal l s ≡ 0
+unfolding refusalOf walkRefusal descriptionOf tests-numbered
+walk-passes l s e = both-pass (walkTests l s) (testsFrom l (descriptionOf s) 0 (streamsOf (descriptionOf s))) tt e .0
+
+-- what has one has all that the geometry asks of a nest
+pub walk-layout : (l : Limits) (s : List ℕ) → walkRefusal l s ≡ 0 → Layout (descriptionOf s .nest)
+unfolding walkRefusal descriptionOf every
+walk-layout l s e =
+    layout-of (directed s (sizesOf s) (of (there (here refl))) (of (there (there (there (here refl))))))
+    (of (there (there (there (there (there (there (here refl)))))))) (of (there (there (there (there (there (there (there (here refl)))))))))
+  where
+    of : {t : Test} → In t (walkTests l s) → T (not (t .applies))
+    of i = unrefused (walkTests l s) tt e i
+
 -- ---- all of it
 
 pub record Laid (d : Description) : Type 0 where
@@ -210,9 +229,6 @@ laid l s e =
         every-append (byteTests s) (nestTests l n ++ testsFrom l d 0 (streamsOf d)) tt
         (every-append (nestTests l n) (testsFrom l d 0 (streamsOf d)) tt (streams-numbered l d 0 (streamsOf d)))
 
-    of-bytes : {t : Test} → In t (byteTests s) → T (not (t .applies))
-    of-bytes i = unrefused all all-numbered e (Memᴰ·append-left (nestTests l n ++ testsFrom l d 0 (streamsOf d)) i)
-
     of-nest : {t : Test} → In t (nestTests l n) → T (not (t .applies))
     of-nest i = unrefused all all-numbered e (Memᴰ·append-right (byteTests s) (Memᴰ·append-left (testsFrom l d 0 (streamsOf d)) i))
 
@@ -223,9 +239,7 @@ laid l s e =
         (in-tests l d 0 (streamsOf d) i k (subst (λ (c : ℕ). In t (streamTests l n (written d c) (getD (streamsOf d) i noStream))) (sym (zero-add i)) j))))
 
     flat : Layout n
-    flat =
-        layout-of (directed s (sizesOf s) (of-bytes (there (here refl))) (of-bytes (there (there (there (here refl))))))
-        (of-nest (there (there (here refl)))) (of-nest (there (there (there (here refl)))))
+    flat = walk-layout l s (walk-passes l s e)
 
     written-not : (w a : Bool) → T w → T (not (w && a)) → T (not a)
     written-not true a t u = u

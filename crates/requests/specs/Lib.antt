@@ -15,3 +15,4 @@ pub mod RunsLoops
 pub mod FixedPoint
 pub mod GuardedLines
 pub mod CommonDivisors
+pub mod WalkByProcess

@@ -1,0 +1,97 @@
+-- Request 2.4, "walk by process": a whole walk comes to every instance exactly once and to nothing else, in that order, and Accept answers every description as
+-- before. Assumes nothing.
+use mathlib.Core.Path.{_≡_, refl, sym, _∙_, ap, ap₂}
+use mathlib.Core.Bool.{Bool, true, false, not, cond}
+use mathlib.Core.List.{List, [], _∷_, _++_}
+use Prim.Native.Nat.{ℕ, suc, _≤_}
+use native.Mathlib.Decide.{ℕ-discrete}
+use native.Mathlib.Omega.{arith}
+use lib.Dec.{T, leb, leb→le}
+use Rattle.meaning.specs.declared.Limits.{Limits}
+use Rattle.meaning.specs.declared.Nest.{Nest}
+use Rattle.meaning.specs.declared.Stream.{Stream}
+use Rattle.meaning.specs.declared.Description.{Description}
+use Rattle.meaning.specs.Lists.{any, every}
+use Rattle.meaning.specs.Tests.{Test, _if_, refusal}
+use Rattle.meaning.specs.Streams.{elements, touches}
+use Rattle.meaning.specs.Description.{descriptionOf, streamsOf, written}
+use Rattle.meaning.specs.Accept.{refused11, refused12, refused13, refused14, refused15, refused16, refused17, testsFrom, refusalOf, answerOf, accept}
+use Rattle.meaning.specs.Answers.{acceptNumber}
+use Rattle.meaning.specs.Walk.{walkTests, walkRefusal, untouchedOnWalk, walkingFrom, walkingAccept, WalkByProcess}
+use Rattle.geometry.specs.Tests.{none-applies, one-applies, numbered}
+use Rattle.geometry.specs.Processes.{Layout}
+use Rattle.geometry.specs.Descriptions.{walk-passes, walk-layout}
+use Rattle.geometry.specs.Walk.{whole-walk, any-on-walk}
+use Rattle.guarantee.specs.Acceptance.{accepted-not-refused}
+use Rattle.guarantee.specs.Demand1.{demand-one}
+
+-- ---- the check along the walk
+
+-- an element is touched by no instance exactly if the walk comes to none that touches it
+untouched-same : {n : Nest} → Layout n → (s : Stream) → untouchedOnWalk n s ≡ refused17 n s
+untouched-same {n} layout s = λ i. any (λ e. not (any-on-walk layout (λ x. touches s x e) i)) (elements n s)
+
+walking-same : (l : Limits) (d : Description) → Layout (d .nest) → (i : ℕ) (ss : List Stream) → walkingFrom l d i ss ≡ testsFrom l d i ss
+unfolding walkingFrom testsFrom
+walking-same l d layout i [] = refl
+walking-same l d layout i (s ∷ ss) =
+    let n = d .nest in
+    ap₂
+    (λ (b : Bool) (t : List Test).
+    ((11 if refused11 s) ∷ (12 if refused12 n s) ∷ (13 if refused13 n s) ∷ (14 if refused14 l n s) ∷ (15 if refused15 (written d i) n s)
+    ∷ (16 if refused16 n s) ∷ (17 if b) ∷ []) ++ t)
+    (untouched-same layout s) (walking-same l d layout (suc i) ss)
+
+-- ---- numbers
+
+-- a refusal has the number of a test
+refusal-most : (m : ℕ) (l : List Test) → T (every (λ t. leb (t .number) m) l) → refusal l ≤ m
+unfolding refusal every
+refusal-most m [] h = omega arith
+refusal-most m (t ∷ l) h = go (leb (t .number) m) (leb→le (t .number) m) h (t .applies) (refusal-most m l)
+  where
+    go : (b : Bool) → (T b → t .number ≤ m) → T (cond b (every (λ t. leb (t .number) m) l) false) → (a : Bool)
+        → (T (every (λ t. leb (t .number) m) l) → refusal l ≤ m) → cond a (t .number) (refusal l) ≤ m
+    go true f h true ih = f tt
+    go true f h false ih = ih h
+    go false f h a ih = absurd h
+
+module _ (l : Limits) (s : List ℕ) where
+  abbrev d : Description
+  d = descriptionOf s
+
+  walk-most : walkRefusal l s ≤ 10
+  unfolding walkRefusal every
+  walk-most = refusal-most 10 (walkTests l s) tt
+
+  -- one of the refusals 1 to 10 is Accept's, whatever comes after them
+  refused : (walkRefusal l s ≡ 0 → ⊥) → walkRefusal l s ≡ acceptNumber (accept l s)
+  unfolding walkRefusal refusalOf
+  refused f = one-applies (walkTests l s) (testsFrom l d 0 (streamsOf d)) f ∙ sym (demand-one l s .numbers .accept)
+
+  by-stream : 11 ≤ acceptNumber (accept l s) → walkRefusal l s ≡ 0
+  by-stream h = go (ℕ-discrete (walkRefusal l s) 0)
+    where
+      go : Dec (walkRefusal l s ≡ 0) → walkRefusal l s ≡ 0
+      go (yes e) = e
+      go (no f) = absurd (omega (arith, refused f, walk-most))
+
+  as-before : walkingAccept l s ≡ accept l s
+  unfolding walkRefusal refusalOf accept
+  as-before = ap (answerOf s) (go (ℕ-discrete (walkRefusal l s) 0))
+    where
+      go : Dec (walkRefusal l s ≡ 0) → refusal (walkTests l s ++ walkingFrom l d 0 (streamsOf d)) ≡ refusalOf l s
+      go (yes e) = ap (λ (t : List Test). refusal (walkTests l s ++ t)) (walking-same l d (walk-layout l s e) 0 (streamsOf d))
+      go (no f) =
+          sym (one-applies (walkTests l s) (walkingFrom l d 0 (streamsOf d)) f) ∙ one-applies (walkTests l s) (testsFrom l d 0 (streamsOf d)) f
+
+-- REQUEST 2.4
+pub walk-by-process : (l : Limits) (s : List ℕ) → WalkByProcess l s
+walk-by-process l s =
+    record {
+      whole = λ e. whole-walk (walk-layout l s e);
+      accepted = λ e. walk-passes l s (accepted-not-refused l s e);
+      by-stream = by-stream l s;
+      refused = refused l s;
+      as-before = as-before l s;
+    }
