@@ -22,6 +22,13 @@ pub fn descriptions(seed: u64) -> Vec<Vec<u8>> {
             descriptions.push(random_description::refused(&mut random, number));
         }
     }
+    for number in 11..=17 {
+        for _ in 0..20 {
+            let strided = random_stride::strided;
+            let refused = random_description::refused_from(&mut random, number, strided);
+            descriptions.push(refused);
+        }
+    }
     for _ in 0..1500 {
         descriptions.push(random_description::accepted(&mut random).bytes());
         descriptions.push(random_description::changed(&mut random));

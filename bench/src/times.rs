@@ -15,10 +15,14 @@ use crate::library::{self, FIGURES, ROW_WORDS};
 const LONG: Duration = Duration::from_millis(400);
 
 /// The report's designs, the matrix product on a slanted grid (request 2.7), design one with operation 6 (request 2.1), two designs with guards (request 2.5)
-/// and request 2.2's as large as they may be, and 1,024 processes with four instances each.
+/// and request 2.2's as large as they may be, 1,024 processes with four instances each, with three streams and with six, and six streams with boxes of 4,096
+/// elements (request 2.4).
 pub fn arrays() -> Vec<(&'static str, Description)> {
-    let mut wide = designs::matrix_straight(31);
-    wide.right[2] = 3;
+    let [wide, twice] = [designs::matrix_straight, designs::matrix_twice].map(|design| {
+        let mut wide = design(31);
+        wide.right[2] = 3;
+        wide
+    });
     vec![
         ("polynomial one 64", designs::polynomial_one(63)),
         ("fixed point one 64", designs::fixed_one(63)),
@@ -29,6 +33,8 @@ pub fn arrays() -> Vec<(&'static str, Description)> {
         ("matrix moving 16", designs::matrix_moving(15)),
         ("matrix slanted 16", designs::matrix_slanted(15)),
         ("matrix straight 32x32x4", wide),
+        ("matrix twice 32x32x4", twice),
+        ("sheet 64x64x1", designs::sheet(63)),
         ("decimating 64", designs::decimating(63, 63)),
     ]
 }

@@ -1,4 +1,4 @@
-//! The comparison: what Accept, Table and Plain run answer and leave in the lent lists, for a few thousand descriptions.
+//! The comparison: what Accept, Table and Plain run answer and leave in the lent lists, and the walk, for a few thousand descriptions.
 
 use std::fmt::Display;
 
@@ -11,10 +11,16 @@ use crate::random::Random;
 use crate::random_description::{self, given};
 use crate::random_divisor;
 use crate::random_stride;
+use crate::vectors::Point;
+use crate::walk::walk_on;
+use crate::walk_cases::walk_cases;
 use crate::Refusal;
 
 /// How many descriptions have a longer stride by intent.
 const STRIDED: usize = 500;
+
+/// How many of such are declined by each of 11 to 17.
+const STRIDED_AND_REFUSED: usize = 15;
 
 /// How many have a divisor above 1 by intent: accepted, declined by 7 or 11, and with a word changed.
 const DIVIDED: usize = 100;
@@ -27,7 +33,7 @@ const ROWS: usize = 1024;
 /// Every word of the lists before a call.
 const MARK: u32 = 7;
 
-/// The most elements of an array whose rows and final values are printed whole.
+/// The most elements of an array whose walk, rows and final values are printed whole.
 const SMALL: usize = 12;
 
 /// The descriptions, each behind a word with its number of bytes.
@@ -48,8 +54,9 @@ pub fn text(descriptions: &[Vec<u8>]) -> String {
         .collect()
 }
 
-/// Accept's thirteen values or its refusal, a line for Table and a line for Plain run: for each call its number, 0 if it did not decline, and the sum of
-/// its list. The rows and the final values of a small array stand below. A description that is declined counts as one process and one element.
+/// Accept's thirteen values or its refusal, a line for the walk, one for Table and one for Plain run: for each its number, 0 if it did not decline, and the
+/// sum of its list. The walk, the rows and the final values of a small array stand below. A description that is declined counts as one process and one
+/// element.
 fn description_text(number: u32, description: &[u8]) -> String {
     let calls = Calls::on(description);
     let accepted = calls.accept();
@@ -59,9 +66,30 @@ fn description_text(number: u32, description: &[u8]) -> String {
         |refusal| refusal.to_string(),
         |found| found.values().map(|value| value.to_string()).join(" "),
     );
+    let walk = walk_text(description, small);
     let table = table_text(&calls, processes, small);
     let plain = plain_text(&calls, number, elements, small);
-    format!("{first}\n{table}{plain}")
+    format!("{first}\n{walk}{table}{plain}")
+}
+
+/// The walk: its number is one of 1 to 10, and its list the coordinates of the instances, which is empty if it is declined.
+fn walk_text(description: &[u8], small: bool) -> String {
+    let walk = walk_on(description);
+    let answer = walk.as_ref().map(|_| ()).map_err(|&refusal| refusal);
+    let numbers: Vec<i32> = walk.iter().flatten().flat_map(coordinates).collect();
+    let words: Vec<u32> = numbers.iter().map(|&number| number as u32).collect();
+    let mut text = format!("walk{}\n", call_text(answer, &words));
+    if small {
+        text.push_str(&line("along", &numbers));
+    }
+    text
+}
+
+/// An instance as in a row: three coordinates, the last 0 for two loops.
+fn coordinates(instance: &Point) -> [i32; 3] {
+    let mut words = [0; 3];
+    words[..instance.len()].copy_from_slice(instance);
+    words
 }
 
 /// Table with a row too few, with as many as there are processes, and with 1,024.
@@ -175,9 +203,9 @@ fn row_words(row: &Row) -> Vec<u32> {
     numbers.into_iter().map(|number| number as u32).collect()
 }
 
-/// About 4,000 descriptions: the report's designs, document 01's cases, decimating filters, fixed point products, cleared accumulators, arrays at the
+/// About 4,200 descriptions: the report's designs, document 01's cases, decimating filters, fixed point products, cleared accumulators, arrays at the
 /// limits, words of lines at the ends of their ranges, descriptions of the older length, every refusal, accepted ones, such with a longer stride, such
-/// with a word changed, and such that show common divisors.
+/// with a word changed, and such that show common divisors or the walk.
 pub fn descriptions() -> Vec<Vec<u8>> {
     let mut designs = report_designs();
     designs.extend(worked_cases());
@@ -208,6 +236,8 @@ pub fn descriptions() -> Vec<Vec<u8>> {
     }
     descriptions.extend(divisor_cases().iter().map(Description::bytes));
     descriptions.extend(random_divisors(&mut random));
+    descriptions.extend(walk_cases().iter().map(Description::bytes));
+    descriptions.extend(random_strides_refused(&mut random));
     descriptions
 }
 
@@ -223,6 +253,18 @@ fn random_divisors(random: &mut Random) -> Vec<Vec<u8>> {
     for _ in 0..DIVIDED_AND_CHANGED {
         let description = random_divisor::divided(random);
         descriptions.push(random_description::word_changed(random, &description));
+    }
+    descriptions
+}
+
+/// Random descriptions with a longer stride that are declined by 11 to 17, and so have a walk.
+fn random_strides_refused(random: &mut Random) -> Vec<Vec<u8>> {
+    let mut descriptions = Vec::new();
+    for number in 11..=17 {
+        for _ in 0..STRIDED_AND_REFUSED {
+            let strided = random_stride::strided;
+            descriptions.push(random_description::refused_from(random, number, strided));
+        }
     }
     descriptions
 }

@@ -6,6 +6,9 @@ use crate::description::{Description, Matrix};
 /// The first scratch number of three streams.
 const SCRATCH: usize = 3;
 
+/// The first scratch number of six streams.
+const SCRATCH_OF_SIX: usize = 6;
+
 /// Scratch := first times second, sum := sum + scratch, of three streams.
 fn multiply_and_add(first: usize, second: usize, sum: usize) -> Vec<Line> {
     sum_of(Operation::Multiply, first, second, sum)
@@ -16,6 +19,14 @@ fn sum_of(operation: Operation, first: usize, second: usize, sum: usize) -> Vec<
     vec![
         Line::always(operation, SCRATCH, first, second),
         add(sum, sum, SCRATCH),
+    ]
+}
+
+/// Sum := sum + first times second, of six streams.
+fn gain(first: usize, second: usize, sum: usize) -> [Line; 2] {
+    [
+        Line::always(Operation::Multiply, SCRATCH_OF_SIX, first, second),
+        add(sum, sum, SCRATCH_OF_SIX),
     ]
 }
 
@@ -165,6 +176,26 @@ pub fn matrix_moving(n: i32) -> Description {
 /// working ones.
 pub fn matrix_slanted(n: i32) -> Description {
     matrix(n, [[1, 1, 0], [1, -1, 0]], [1, 0])
+}
+
+/// Two matrix products side by side with place (i,j): streams a, b, c and d, e, f, loading (1,0) for c and f.
+pub fn matrix_twice(n: i32) -> Description {
+    let product = matrix_straight(n);
+    Description {
+        maps: [product.maps.as_slice(), &product.maps].concat(),
+        loading: [product.loading.as_slice(), &product.loading].concat(),
+        body: [gain(0, 1, 2), gain(3, 4, 5)].concat(),
+        ..product
+    }
+}
+
+/// Request 2.4: boxes of as many elements as there are instances, with n = 63 the largest that are accepted. Loops 0..n, 0..n and 0..0, place (i,k), step
+/// i+j+k, six streams (i,j), of which the last gains the product of the first two, that of the next two, and the fifth.
+pub fn sheet(n: i32) -> Description {
+    let mut body = [gain(0, 1, 5), gain(2, 3, 5)].concat();
+    body.push(add(5, 5, 4));
+    let place = [[1, 0, 0], [0, 0, 1]];
+    three_loops([n, n, 0], [1; 3], place, &[[[1, 0, 0], [0, 1, 0]]; 6], body)
 }
 
 /// Request 2.5: the matrix product with place (i,j) that clears c itself, where k = 0.

@@ -14,6 +14,7 @@ use crate::random::Random;
 use crate::random_script::scripts;
 use crate::replay::{bundle, replay, step_call, Call, Script};
 use crate::table::table_text;
+use crate::walk_text::walk_text;
 
 /// A program's standard input and the output that it should print.
 pub struct Case {
@@ -27,6 +28,7 @@ pub fn cases() -> Vec<Case> {
     vec![
         shorten_case(),
         print_table_case(),
+        print_walk_case(),
         compare_case(),
         replay_case(),
     ]
@@ -166,7 +168,17 @@ fn print_table_case() -> Case {
     }
 }
 
-/// The comparison of Accept, Table and Plain run.
+/// The walk of the matrix product on the slanted grid, which has null processes.
+fn print_walk_case() -> Case {
+    let stdin = designs::matrix_slanted(2).bytes();
+    Case {
+        name: "print_walk",
+        stdout: walk_text(&stdin).into_bytes(),
+        stdin,
+    }
+}
+
+/// The comparison of Accept, the walk, Table and Plain run.
 fn compare_case() -> Case {
     let descriptions = compare::descriptions();
     Case {

@@ -5,6 +5,7 @@ use crate::description::{Description, Matrix};
 use crate::divisor::Shortened;
 use crate::pipes::{pipes, stations, Pipe, Station};
 use crate::vectors::{dot, is_zero, number_in, shortest, times, within_one, Bounds, Point};
+use crate::walk::walk;
 use crate::{demand, Refusal};
 
 /// The limits of refusals 6, 10 and 14.
@@ -22,6 +23,18 @@ impl Limits {
         processes: 1024,
         hop: 5,
     };
+}
+
+/// Loops with their layout in time and place, whatever their streams are.
+#[derive(Clone, Debug)]
+pub struct Nest {
+    pub description: Description,
+    /// Instances in the order of the plain run.
+    pub instances: Vec<Point>,
+    /// The increment with the divisor of place.
+    pub increment: Shortened,
+    /// Processes in row order.
+    pub processes: Vec<Process>,
 }
 
 /// An accepted description with everything that follows from it.
@@ -66,20 +79,38 @@ pub struct Stream {
     pub start: usize,
 }
 
-impl Array {
-    /// Works out the array of a description; declines by 6 to 17.
-    pub fn of(description: &Description, limits: &Limits) -> Result<Array, Refusal> {
+impl Nest {
+    /// Reads a description under document 01's limits; declines by 1 to 10.
+    pub fn on(description: &[u8]) -> Result<Nest, Refusal> {
+        Nest::of(&Description::read(description)?, &Limits::NAMED)
+    }
+
+    /// Works out the nest of a description; declines by 6 to 10.
+    pub fn of(description: &Description, limits: &Limits) -> Result<Nest, Refusal> {
         demand(number_of_instances(description) <= limits.instances, 6)?;
         let instances = instances(description);
         let increment = increment(description)?;
         let processes = processes(description, &instances, limits)?;
-        let streams = streams(description, &instances, limits)?;
-        let mut array = Array {
+        Ok(Nest {
             description: description.clone(),
             instances,
-            increment: increment.vector,
-            divisor: increment.divisor,
+            increment,
             processes,
+        })
+    }
+}
+
+impl Array {
+    /// Works out the array of a description; declines by 6 to 17.
+    pub fn of(description: &Description, limits: &Limits) -> Result<Array, Refusal> {
+        let nest = Nest::of(description, limits)?;
+        let streams = streams(description, &walk(&nest), limits)?;
+        let mut array = Array {
+            description: nest.description,
+            instances: nest.instances,
+            increment: nest.increment.vector,
+            divisor: nest.increment.divisor,
+            processes: nest.processes,
             streams,
             pipes: Vec::new(),
             stations: Vec::new(),
@@ -194,14 +225,14 @@ impl Process {
 /// The streams, lowest first; declines by 11 to 17.
 fn streams(
     description: &Description,
-    instances: &[Point],
+    walk: &[Point],
     limits: &Limits,
 ) -> Result<Vec<Stream>, Refusal> {
     let mut streams = Vec::new();
     let mut start = 0;
     for number in 0..description.streams() {
         let mut stream = stream(description, number, limits)?;
-        stream.elements = elements(&description.maps[number], instances)?;
+        stream.elements = elements(&description.maps[number], walk)?;
         stream.start = start;
         start += stream.elements.len();
         streams.push(stream);
@@ -245,16 +276,14 @@ fn runs_on(description: &Description, line: &[i32]) -> bool {
         .unwrap_or(false)
 }
 
-/// The elements of the box in row order; declines by 17 at the first that no instance touches.
-fn elements(map: &Matrix, instances: &[Point]) -> Result<Vec<Point>, Refusal> {
-    let mut touched: Vec<Point> = instances
-        .iter()
-        .map(|instance| times(map, instance))
-        .collect();
-    touched.sort();
-    touched.dedup();
-    for element in Bounds::around(&touched).points() {
-        demand(touched.binary_search(&element).is_ok(), 17)?;
+/// The elements of the box in row order; declines by 17 unless the walk touches every one.
+fn elements(map: &Matrix, walk: &[Point]) -> Result<Vec<Point>, Refusal> {
+    let used: Vec<Point> = walk.iter().map(|instance| times(map, instance)).collect();
+    let bounds = Bounds::around(&used);
+    let mut touched = vec![false; bounds.size() as usize];
+    for element in &used {
+        touched[bounds.number(element)] = true;
     }
-    Ok(touched)
+    demand(touched.iter().all(|&it| it), 17)?;
+    Ok(bounds.points().collect())
 }

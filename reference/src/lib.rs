@@ -22,6 +22,9 @@ pub mod replay;
 mod rules;
 pub mod table;
 pub mod vectors;
+pub mod walk;
+pub mod walk_cases;
+pub mod walk_text;
 mod words;
 
 use std::fmt;

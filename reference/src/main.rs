@@ -1,4 +1,4 @@
-//! The command line: table, replay, random, expected.
+//! The command line: table, walk, replay, random, expected.
 
 use std::ffi::OsString;
 use std::fs;
@@ -10,8 +10,9 @@ use reference::expected::write_files;
 use reference::random_script::scripts;
 use reference::replay::{bundle, replay};
 use reference::table::table_text;
+use reference::walk_text::walk_text;
 
-const USAGE: &str = "usage: reference table | replay | random SEED N [DIR] | expected DIR";
+const USAGE: &str = "usage: reference table | walk | replay | random SEED N [DIR] | expected DIR";
 
 fn main() -> ExitCode {
     let arguments: Vec<OsString> = std::env::args_os().skip(1).collect();
@@ -30,6 +31,7 @@ fn command(arguments: &[OsString]) -> Result<(), String> {
     let (name, rest) = arguments.split_first().ok_or("no command")?;
     match (name.to_str(), rest) {
         (Some("table"), []) => print(table_text(&input()?).as_bytes()),
+        (Some("walk"), []) => print(walk_text(&input()?).as_bytes()),
         (Some("replay"), []) => print(replay(&input()?).as_bytes()),
         (Some("random"), [seed, count]) => {
             let scripts: Vec<Vec<u8>> =
@@ -43,7 +45,7 @@ fn command(arguments: &[OsString]) -> Result<(), String> {
         ),
         (Some("expected"), [directory]) => write_files(Path::new(directory))
             .map_err(|error| format!("cannot write {directory:?}: {error}")),
-        (Some("table" | "replay" | "random" | "expected"), _) => {
+        (Some("table" | "walk" | "replay" | "random" | "expected"), _) => {
             Err(format!("wrong number of arguments for {name:?}"))
         }
         _ => Err(format!("unknown command {name:?}")),

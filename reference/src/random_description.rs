@@ -235,9 +235,18 @@ pub fn given() -> impl Iterator<Item = u32> {
 
 /// A description that Accept declines by one of those numbers.
 pub fn refused(random: &mut Random, number: u32) -> Vec<u8> {
+    refused_from(random, number, accepted)
+}
+
+/// Such a description, made from accepted ones that come from a source.
+pub fn refused_from(
+    random: &mut Random,
+    number: u32,
+    source: impl Fn(&mut Random) -> Description,
+) -> Vec<u8> {
     let mut bytes = Vec::new();
     for _ in 0..TRIED {
-        let base = accepted(random);
+        let base = source(random);
         for _ in 0..30 {
             bytes = spoiled(random, base.clone(), number);
             if Calls::on(&bytes).accept() == Err(Refusal(number)) {

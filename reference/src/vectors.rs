@@ -86,6 +86,14 @@ impl Bounds {
             .product()
     }
 
+    /// The number in row order of a point of the box.
+    pub fn number(&self, point: &[i32]) -> usize {
+        let axes = point.iter().zip(&self.low).zip(&self.high);
+        axes.fold(0, |number, ((word, low), high)| {
+            number * (high - low + 1) as usize + (word - low) as usize
+        })
+    }
+
     /// The points of the box in row order.
     pub fn points(&self) -> impl Iterator<Item = Point> + '_ {
         std::iter::successors(Some(self.low.clone()), |point| self.after(point))

@@ -11,6 +11,7 @@ use reference::expected::{cases, vectors};
 use reference::random_script::scripts;
 use reference::replay::replay;
 use reference::table::table_text;
+use reference::walk_text::walk_text;
 
 fn command(arguments: &[&str]) -> Command {
     let mut command = Command::new(env!("CARGO_BIN_EXE_reference"));
@@ -49,12 +50,15 @@ fn check_bad(output: &Output) {
 }
 
 #[test]
-fn table_and_replay() {
+fn table_walk_and_replay() {
     let description = polynomial_two(2).bytes();
-    let output = run(&["table"], &description);
-    assert!(output.status.success());
-    assert_eq!(output.stdout, table_text(&description).as_bytes());
-    assert_eq!(run(&["table"], &[1; 5000]).stdout, b"refused 2\n");
+    let texts: [fn(&[u8]) -> String; 2] = [table_text, walk_text];
+    for (name, text) in ["table", "walk"].into_iter().zip(texts) {
+        let output = run(&[name], &description);
+        assert!(output.status.success());
+        assert_eq!(output.stdout, text(&description).as_bytes());
+        assert_eq!(run(&[name], &[1; 5000]).stdout, b"refused 2\n");
+    }
     for script in scripts(3, 60) {
         let output = run(&["replay"], &script);
         assert!(output.status.success());
@@ -126,11 +130,12 @@ fn expected_files() {
 
 #[test]
 fn bad_arguments() {
-    let bad: [&[&str]; 15] = [
+    let bad: [&[&str]; 16] = [
         &[],
         &["tables"],
         &[""],
         &["table", "more"],
+        &["walk", "more"],
         &["replay", "more"],
         &["random"],
         &["random", "1"],
@@ -166,7 +171,7 @@ fn arguments_that_are_no_text() {
 #[cfg(unix)]
 #[test]
 fn unreadable_input() {
-    for name in ["table", "replay"] {
+    for name in ["table", "walk", "replay"] {
         let folder = File::open(env!("CARGO_TARGET_TMPDIR")).expect("a directory");
         check_bad(
             &command(&[name])

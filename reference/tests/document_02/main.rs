@@ -5,6 +5,7 @@ mod five_places;
 mod fixed_point;
 mod guards;
 mod longer_strides;
+mod walk;
 
 use reference::calls::{Accepted, Calls, Lent};
 use reference::description::Description;
