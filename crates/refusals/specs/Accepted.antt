@@ -22,7 +22,7 @@ use Rattle.meaning.specs.Loops.{instances, stepOf, placeOf}
 use Rattle.meaning.specs.Space.{processes}
 use Rattle.meaning.specs.Streams.{line, stationary, hop, move}
 use Rattle.meaning.specs.Description.{descriptionOf, streamsOf, noStream, written}
-use Rattle.meaning.specs.Accept.{small, refused6, refused7, refused8, refused10, refused11, refused12, refused13, refused14, streamTests, testsFrom, refusalOf}
+use Rattle.meaning.specs.Accept.{small, refused11, refused12, refused13, refused14, streamTests, testsFrom, refusalOf}
 use Rattle.geometry.specs.Numbers.{and-left, and-right}
 use Rattle.geometry.specs.Tests.{numbered, both-pass}
 use Rattle.vectors.specs.Within.{Within2}
@@ -30,7 +30,7 @@ use Rattle.decode.specs.Refusals.{firstTests, passed}
 use Rattle.decode.specs.Ranged.{Ranged, Decoded, decoded}
 use Rattle.refusals.specs.InRange.{InRange, in-range}
 use Rattle.refusals.specs.Small.{small-is}
-use Rattle.refusals.specs.Stages.{layoutTests, laterTests, few, all-tests}
+use Rattle.refusals.specs.Stages.{layoutTests, laterTests, few, few-processes, all-tests}
 
 -- ---- one stream
 
@@ -102,13 +102,9 @@ unfolding numbered
 later-passes l d h e =
     let n = d .nest in
     let p = both-pass (layoutTests l n) (testsFrom l d 0 (streamsOf d)) tt e in
-    let p6 = passed 6 (refused6 l n) _ (λ g. omega arith) (p .0) in
-    let p7 = passed 7 (refused7 n) _ (λ g. omega arith) (p6 .1) in
-    let p8 = passed 8 (refused8 n) _ (λ g. omega arith) (p7 .1) in
-    let p10 = passed 10 (refused10 l n) _ (λ g. omega arith) (p8 .1) in
     record {
       instances = few l n (p .0);
-      processes = ltb-false (l .processes) (length (processes n)) (p10 .0);
+      processes = few-processes l n (p .0);
       stream = λ i k.
           let in-use : i < d .sizes .streams = omega (arith, length-take (d .sizes .streams) (d .streams)) in
           let at = getD-take (d .sizes .streams) (d .streams) i noStream in-use in

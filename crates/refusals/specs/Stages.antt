@@ -16,6 +16,7 @@ use Rattle.meaning.specs.declared.Stream.{Stream}
 use Rattle.meaning.specs.declared.Description.{Description}
 use Rattle.meaning.specs.Tests.{Test, _if_, refusal}
 use Rattle.meaning.specs.Loops.{instances}
+use Rattle.meaning.specs.Space.{processes}
 use Rattle.meaning.specs.Description.{descriptionOf, streamsOf, noStream, written}
 use Rattle.meaning.specs.Accept.{refused6, refused7, refused8, refused10, refused13, refused14, refused15, refused16, refused17, streamTests, testsFrom, refusalOf}
 use Rattle.geometry.specs.Tests.{numbered, none-applies, one-applies}
@@ -43,9 +44,16 @@ pub all-tests : (l : Limits) (s : List ℕ) → refusal (firstTests s ++ laterTe
 unfolding descriptionOf refusalOf
 all-tests l s = refl
 
--- the instances are within the limit
+-- the instances and the processes are within the limits
 pub few : (l : Limits) (n : Nest) → refusal (layoutTests l n) ≡ 0 → length (instances n) ≤ l .instances
 few l n e = ltb-false (l .instances) (length (instances n)) (passed 6 (refused6 l n) _ (λ g. omega arith) e .0)
+
+pub few-processes : (l : Limits) (n : Nest) → refusal (layoutTests l n) ≡ 0 → length (processes n) ≤ l .processes
+few-processes l n e =
+    let p6 = passed 6 (refused6 l n) _ (λ g. omega arith) e in
+    let p7 = passed 7 (refused7 n) _ (λ g. omega arith) (p6 .1) in
+    let p8 = passed 8 (refused8 n) _ (λ g. omega arith) (p7 .1) in
+    ltb-false (l .processes) (length (processes n)) (passed 10 (refused10 l n) _ (λ g. omega arith) (p8 .1) .0)
 
 -- a stage, from what a call ensures of its flag f: a test that applies, and one that does not
 pub applies : (n : ℕ) {f b : Bool} (l : List Test) → f ≡ b → f ≡ true → n ≡ refusal ((n if b) ∷ l)

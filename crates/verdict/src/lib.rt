@@ -4,11 +4,12 @@ ghost use Prim.Native.Nat.{_≤_};
 ghost use lib.ListN.{length};
 ghost use Rattle.meaning.specs.Tests.{refusal};
 ghost use Rattle.meaning.specs.Limits.{gaugeLimits};
-ghost use Rattle.meaning.specs.Description.{streamsOf};
+ghost use Rattle.meaning.specs.Description.{descriptionOf, streamsOf};
 ghost use Rattle.meaning.specs.Loops.{instances};
 ghost use Rattle.meaning.specs.Accept.{testsFrom, refusalOf};
 ghost use Rattle.decode.specs.Ranged.{Ranged};
 ghost use Rattle.refusals.specs.Stages.{laterTests};
+ghost use Rattle.layout.specs.Ends.{Ends};
 use meaning::Description;
 use meaning::Limits;
 
@@ -32,36 +33,37 @@ fn streams_refusal(d: Description, limits: Limits) -> u32
     0
 }
 
-// The first of the refusals 6 to 17 that applies, 0 if none does.
-fn later_refusal(d: Description, limits: Limits) -> u32
-    requires { ⌜ (Ranged d) × (limits .instances ≤ 4096) ⌝ }
-    ensures { λ r. ⌜ r ≡ refusal (laterTests limits d) ⌝ }
+// The first of the refusals 6 to 17 that applies, 0 if none does; the words of the processes are then filled.
+fn later_refusal(d: Description, limits: Limits, ends: &mut [u32; 3072]) -> u32
+    requires { ⌜ (Ranged d) × (limits .instances ≤ 4096) × (limits .processes ≤ 1024) ⌝ }
+    ensures { λ r. ⌜ (r ≡ refusal (laterTests limits d)) × (r ≡ 0 → Ends (d .nest) (now (ends .exit))) ⌝ }
 {
     let n = d.nest;
     let r = nests::nest_refusal(n, limits);
     if r == 0 {
+        layout::fill_processes(n, ends);
         streams_refusal(d, limits)
     } else {
         r
     }
 }
 
-// The refusal of a description under some limits, 0 if it is accepted; the limit of instances may not exceed the places of the table.
-fn refusal_within(s: &[u8], limits: Limits) -> u32
-    requires { ⌜ limits .instances ≤ 4096 ⌝ }
-    ensures { λ r. ⌜ r ≡ refusalOf limits (now (s .entry)) ⌝ }
+// The refusal of a description under some limits, 0 if it is accepted; the limits may not exceed the places of the tables.
+fn refusal_within(s: &[u8], limits: Limits, ends: &mut [u32; 3072]) -> u32
+    requires { ⌜ (limits .instances ≤ 4096) × (limits .processes ≤ 1024) ⌝ }
+    ensures { λ r. ⌜ (r ≡ refusalOf limits (now (s .entry))) × (r ≡ 0 → Ends (descriptionOf (now (s .entry)) .nest) (now (ends .exit))) ⌝ }
 {
     let r = ranges::refusal(s);
     if r == 0 {
-        later_refusal(decode::description(s), limits)
+        later_refusal(decode::description(s), limits, ends)
     } else {
         r
     }
 }
 
-// The refusal of a description by its number, 0 if it is accepted.
-pub fn refusal_of(s: &[u8]) -> u32
-    ensures { λ r. ⌜ r ≡ refusalOf gaugeLimits (now (s .entry)) ⌝ }
+// The refusal of a description by its number, 0 if it is accepted; of its processes the count, the first and the last instances are then filled.
+pub fn refusal_of(s: &[u8], ends: &mut [u32; 3072]) -> u32
+    ensures { λ r. ⌜ (r ≡ refusalOf gaugeLimits (now (s .entry))) × (r ≡ 0 → Ends (descriptionOf (now (s .entry)) .nest) (now (ends .exit))) ⌝ }
 {
-    refusal_within(s, meaning::gauge())
+    refusal_within(s, meaning::gauge(), ends)
 }

@@ -1,4 +1,4 @@
--- `verdict::refusal_of` meets its contract: the gauge's limits are within the places of the table. Assumes nothing.
+-- `verdict::refusal_of` meets its contract: the gauge's limits are within the places of the tables. Assumes nothing.
 use mathlib.Core.Path.{ap, _∙_}
 use denote.Ref.{now}
 use native.Mathlib.Omega.{arith}
@@ -12,12 +12,15 @@ gauge-requires : tie.Need-gauge-requires
 gauge-requires c κs = search needs
 
 refusal-within-requires : tie.Need-refusal-within-requires
-refusal-within-requires c κs = omega (arith, ap (λ (l : Limits). l .instances) (c .gauge .ensures))
+refusal-within-requires c κs =
+    let e = c .before .gauge .ensures in
+    (omega (arith, ap (λ (l : Limits). l .instances) e), omega (arith, ap (λ (l : Limits). l .processes) e))
 
 returns : tie.Need-returns
 returns c =
-    let s = now (c .before .before .before .args .s) in
-    c .refusal-within .ensures ∙ ap (λ (l : Limits). refusalOf l s) (c .before .gauge .ensures)
+    let s = now (c .before .before .before .before .args .s) in
+    let h = c .refusal-within .ensures in
+    (h .0 ∙ ap (λ (l : Limits). refusalOf l s) (c .before .before .gauge .ensures), h .1)
 
 pub refusal-of-spec : {M : Type 1} → statement M
 refusal-of-spec = tie.close (tie.spec gauge-requires refusal-within-requires returns)
