@@ -140,17 +140,15 @@ fn totals_of(d: Description, ends: &[u32]) -> Totals
 }
 
 // The six figures.
-pub fn figures_of(d: Description) -> Figures
-    requires { ⌜ Described d ⌝ }
+pub fn figures_of(d: Description, ends: &[u32]) -> Figures
+    requires { ⌜ (Described d) × (Ends (d .nest) (now ends)) × (3072 ≤ length (now ends)) ⌝ }
     ensures { λ r. ⌜ r ≡ figures d ⌝ }
 {
     let n = d.nest;
     let place = n.place;
     let processes = numbering::size_of(numbering::extent_of(n, place));
     let instances = numbering::instance_count(n);
-    let mut ends = [0u32; 3072];
-    layout::fill_processes(n, &mut ends);
-    let t = totals_of(d, &ends);
+    let t = totals_of(d, ends);
     Figures {
         processes: processes,
         instances: instances,
@@ -165,10 +163,12 @@ pub fn figures_of(d: Description) -> Figures
 pub fn accept(s: &[u8]) -> Acceptance
     ensures { λ r. ⌜ r ≡ accept gaugeLimits (now (s .entry)) ⌝ }
 {
-    let refusal = verdict::refusal_of(s);
+    let mut ends = [0u32; 3072];
+    let refusal = verdict::refusal_of(s, &mut ends);
     if refusal == 0 {
         let d = decode::description(s);
-        Acceptance::Accepted(figures_of(d), divisors::divisors_of(d))
+        let ends = &ends;
+        Acceptance::Accepted(figures_of(d, ends), divisors::divisors_of(d))
     } else {
         Acceptance::Refused(refusal)
     }

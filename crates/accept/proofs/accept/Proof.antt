@@ -1,6 +1,7 @@
 -- `accept::accept` meets its contract. Assumes nothing.
 use borrow.Author.Needs.{needs}
 use mathlib.Core.Path.{sym, _∙_, ap, subst}
+use native.Mathlib.Omega.{arith}
 use denote.Ref.{now}
 use Rattle.meaning.specs.Limits.{gaugeLimits}
 use Rattle.meaning.specs.Accept.{figures, divisors}
@@ -15,26 +16,36 @@ refusal-of-requires : tie.Need-refusal-of-requires
 refusal-of-requires c κs = search needs
 
 description-requires : tie.Need-description-requires
-description-requires c κs = accepted-within gaugeLimits (now (c .before .before .before .args .s)) (sym (c .before .refusal-of .ensures) ∙ c .if1 .taken) .0 .sized
+description-requires c κs =
+    accepted-within gaugeLimits (now (c .before .before .before .before .args .s)) (sym (c .before .refusal-of .ensures .0) ∙ c .if1 .taken) .0 .sized
 
 figures-of-requires : tie.Need-figures-of-requires
 figures-of-requires c κs =
-    rw (← c .description .ensures) at (described (now (c .before .before .before .before .args .s)) (sym (c .before .before .refusal-of .ensures) ∙ c .before .if1 .taken))
+    let b = c .before .before .before .before in
+    let z = c .before .before .before .if1 .taken in
+    let e = c .before .before .description .ensures in (
+      rw (← e) at (described (now (b .before .before .before .args .s)) (sym (b .refusal-of .ensures .0) ∙ z)),
+      rw (← e) at (b .refusal-of .ensures .1 z),
+      omega arith,
+    )
 
 divisors-of-requires : tie.Need-divisors-of-requires
 divisors-of-requires c κs =
-    let s = now (c .before .before .before .before .before .args .s) in
-    let a = accepted-within gaugeLimits s (sym (c .before .before .before .refusal-of .ensures) ∙ c .before .before .if1 .taken) in
-    subst Used (sym (c .before .description .ensures)) (record { ranged = a .0 .ranged; streams = streams-used s })
+    let k = c .before .before .before in
+    let b = k .before .before in
+    let s = now (b .before .before .before .args .s) in
+    let a = accepted-within gaugeLimits s (sym (b .refusal-of .ensures .0) ∙ k .before .if1 .taken) in
+    subst Used (sym (k .description .ensures)) (record { ranged = a .0 .ranged; streams = streams-used s })
 
 returns : tie.Need-returns
 returns c =
-    accepts (now (c .before .before .before .before .before .before .args .s)) (sym (c .before .before .before .before .refusal-of .ensures) ∙ c .before .before .before .if1 .taken)
-    (c .before .figures-of .ensures ∙ ap figures (c .before .before .description .ensures))
-    (c .divisors-of .ensures ∙ ap divisors (c .before .before .description .ensures))
+    let k = c .before .before .before .before in
+    let b = k .before .before in
+    accepts (now (b .before .before .before .args .s)) (sym (b .refusal-of .ensures .0) ∙ k .before .if1 .taken)
+    (c .before .figures-of .ensures ∙ ap figures (k .description .ensures)) (c .divisors-of .ensures ∙ ap divisors (k .description .ensures))
 
 returns-2 : tie.Need-returns-2
-returns-2 c = refuses (now (c .before .before .before .args .s)) (c .before .refusal-of .ensures) (c .if1 .left)
+returns-2 c = refuses (now (c .before .before .before .before .args .s)) (c .before .refusal-of .ensures .0) (c .if1 .left)
 
 pub accept-spec : {M : Type 1} → statement M
 accept-spec =

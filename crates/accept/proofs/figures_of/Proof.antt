@@ -18,45 +18,40 @@ size-of-requires c κs = search needs
 instance-count-requires : tie.Need-instance-count-requires
 instance-count-requires c κs = search needs
 
-slice-aggregate-fill-processes : tie.Need-slice-aggregate-fill-processes
-slice-aggregate-fill-processes c = search needs
-
-fill-processes-requires : tie.Need-fill-processes-requires
-fill-processes-requires c κs = search needs
-
-slice-aggregate-totals-of : tie.Need-slice-aggregate-totals-of
-slice-aggregate-totals-of c = search needs
-
 totals-of-requires : tie.Need-totals-of-requires
-totals-of-requires c κs = search needs
+totals-of-requires c κs = c .before .before .before .before .before .before .pre
 
 element-count-requires : tie.Need-element-count-requires
 element-count-requires c κs = search needs
 
-add-t15 : tie.Need-add-t15
-add-t15 c = search needs
+add-t10 : tie.Need-add-t10
+add-t10 c = search needs
 
-mul-t16 : tie.Need-mul-t16
-mul-t16 c =
-    let s = c .before .before .before .before .before .before .before .before .before .before .before .before in
-    let e = c .before .before .before .before .before .before .before .before .size-of .ensures .0 ∙ ap (λ (k : Box). length (points k)) (c .before .before .before .before .before .before .before .before .before .extent-of .ensures .0) in
-    record { fits = omega (arith, process-words {p = c .before .before .before .before .before .before .before .before .size-of .result} (omega (arith, e, s .pre .processes)) (c .before .before .totals-of .ensures .1 .words)) }
+mul-t11 : tie.Need-mul-t11
+mul-t11 c =
+    let k = c .before .before .before .before in
+    let s = k .before .before .before .before .before in
+    let e = k .size-of .ensures .0 ∙ ap (λ (k : Box). length (points k)) (k .before .extent-of .ensures .0) in
+    record { fits = omega (arith, process-words {p = k .size-of .result} (omega (arith, e, s .pre .0 .processes)) (c .before .before .totals-of .ensures .1 .words)) }
 
-add-t17 : tie.Need-add-t17
-add-t17 c =
-    let s = c .before .before .before .before .before .before .before .before .before .before .before .before .before in
+add-t12 : tie.Need-add-t12
+add-t12 c =
     let t = c .before .before .before .totals-of .ensures .1 in
-    let e = c .before .before .before .before .before .before .before .before .before .size-of .ensures .0 ∙ ap (λ (k : Box). length (points k)) (c .before .before .before .before .before .before .before .before .before .before .extent-of .ensures .0) in
-    record { fits = omega (arith, process-words {p = c .before .before .before .before .before .before .before .before .before .size-of .result} (omega (arith, e, s .pre .processes)) (t .words), t .ends) }
+    let k = c .before .before .before .before .before in
+    let s = k .before .before .before .before .before in
+    let e = k .size-of .ensures .0 ∙ ap (λ (k : Box). length (points k)) (k .before .extent-of .ensures .0) in
+    record { fits = omega (arith, process-words {p = k .size-of .result} (omega (arith, e, s .pre .0 .processes)) (t .words), t .ends) }
 
-add-t18 : tie.Need-add-t18
-add-t18 c = search needs
+add-t13 : tie.Need-add-t13
+add-t13 c = search needs
 
 returns : tie.Need-returns
 returns c =
-    let s = c .before .before .before .before .before .before .before .before .before .before .before .before .before .before in
-    figures-are (s .pre) (c .before .before .before .before .totals-of .ensures .0)
-    (c .before .before .before .before .before .before .before .before .before .before .size-of .ensures .0 ∙ ap (λ (k : Box). length (points k)) (c .before .before .before .before .before .before .before .before .before .before .before .extent-of .ensures .0)) (c .before .before .before .before .before .before .before .before .before .instance-count .ensures .0)
+    let t = c .before .before .before .before in
+    let k = t .before .before in
+    let s = k .before .before .before .before .before in
+    figures-are (s .pre .0) (t .totals-of .ensures .0)
+    (k .size-of .ensures .0 ∙ ap (λ (k : Box). length (points k)) (k .before .extent-of .ensures .0)) (t .before .instance-count .ensures .0)
     (c .before .before .before .element-count .ensures .0) refl refl refl
 
 pub figures-of-spec : {M : Type 1} → statement M
@@ -66,13 +61,10 @@ figures-of-spec =
     extent-of-requires
     size-of-requires
     instance-count-requires
-    slice-aggregate-fill-processes
-    fill-processes-requires
-    slice-aggregate-totals-of
     totals-of-requires
     element-count-requires
-    add-t15
-    mul-t16
-    add-t17
-    add-t18
+    add-t10
+    mul-t11
+    add-t12
+    add-t13
     returns)
