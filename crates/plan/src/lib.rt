@@ -16,6 +16,7 @@ ghost use Rattle.meaning.specs.Pipes.{entries};
 ghost use Rattle.meaning.specs.Array.{arrayOf};
 ghost use Rattle.geometry.specs.Descriptions.{Laid};
 ghost use Rattle.stations.specs.Indices.{strideOf};
+ghost use Rattle.layout.specs.Ends.{Ends};
 ghost use Rattle.parts.specs.Starts.{enteringOne};
 ghost use Rattle.accept.specs.Shares.{Described, Sharing};
 ghost use Rattle.wiring.specs.Strands.{Narrow};
@@ -221,15 +222,13 @@ fn fill_streams(d: Description, stride: u32, processes: u32, ends: &[u32], plan:
 }
 
 // The plan of an accepted description.
-pub fn fill_plan(d: Description, plan: &mut [u32])
-    requires { ⌜ (Described d) × (Laid d) × (length (now plan) ≡ 116736) ⌝ }
+pub fn fill_plan(d: Description, ends: &[u32], plan: &mut [u32])
+    requires { ⌜ (Described d) × (Laid d) × (Ends (d .nest) (now ends)) × (3072 ≤ length (now ends)) × (length (now plan) ≡ 116736) ⌝ }
     ensures { λ r. ⌜ Planned (arrayOf d) (now (plan .exit)) ⌝ }
 {
     let n = d.nest;
     let place = n.place;
     let processes = numbering::size_of(numbering::extent_of(n, place));
     let stride = stride_of(d);
-    let mut ends = [0u32; 3072];
-    layout::fill_processes(n, &mut ends);
-    fill_streams(d, stride, processes, &ends, plan);
+    fill_streams(d, stride, processes, ends, plan);
 }
