@@ -1,5 +1,5 @@
 // What Step, Run, Ready and Result begin with: the refusals of the description, then 20, 26, 21 and 22 of the lent memory; and, if nothing is refused,
-// the book of the array and its size.
+// the words of the processes, the book of the array and its size.
 //
 // specs/, by file:
 //
@@ -8,6 +8,7 @@
 ghost use mathlib.Core.Path.{_≡_};
 ghost use mathlib.Core.Bool.{not};
 ghost use mathlib.Core.List.{[], _∷_};
+ghost use Prim.Native.Nat.{_≤_};
 ghost use lib.ListN.{length};
 ghost use Rattle.meaning.specs.Tests.{_if_, refusal};
 ghost use Rattle.meaning.specs.Limits.{gaugeLimits};
@@ -15,6 +16,7 @@ ghost use Rattle.meaning.specs.Description.{descriptionOf};
 ghost use Rattle.meaning.specs.Array.{arrayOf};
 ghost use Rattle.meaning.specs.Rules.{sound, memoryOf};
 ghost use Rattle.meaning.specs.Calls.{memoryTests, refusedBy};
+ghost use Rattle.layout.specs.Ends.{Ends};
 ghost use Rattle.book.specs.Planned.{Planned};
 ghost use Rattle.memory.specs.Opening.{lengthTests, sizeFrom, Grounds, Standing, Opens, Opened};
 use book::Size;
@@ -53,11 +55,11 @@ fn size_of(d: Description, f: Figures) -> Size
 }
 
 // 0, or 22 where the state is not sound by the book of the array.
-fn sound_refusal(d: Description, z: Size, state: &[u32], book: &mut [u32]) -> u32
-    requires { ⌜ Standing d z (now state) (now book) ⌝ }
+fn sound_refusal(d: Description, z: Size, state: &[u32], ends: &[u32], book: &mut [u32]) -> u32
+    requires { ⌜ (Standing d z (now state) (now book)) × (Ends (d .nest) (now ends)) × (3072 ≤ length (now ends)) ⌝ }
     ensures { λ r. ⌜ (r ≡ refusal ((22 if not (sound (arrayOf d) (now (state .entry)))) ∷ [])) × (Planned (arrayOf d) (now (book .exit))) ⌝ }
 {
-    plan::fill_plan(d, book);
+    plan::fill_plan(d, ends, book);
     if states::sound(book, state, z) { 0 } else { 22 }
 }
 
@@ -67,17 +69,18 @@ fn open_accepted(
     waiting: &[u32],
     received: &[u32],
     state: &[u32],
+    ends: &[u32],
     book: &mut [u32],
 ) -> Opening
-    requires { ⌜ (Grounds d) × (length (now book) ≡ 116736) ⌝ }
+    requires { ⌜ (Grounds d) × (Ends (d .nest) (now ends)) × (3072 ≤ length (now ends)) × (length (now book) ≡ 116736) ⌝ }
     ensures { λ r. ⌜ Opens d (memoryOf (now (waiting .entry)) (now (received .entry)) (now (state .entry))) (now (book .exit)) r ⌝ }
 {
-    let f = accept::figures_of(d);
+    let f = accept::figures_of(d, ends);
     let z = size_of(d, f);
     let r = length_refusal(f, waiting.len(), received.len(), state.len());
     if r == 0 {
         Opening {
-            refusal: sound_refusal(d, z, state, book),
+            refusal: sound_refusal(d, z, state, ends, book),
             size: z,
         }
     } else {
@@ -89,15 +92,23 @@ fn open_accepted(
 }
 
 // All refusals that the four calls share, in their order.
-pub fn open(s: &[u8], waiting: &[u32], received: &[u32], state: &[u32], book: &mut [u32]) -> Opening
+pub fn open(
+    s: &[u8],
+    waiting: &[u32],
+    received: &[u32],
+    state: &[u32],
+    ends: &mut [u32; 3072],
+    book: &mut [u32],
+) -> Opening
     requires { ⌜ length (now book) ≡ 116736 ⌝ }
     ensures { λ r. ⌜ (r .refusal ≡ refusedBy gaugeLimits (now (s .entry)) (memoryTests (descriptionOf (now (s .entry)))
         (memoryOf (now (waiting .entry)) (now (received .entry)) (now (state .entry)))))
-        × (r .refusal ≡ 0 → Opened (now (s .entry)) (memoryOf (now (waiting .entry)) (now (received .entry)) (now (state .entry))) (now (book .exit)) (r .size)) ⌝ }
+        × (r .refusal ≡ 0 → Opened (now (s .entry)) (memoryOf (now (waiting .entry)) (now (received .entry)) (now (state .entry))) (now (book .exit)) (r .size))
+        × (r .refusal ≡ 0 → Ends (descriptionOf (now (s .entry)) .nest) (now (ends .exit))) ⌝ }
 {
-    let r = verdict::refusal_of(s);
+    let r = verdict::refusal_of(s, ends);
     if r == 0 {
-        open_accepted(decode::description(s), waiting, received, state, book)
+        open_accepted(decode::description(s), waiting, received, state, ends, book)
     } else {
         Opening {
             refusal: r,

@@ -1,10 +1,13 @@
 -- `memory::open` meets its contract. Assumes nothing.
 use mathlib.Core.Path.{sym, _∙_, subst}
+use native.Mathlib.Omega.{arith}
 use denote.Ref.{now}
 use borrow.Author.Needs.{needs}
+use Rattle.meaning.specs.declared.Description.{Description}
 use Rattle.meaning.specs.Limits.{gaugeLimits}
 use Rattle.meaning.specs.Rules.{memoryOf}
 use Rattle.refusals.specs.Accepted.{accepted-within}
+use Rattle.layout.specs.Ends.{Ends}
 use Rattle.memory.specs.Opening.{Grounds, grounds, opened, refused}
 use Rattle.memory.proofs.open.Statement.{statement}
 use Rattle.memory.proofs.open.Tie as tie
@@ -13,26 +16,38 @@ refusal-of-requires : tie.Need-refusal-of-requires
 refusal-of-requires c κs = search needs
 
 description-requires : tie.Need-description-requires
-description-requires c κs = accepted-within gaugeLimits _ (sym (c .before .refusal-of .ensures) ∙ c .if1 .taken) .0 .sized
+description-requires c κs = accepted-within gaugeLimits _ (sym (c .before .refusal-of .ensures .0) ∙ c .if1 .taken) .0 .sized
 
 open-accepted-requires : tie.Need-open-accepted-requires
 open-accepted-requires c κs =
-    let ok = sym (c .before .before .before .refusal-of .ensures) ∙ c .before .before .if1 .taken in
-    (subst Grounds (sym (c .before .description .ensures)) (grounds _ ok), c .before .before .before .before .before .before .before .before .before .pre)
+    let b = c .before .before .before .before .before in
+    let z = c .before .before .before .before .if1 .taken in
+    let e = sym (c .before .before .before .description .ensures) in (
+      subst Grounds e (grounds _ (sym (b .refusal-of .ensures .0) ∙ z)),
+      subst (λ (d : Description). Ends (d .nest) (b .refusal-of .last .1 .0)) e (b .refusal-of .ensures .1 z),
+      omega arith,
+      b .before .before .before .before .before .before .before .pre,
+    )
 
 same-length : tie.Need-same-length
 same-length c = search needs
 
 returns : tie.Need-returns
 returns c =
-    let a = c .before .before .before .before .before .before .before .before .before .before .before .before .args in
-    opened (now (a .s)) (memoryOf (now (a .waiting)) (now (a .received)) (now (a .state)))
-    (sym (c .before .before .before .before .before .before .refusal-of .ensures) ∙ c .before .before .before .before .before .if1 .taken) (c .before .before .before .before .description .ensures) (c .before .before .open-accepted .ensures)
+    let b = c .before .before .before .before .before .before .before .before in
+    let a = b .before .before .before .before .before .before .before .args in
+    let z = c .before .before .before .before .before .before .before .if1 .taken in
+    let M = memoryOf (now (a .waiting)) (now (a .received)) (now (a .state)) in
+    let e = c .before .before .before .before .before .before .description .ensures in
+    let h = opened (now (a .s)) M (sym (b .refusal-of .ensures .0) ∙ z) e (c .before .before .open-accepted .ensures) in
+    (h .0, h .1, λ _. b .refusal-of .ensures .1 z)
 
 returns-2 : tie.Need-returns-2
 returns-2 c =
-    let a = c .before .before .before .before .before .before .before .args in
-    refused (now (a .s)) (memoryOf (now (a .waiting)) (now (a .received)) (now (a .state))) (c .before .refusal-of .ensures) (c .if1 .left)
+    let a = c .before .before .before .before .before .before .before .before .args in
+    let e = c .before .refusal-of .ensures in
+    let h = refused (now (a .s)) (memoryOf (now (a .waiting)) (now (a .received)) (now (a .state))) (e .0) (c .if1 .left) in
+    (h .0, h .1, e .1)
 
 pub open-spec : {M : Type 1} → statement M
 open-spec =

@@ -8,10 +8,11 @@ use Rattle.memory.proofs.sound_refusal.Statement.{statement}
 use Rattle.memory.proofs.sound_refusal.Tie as tie
 
 fill-plan-requires : tie.Need-fill-plan-requires
-fill-plan-requires c κs = search needs
+fill-plan-requires c κs =
+    let p = c .before .before .before .before .pre in (p .0 .grounds .described, p .0 .grounds .laid, p .1, p .2, p .0 .words)
 
 sound-requires : tie.Need-sound-requires
-sound-requires c κs = rows-fit-in (c .before .before .before .before .before .before .before .pre) (c .before .before .before .fill-plan .ensures)
+sound-requires c κs = rows-fit-in (c .before .before .before .before .before .before .before .before .pre .0) (c .before .before .before .fill-plan .ensures)
 
 same-length : tie.Need-same-length
 same-length c = search needs
@@ -19,7 +20,7 @@ same-length c = search needs
 returns : tie.Need-returns
 returns c =
     let p = c .before .before .before .before .before .fill-plan .ensures in
-    (passes 22 _ (ap not (sym (sound-by (c .before .before .before .before .before .before .before .before .before .pre) p) ∙ sym (c .before .sound .ensures) ∙ c .if1 .taken)) accepts, p)
+    (passes 22 _ (ap not (sym (sound-by (c .before .before .before .before .before .before .before .before .before .before .pre .0) p) ∙ sym (c .before .sound .ensures) ∙ c .if1 .taken)) accepts, p)
 
 same-length-2 : tie.Need-same-length-2
 same-length-2 c = search needs
@@ -27,7 +28,7 @@ same-length-2 c = search needs
 returns-2 : tie.Need-returns-2
 returns-2 c =
     let p = c .before .before .before .before .before .fill-plan .ensures in
-    (refuses 22 _ (ap not (sym (sound-by (c .before .before .before .before .before .before .before .before .before .pre) p) ∙ sym (c .before .sound .ensures) ∙ c .if1 .left)), p)
+    (refuses 22 _ (ap not (sym (sound-by (c .before .before .before .before .before .before .before .before .before .before .pre .0) p) ∙ sym (c .before .sound .ensures) ∙ c .if1 .left)), p)
 
 pub sound-refusal-spec : {M : Type 1} → statement M
 sound-refusal-spec =
