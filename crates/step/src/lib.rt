@@ -5,10 +5,13 @@
 //   Named     which names are those of a step
 //   Call      what the call answers and leaves
 ghost use mathlib.Core.Path.{_≡_};
+ghost use lib.ListN.{length};
 ghost use Rattle.meaning.specs.Limits.{gaugeLimits};
+ghost use Rattle.meaning.specs.Description.{descriptionOf};
 ghost use Rattle.meaning.specs.Array.{arrayOf};
 ghost use Rattle.meaning.specs.Rules.{memoryOf, apply};
 ghost use Rattle.meaning.specs.Calls.{step};
+ghost use Rattle.layout.specs.Ends.{Ends};
 ghost use Rattle.steps.specs.Meaning.{stepNamed};
 ghost use Rattle.memory.specs.Opening.{Opened};
 ghost use Rattle.step.specs.Named.{seatedBy, namedBy, Rows};
@@ -53,6 +56,7 @@ fn named(book: &[u32], z: Size, kind: u32, number: usize, stream: usize) -> bool
 fn perform(
     d: Description,
     book: &[u32],
+    ends: &[u32],
     z: Size,
     kind: u32,
     number: usize,
@@ -61,18 +65,16 @@ fn perform(
     received: &mut [u32],
     state: &mut [u32],
 )
-    requires { ⌜ Steppable d (now book) z kind number stream (memoryOf (now waiting) (now received) (now state)) ⌝ }
+    requires { ⌜ (Steppable d (now book) z kind number stream (memoryOf (now waiting) (now received) (now state)))
+        × (Ends (d .nest) (now ends)) × (length (now ends) ≡ 3072) ⌝ }
     ensures { λ r. ⌜ memoryOf (now (waiting .entry)) (now (received .exit)) (now (state .exit))
         ≡ apply (arrayOf d) (memoryOf (now (waiting .entry)) (now (received .entry)) (now (state .entry))) (stepNamed kind number stream) ⌝ }
 {
-    let n = d.nest;
-    let mut ends = [0u32; 3072];
-    layout::fill_processes(n, &mut ends);
     let g = steps::program_of(d);
     steps::act(
         g,
         book,
-        &ends,
+        ends,
         z,
         kind,
         number,
@@ -87,6 +89,7 @@ fn perform(
 fn step_opened(
     s: &[u8],
     book: &[u32],
+    ends: &[u32],
     z: Size,
     kind: u32,
     number: usize,
@@ -95,14 +98,26 @@ fn step_opened(
     received: &mut [u32],
     state: &mut [u32],
 ) -> Answer
-    requires { ⌜ Opened (now s) (memoryOf (now waiting) (now received) (now state)) (now book) z ⌝ }
+    requires { ⌜ (Opened (now s) (memoryOf (now waiting) (now received) (now state)) (now book) z)
+        × (Ends (descriptionOf (now s) .nest) (now ends)) × (length (now ends) ≡ 3072) ⌝ }
     ensures { λ r. ⌜ Stepped (now (s .entry)) kind number stream (memoryOf (now (waiting .entry)) (now (received .entry)) (now (state .entry))) r
         (memoryOf (now (waiting .entry)) (now (received .exit)) (now (state .exit))) ⌝ }
 {
     if named(book, z, kind, number, stream) {
         if steps::can(book, state, z, kind, number, stream) {
             let d = decode::description(s);
-            perform(d, book, z, kind, number, stream, waiting, received, state);
+            perform(
+                d,
+                book,
+                ends,
+                z,
+                kind,
+                number,
+                stream,
+                waiting,
+                received,
+                state,
+            );
             Answer::Done
         } else {
             Answer::Refused(24)
@@ -126,14 +141,17 @@ pub fn step(
         × (memoryOf (now (waiting .entry)) (now (received .exit)) (now (state .exit))
         ≡ step gaugeLimits (now (s .entry)) kind number stream (memoryOf (now (waiting .entry)) (now (received .entry)) (now (state .entry))) .memory) ⌝ }
 {
+    let mut ends = [0u32; 3072];
     let mut book = [0u32; 116736];
-    let o = memory::open(s, waiting, received, state, &mut book);
+    let o = memory::open(s, waiting, received, state, &mut ends, &mut book);
     let r = o.refusal;
     if r == 0 {
         let z = o.size;
+        let ends = &ends;
         step_opened(
             s,
             &book,
+            ends,
             z,
             kind,
             number as usize,

@@ -11,26 +11,30 @@ use Rattle.step.proofs.step_opened.Statement.{statement}
 use Rattle.step.proofs.step_opened.Tie as tie
 
 named-requires : tie.Need-named-requires
-named-requires c κs = let o = c .before .before .before .before .before .pre in rows-of (fits (grounds _ (o .accepted)) (o .stood))
+named-requires c κs = let o = c .before .before .before .before .before .before .pre .0 in rows-of (fits (grounds _ (o .accepted)) (o .stood))
 
 can-requires : tie.Need-can-requires
 can-requires c κs =
-    let s = c .before .before .before .before .before .before .before .before in
-    let a = s .args in (
-      fits (grounds _ (s .pre .accepted)) (s .pre .stood),
+    let s = c .before .before .before .before .before .before .before .before .before in
+    let a = s .args in
+    let o = s .pre .0 in (
+      fits (grounds _ (o .accepted)) (o .stood),
       named-inside (a .book .now) _ (a .kind) (a .number) (a .stream) (sym (c .before .before .named .ensures) ∙ c .before .if1 .taken),
     )
 
 description-requires : tie.Need-description-requires
-description-requires c κs = accepted-within gaugeLimits _ (c .before .before .before .before .before .before .before .before .before .before .pre .accepted) .0 .sized
+description-requires c κs = accepted-within gaugeLimits _ (c .before .before .before .before .before .before .before .before .before .before .before .pre .0 .accepted) .0 .sized
 
 perform-requires : tie.Need-perform-requires
 perform-requires c κs =
-    let s = c .before .before .before .before .before .before .before .before .before .before .before .before .before in
+    let k = c .before .before .before .before in
+    let s = k .before .before .before .before .before .before .before .before .before .before in
     let a = s .args in
-    rw (c .before .before .description .ensures)
-    (steppable (s .pre) (a .kind) (a .number) (a .stream) (sym (c .before .before .before .before .before .before .before .named .ensures) ∙ c .before .before .before .before .before .before .if1 .taken)
-    (sym (c .before .before .before .before .can .ensures) ∙ c .before .before .before .if2 .taken))
+    rw (c .before .before .description .ensures) (
+      steppable (s .pre .0) (a .kind) (a .number) (a .stream) (sym (k .before .before .before .named .ensures) ∙ k .before .before .if1 .taken) (sym (k .can .ensures) ∙ c .before .before .before .if2 .taken),
+      s .pre .1,
+      s .pre .2,
+    )
 
 same-length : tie.Need-same-length
 same-length c = search needs
@@ -40,25 +44,26 @@ same-length-2 c = search needs
 
 returns : tie.Need-returns
 returns c =
-    let s = c .before .before .before .before .before .before .before .before .before .before .before .before .before .before .before .before .before .before in
+    let k = c .before .before .before .before .before .before .before .before .before in
+    let s = k .before .before .before .before .before .before .before .before .before .before in
     let a = s .args in
-    done (s .pre) (a .kind) (a .number) (a .stream) (sym (c .before .before .before .before .before .before .before .before .before .before .before .before .named .ensures) ∙ c .before .before .before .before .before .before .before .before .before .before .before .if1 .taken)
-    (sym (c .before .before .before .before .before .before .before .before .before .can .ensures) ∙ c .before .before .before .before .before .before .before .before .if2 .taken) (c .before .before .before .before .perform .ensures ∙ rw (c .before .before .before .before .before .before .before .description .ensures))
+    done (s .pre .0) (a .kind) (a .number) (a .stream) (sym (k .before .before .before .named .ensures) ∙ k .before .before .if1 .taken)
+    (sym (k .can .ensures) ∙ c .before .before .before .before .before .before .before .before .if2 .taken) (c .before .before .before .before .perform .ensures ∙ rw (c .before .before .before .before .before .before .before .description .ensures))
 
 same-length-3 : tie.Need-same-length-3
 same-length-3 c = search needs
 
 returns-2 : tie.Need-returns-2
 returns-2 c =
-    let s = c .before .before .before .before .before .before .before .before .before .before in
+    let s = c .before .before .before .before .before .before .before .before .before .before .before in
     let a = s .args in
-    unready (s .pre) (a .kind) (a .number) (a .stream) (sym (c .before .before .before .before .named .ensures) ∙ c .before .before .before .if1 .taken) (sym (c .before .can .ensures) ∙ c .if2 .left)
+    unready (s .pre .0) (a .kind) (a .number) (a .stream) (sym (c .before .before .before .before .named .ensures) ∙ c .before .before .before .if1 .taken) (sym (c .before .can .ensures) ∙ c .if2 .left)
 
 returns-3 : tie.Need-returns-3
 returns-3 c =
-    let s = c .before .before .before .before .before .before .before in
+    let s = c .before .before .before .before .before .before .before .before in
     let a = s .args in
-    unnamed (s .pre) (a .kind) (a .number) (a .stream) (sym (c .before .named .ensures) ∙ c .if1 .left)
+    unnamed (s .pre .0) (a .kind) (a .number) (a .stream) (sym (c .before .named .ensures) ∙ c .if1 .left)
 
 pub step-opened-spec : {M : Type 1} → statement M
 step-opened-spec =
