@@ -103,7 +103,8 @@ fn fill_stream(n: Nest, s: Stream, first: u32, ends: &[u32], places: &mut [u32])
 
 // ---- all streams
 
-fn fill_streams(d: Description, ends: &[u32], places: &mut [u32])
+// The place of each element in the waiting list.
+pub fn fill_places(d: Description, ends: &[u32], places: &mut [u32])
     requires { ⌜ (Placeable d) × (Ends (d .nest) (now ends)) × (3072 ≤ length (now ends)) × (length (now places) ≡ 24576) ⌝ }
     ensures { λ r. ⌜ PlacesOf d (now (places .exit)) ⌝ }
 {
@@ -116,15 +117,4 @@ fn fill_streams(d: Description, ends: &[u32], places: &mut [u32])
         fill_stream(n, s, first, ends, places);
         i += 1;
     }
-}
-
-// The place of each element in the waiting list.
-pub fn fill_places(d: Description, places: &mut [u32])
-    requires { ⌜ (Placeable d) × (length (now places) ≡ 24576) ⌝ }
-    ensures { λ r. ⌜ PlacesOf d (now (places .exit)) ⌝ }
-{
-    let n = d.nest;
-    let mut ends = [0u32; 3072];
-    layout::fill_processes(n, &mut ends);
-    fill_streams(d, &ends, places);
 }

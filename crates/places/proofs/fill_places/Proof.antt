@@ -1,4 +1,4 @@
--- `places::fill_streams` meets its contract: the places of the elements of the first i streams stand. Assumes nothing.
+-- `places::fill_places` meets its contract: the places of the elements of the first i streams stand. Assumes nothing.
 use borrow.Author.Needs.{needs}
 use mathlib.Core.Path.{_≡_}
 use Prim.Native.Nat.{ℕ, _-_, _≤_, _<_}
@@ -8,8 +8,8 @@ use Rattle.meaning.specs.Description.{streamsOf}
 use Rattle.meaning.specs.Body.{streamStart}
 use Rattle.places.specs.Order.{placeOfElement, none-before, next-right, start-all}
 use Rattle.places.specs.Fired.{stream-streaming}
-use Rattle.places.proofs.fill_streams.Statement.{statement}
-use Rattle.places.proofs.fill_streams.Tie as tie
+use Rattle.places.proofs.fill_places.Statement.{statement}
+use Rattle.places.proofs.fill_places.Tie as tie
 
 abbrev Inv-loop : tie.InvT-loop
 Inv-loop d ends places₀ n m i₀ places i =
@@ -60,8 +60,8 @@ returns c =
     let z : l .i ≡ s .args .d .sizes .streams = omega (arith, c .loop-test .left, l .inv .0) in
     record { places = λ e b. l .inv .2 e (omega (arith, b, start-all (s .args .d) (l .i) z)) }
 
-pub fill-streams-spec : {M : Type 1} → statement M
-fill-streams-spec =
+pub fill-places-spec : {M : Type 1} → statement M
+fill-places-spec =
     tie.close
     (tie.spec
     Inv-loop
