@@ -58,15 +58,14 @@ module _ {s : List ℕ} {M : Memory} {b : List ℕ} {z : Size} (o : Opened s M b
 
   -- the loop starts
   pub starts : {d : Description} {g : Program} {ends watch flags : List ℕ} → d ≡ descriptionOf s → g ≡ programOf d → Within 200 (g .increment)
-      → Ends (d .nest) ends → length ends ≡ 3072 → Watched b z watch → Kept (flagAt b (M .state) z) flags → Started s g b ends watch z M flags
-  starts {ends = ends} e f w h l t k =
+      → Ends (descriptionOf s .nest) ends → length ends ≡ 3072 → Watched b z watch → Kept (flagAt b (M .state) z) flags → Started s g b ends watch z M flags
+  starts e f w h l t k =
       let p = f ∙ ap programOf e in
       let i : Within 200 (increment (descriptionOf s .nest)) = rw p at w in
-      let h' : Ends (descriptionOf s .nest) ends = subst (λ (d : Description). Ends (d .nest) ends) e h in
       record {
         opened = o;
         program = p;
-        programmed = rw p (programmed (grounds s (o .accepted)) (o .stood) h' l i);
+        programmed = rw p (programmed (grounds s (o .accepted)) (o .stood) h l i);
         watched = t;
         kept = k;
       }

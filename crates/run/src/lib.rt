@@ -9,9 +9,12 @@
 //   Turn        one turn of the loop
 //   Call        what the call answers and leaves
 ghost use mathlib.Core.Path.{_≡_};
+ghost use lib.ListN.{length};
 ghost use Rattle.meaning.specs.Limits.{gaugeLimits};
+ghost use Rattle.meaning.specs.Description.{descriptionOf};
 ghost use Rattle.meaning.specs.Rules.{memoryOf};
 ghost use Rattle.meaning.specs.Calls.{run};
+ghost use Rattle.layout.specs.Ends.{Ends};
 ghost use Rattle.memory.specs.Opening.{Opened};
 ghost use Rattle.run.specs.Runs.{Started, Ended};
 ghost use Rattle.run.specs.Call.{RanBy};
@@ -70,21 +73,19 @@ fn run_steps(
 fn run_opened(
     s: &[u8],
     book: &[u32],
+    ends: &[u32],
     z: Size,
     steps: u32,
     waiting: &[u32],
     received: &mut [u32],
     state: &mut [u32],
 ) -> Ran
-    requires { ⌜ Opened (now s) (memoryOf (now waiting) (now received) (now state)) (now book) z ⌝ }
+    requires { ⌜ (Opened (now s) (memoryOf (now waiting) (now received) (now state)) (now book) z)
+        × (Ends (descriptionOf (now s) .nest) (now ends)) × (length (now ends) ≡ 3072) ⌝ }
     ensures { λ r. ⌜ RanBy (now (s .entry)) steps (memoryOf (now (waiting .entry)) (now (received .entry)) (now (state .entry))) r
         (memoryOf (now (waiting .entry)) (now (received .exit)) (now (state .exit))) ⌝ }
 {
-    let d = decode::description(s);
-    let n = d.nest;
-    let mut ends = [0u32; 3072];
-    layout::fill_processes(n, &mut ends);
-    let g = steps::program_of(d);
+    let g = steps::program_of(decode::description(s));
     let mut watch = [0u32; 99329];
     watch::fill_watch(book, z, &mut watch);
     let mut flags = [0u32; 33824];
@@ -93,7 +94,7 @@ fn run_opened(
         s,
         g,
         book,
-        &ends,
+        ends,
         &watch,
         z,
         steps,
@@ -114,12 +115,14 @@ pub fn run(s: &[u8], steps: u32, waiting: &[u32], received: &mut [u32], state: &
         × (memoryOf (now (waiting .entry)) (now (received .exit)) (now (state .exit))
         ≡ run gaugeLimits (now (s .entry)) steps (memoryOf (now (waiting .entry)) (now (received .entry)) (now (state .entry))) .memory) ⌝ }
 {
+    let mut ends = [0u32; 3072];
     let mut book = [0u32; 116736];
-    let o = memory::open(s, waiting, received, state, &mut book);
+    let o = memory::open(s, waiting, received, state, &mut ends, &mut book);
     let r = o.refusal;
     if r == 0 {
         let z = o.size;
-        run_opened(s, &book, z, steps, waiting, received, state)
+        let ends = &ends;
+        run_opened(s, &book, ends, z, steps, waiting, received, state)
     } else {
         Ran::Refused(r)
     }

@@ -1,4 +1,5 @@
 -- `run::run` meets its contract. Assumes nothing.
+use native.Mathlib.Omega.{arith}
 use denote.Ref.{now}
 use borrow.Author.Needs.{needs}
 use Rattle.meaning.specs.Rules.{memoryOf}
@@ -16,7 +17,9 @@ slice-aggregate-run-opened : tie.Need-slice-aggregate-run-opened
 slice-aggregate-run-opened c = search needs
 
 run-opened-requires : tie.Need-run-opened-requires
-run-opened-requires c κs = c .before .before .before .before .before .before .«open» .ensures .1 (c .before .before .before .before .if1 .taken)
+run-opened-requires c κs =
+    let z = c .before .before .before .before .before .before .if1 .taken in
+    let e = c .before .before .before .before .before .before .before .before .«open» .ensures in (e .1 z, e .2 z, omega arith)
 
 same-length : tie.Need-same-length
 same-length c = search needs
@@ -26,9 +29,10 @@ same-length-2 c = search needs
 
 returns : tie.Need-returns
 returns c =
-    let a = c .before .before .before .before .before .before .before .before .before .before .before .before .before .before .before .before .before .before .before .args in
-    opened-call (now (a .s)) (a .steps) (memoryOf (now (a .waiting)) (now (a .received)) (now (a .state))) (c .before .before .before .before .before .before .before .before .before .before .before .«open» .ensures .0)
-    (c .before .before .before .before .before .before .before .before .before .if1 .taken) (c .before .before .before .before .run-opened .ensures)
+    let k = c .before .before .before .before .before .before .before .before .before .before .before .before .before in
+    let a = k .before .before .before .before .before .before .before .before .before .args in
+    opened-call (now (a .s)) (a .steps) (memoryOf (now (a .waiting)) (now (a .received)) (now (a .state))) (k .«open» .ensures .0)
+    (c .before .before .before .before .before .before .before .before .before .before .before .if1 .taken) (c .before .before .before .before .run-opened .ensures)
 
 same-length-3 : tie.Need-same-length-3
 same-length-3 c = search needs
@@ -38,7 +42,7 @@ same-length-4 c = search needs
 
 returns-2 : tie.Need-returns-2
 returns-2 c =
-    let a = c .before .before .before .before .before .before .before .before .before .before .args in
+    let a = c .before .before .before .before .before .before .before .before .before .before .before .args in
     refused-call (now (a .s)) (a .steps) (memoryOf (now (a .waiting)) (now (a .received)) (now (a .state))) (c .before .before .«open» .ensures .0) (c .if1 .left)
 
 pub run-spec : {M : Type 1} → statement M

@@ -1,7 +1,4 @@
 -- `run::run_opened` meets its contract. Assumes nothing.
-use Prim.Native.Nat.{ℕ}
-use native.Mathlib.Omega.{arith}
-use lib.ListN.{length-replicate}
 use borrow.Author.Needs.{needs}
 use Rattle.meaning.specs.Limits.{gaugeLimits}
 use Rattle.refusals.specs.Accepted.{accepted-within}
@@ -12,31 +9,23 @@ use Rattle.run.proofs.run_opened.Statement.{statement}
 use Rattle.run.proofs.run_opened.Tie as tie
 
 description-requires : tie.Need-description-requires
-description-requires c κs = accepted-within gaugeLimits _ (c .before .before .before .before .before .pre .accepted) .0 .sized
-
-slice-aggregate-fill-processes : tie.Need-slice-aggregate-fill-processes
-slice-aggregate-fill-processes c = search needs
-
-fill-processes-requires : tie.Need-fill-processes-requires
-fill-processes-requires c κs =
-    let g = grounds _ (c .before .before .before .before .before .before .before .before .pre .accepted) .described in
-    rw (c .before .before .description .ensures) (g .nest, g .instances, g .processes, length-replicate {A = ℕ} 3072 0)
+description-requires c κs = accepted-within gaugeLimits _ (c .before .before .before .before .before .before .pre .0 .accepted) .0 .sized
 
 program-of-requires : tie.Need-program-of-requires
 program-of-requires c κs =
-    let g = grounds _ (c .before .before .before .before .before .before .before .before .before .before .pre .accepted) .described in rw (c .before .before .before .before .description .ensures) (g .nest .step, g .nest .place)
+    let g = grounds _ (c .before .before .before .before .before .before .before .pre .0 .accepted) .described in rw (c .description .ensures) (g .nest .step, g .nest .place)
 
 slice-aggregate-fill-watch : tie.Need-slice-aggregate-fill-watch
 slice-aggregate-fill-watch c = search needs
 
 fill-watch-requires : tie.Need-fill-watch-requires
-fill-watch-requires c κs = table-asks (c .before .before .before .before .before .before .before .before .before .before .before .before .pre)
+fill-watch-requires c κs = table-asks (c .before .before .before .before .before .before .before .before .before .pre .0)
 
 slice-aggregate-fill-flags : tie.Need-slice-aggregate-fill-flags
 slice-aggregate-fill-flags c = search needs
 
 fill-flags-requires : tie.Need-fill-flags-requires
-fill-flags-requires c κs = flags-ask (c .before .before .before .before .before .before .before .before .before .before .before .before .before .before .before .before .pre)
+fill-flags-requires c κs = flags-ask (c .before .before .before .before .before .before .before .before .before .before .before .before .before .pre .0)
 
 slice-aggregate-run-steps : tie.Need-slice-aggregate-run-steps
 slice-aggregate-run-steps c = search needs
@@ -44,14 +33,12 @@ slice-aggregate-run-steps c = search needs
 slice-aggregate-run-steps-2 : tie.Need-slice-aggregate-run-steps-2
 slice-aggregate-run-steps-2 c = search needs
 
-slice-aggregate-run-steps-3 : tie.Need-slice-aggregate-run-steps-3
-slice-aggregate-run-steps-3 c = search needs
-
 run-steps-requires : tie.Need-run-steps-requires
 run-steps-requires c κs =
-    let p = c .before .before .before .before .before .before .before .before .before .before .before .before .program-of .ensures in
-    starts (c .before .before .before .before .before .before .before .before .before .before .before .before .before .before .before .before .before .before .before .before .before .before .before .pre) (c .before .before .before .before .before .before .before .before .before .before .before .before .before .before .before .before .before .description .ensures) (p .0) (p .1) (c .before .before .before .before .before .before .before .before .before .before .before .before .before .before .fill-processes .ensures)
-    (omega (arith, length-replicate {A = ℕ} 3072 0, c .before .before .before .before .before .before .before .before .before .before .before .before .before .ends2 .given)) (c .before .before .before .before .before .before .before .before .before .before .fill-watch .ensures) (c .before .before .before .before .before .before .fill-flags .ensures)
+    let k = c .before .before .before .before .before .before .before .before .before .before .before in
+    let p = k .program-of .ensures in
+    let h = k .before .before .before .before .before .before .before .before .pre in
+    starts (h .0) (k .before .description .ensures) (p .0) (p .1) (h .1) (h .2) (c .before .before .before .before .before .before .before .before .before .fill-watch .ensures) (c .before .before .before .before .before .fill-flags .ensures)
 
 slice-aggregate-lowest : tie.Need-slice-aggregate-lowest
 slice-aggregate-lowest c = search needs
@@ -74,8 +61,6 @@ run-opened-spec =
     tie.close
     (tie.spec
     description-requires
-    slice-aggregate-fill-processes
-    fill-processes-requires
     program-of-requires
     slice-aggregate-fill-watch
     fill-watch-requires
@@ -83,7 +68,6 @@ run-opened-spec =
     fill-flags-requires
     slice-aggregate-run-steps
     slice-aggregate-run-steps-2
-    slice-aggregate-run-steps-3
     run-steps-requires
     slice-aggregate-lowest
     lowest-requires
