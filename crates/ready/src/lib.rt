@@ -94,8 +94,9 @@ pub fn ready(
         × (now (words .exit) ≡ readyCall gaugeLimits (now (s .entry)) (now (words .entry))
         (memoryOf (now (waiting .entry)) (now (received .entry)) (now (state .entry))) .words) ⌝ }
 {
+    let mut ends = [0u32; 3072];
     let mut book = [0u32; 116736];
-    let o = memory::open(s, waiting, received, state, &mut book);
+    let o = memory::open(s, waiting, received, state, &mut ends, &mut book);
     let r = o.refusal;
     if r == 0 {
         let z = o.size;
