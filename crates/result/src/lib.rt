@@ -6,13 +6,16 @@
 //   Order     values read at their elements' places are in element order: `ordered`
 //   Call      the call's own refusals, and what it answers and leaves
 ghost use mathlib.Core.Path.{_≡_};
+ghost use Prim.Native.Nat.{_≤_};
 ghost use lib.ListN.{length};
 ghost use Rattle.integers.specs.Fill.{fillBy};
 ghost use Rattle.meaning.specs.Lists.{every, numbers};
 ghost use Rattle.meaning.specs.Tests.{refusal};
 ghost use Rattle.meaning.specs.Limits.{gaugeLimits};
+ghost use Rattle.meaning.specs.Description.{descriptionOf};
 ghost use Rattle.meaning.specs.Rules.{memoryOf};
 ghost use Rattle.meaning.specs.Calls.{lengthOf, result};
+ghost use Rattle.layout.specs.Ends.{Ends};
 ghost use Rattle.places.specs.Order.{Placeable};
 ghost use Rattle.result.specs.Out.{outBy, Asked};
 ghost use Rattle.result.specs.Order.{placed, Readable, elementOrder};
@@ -50,12 +53,13 @@ fn put_in_order(received: &[u32], places: &[u32], elements: usize, output: &mut 
     }
 }
 
-fn fill_output(d: Description, received: &[u32], output: &mut [u32])
-    requires { ⌜ (Placeable d) × (length (now received) ≡ lengthOf d) × (length (now output) ≡ lengthOf d) ⌝ }
+fn fill_output(d: Description, ends: &[u32], received: &[u32], output: &mut [u32])
+    requires { ⌜ (Placeable d) × (length (now received) ≡ lengthOf d) × (length (now output) ≡ lengthOf d)
+        × (Ends (d .nest) (now ends)) × (3072 ≤ length (now ends)) ⌝ }
     ensures { λ r. ⌜ now (output .exit) ≡ elementOrder d (now (received .entry)) ⌝ }
 {
     let mut places = [0u32; 24576];
-    places::fill_places(d, &mut places);
+    places::fill_places(d, ends, &mut places);
     put_in_order(received, &places, received.len(), output);
 }
 
@@ -70,18 +74,20 @@ fn own_refusal(out: bool, fits: bool) -> u32
 fn result_opened(
     s: &[u8],
     book: &[u32],
+    ends: &[u32],
     z: Size,
     received: &[u32],
     state: &[u32],
     output: &mut [u32],
 ) -> Answer
-    requires { ⌜ Drawable (now s) (now book) z (now received) (now state) ⌝ }
+    requires { ⌜ (Drawable (now s) (now book) z (now received) (now state))
+        × (Ends (descriptionOf (now s) .nest) (now ends)) × (3072 ≤ length (now ends)) ⌝ }
     ensures { λ r. ⌜ Called (now (s .entry)) (now (received .entry)) (now (state .entry)) (now (output .entry)) r (now (output .exit)) ⌝ }
 {
     let out = all_out(book, state, z.pipes);
     let r = own_refusal(out, output.len() == received.len());
     if r == 0 {
-        fill_output(decode::description(s), received, output);
+        fill_output(decode::description(s), ends, received, output);
         Answer::Done
     } else {
         Answer::Refused(r)
@@ -101,12 +107,14 @@ pub fn result(
         × (now (output .exit)
         ≡ result gaugeLimits (now (s .entry)) (now (output .entry)) (memoryOf (now (waiting .entry)) (now (received .entry)) (now (state .entry))) .output) ⌝ }
 {
+    let mut ends = [0u32; 3072];
     let mut book = [0u32; 116736];
-    let o = memory::open(s, waiting, received, state, &mut book);
+    let o = memory::open(s, waiting, received, state, &mut ends, &mut book);
     let r = o.refusal;
     if r == 0 {
         let z = o.size;
-        result_opened(s, &book, z, received, state, output)
+        let ends = &ends;
+        result_opened(s, &book, ends, z, received, state, output)
     } else {
         Answer::Refused(r)
     }

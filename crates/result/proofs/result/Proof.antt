@@ -1,5 +1,6 @@
 -- `result::result` meets its contract. Assumes nothing.
 use borrow.Author.Needs.{needs}
+use native.Mathlib.Omega.{arith}
 use denote.Ref.{now}
 use Rattle.meaning.specs.Rules.{memoryOf}
 use Rattle.result.specs.Call.{drawable, opened-call, refused-call}
@@ -17,24 +18,25 @@ slice-aggregate-result-opened c = search needs
 
 result-opened-requires : tie.Need-result-opened-requires
 result-opened-requires c κs =
-    let i = c .before .before .before in
-    drawable (i .before .before .«open» .ensures .1 (i .if1 .taken))
+    let i = c .before .before .before .before .before in
+    let z = i .if1 .taken in
+    let e = i .before .before .«open» .ensures in (drawable (e .1 z), e .2 z, omega arith)
 
 same-length : tie.Need-same-length
 same-length c = search needs
 
 returns : tie.Need-returns
 returns c =
-    let i = c .before .before .before .before .before .before in
+    let i = c .before .before .before .before .before .before .before .before in
     let o = i .before .before in
-    let a = o .before .before .before .before .before .before .before .args in
+    let a = o .before .before .before .before .before .before .before .before .args in
     opened-call (now (a .s)) (now (a .output)) (memoryOf (now (a .waiting)) (now (a .received)) (now (a .state))) (o .«open» .ensures .0) (i .if1 .taken)
     (c .before .before .result-opened .ensures)
 
 returns-2 : tie.Need-returns-2
 returns-2 c =
     let o = c .before .before in
-    let a = o .before .before .before .before .before .before .before .args in
+    let a = o .before .before .before .before .before .before .before .before .args in
     refused-call (now (a .s)) (now (a .output)) (memoryOf (now (a .waiting)) (now (a .received)) (now (a .state))) (o .«open» .ensures .0) (c .if1 .left)
 
 pub result-spec : {M : Type 1} → statement M
