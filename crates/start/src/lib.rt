@@ -5,11 +5,13 @@
 //   Values    values put at their elements' places are in pipe order: `gathered`; words cleared
 //   Call      the call's own refusals, and what it answers and leaves
 ghost use mathlib.Core.Path.{_≡_};
+ghost use Prim.Native.Nat.{_≤_};
 ghost use lib.ListN.{length};
 ghost use Rattle.meaning.specs.Tests.{refusal};
 ghost use Rattle.meaning.specs.Limits.{gaugeLimits};
 ghost use Rattle.meaning.specs.Rules.{memoryOf};
 ghost use Rattle.meaning.specs.Calls.{start};
+ghost use Rattle.layout.specs.Ends.{Ends};
 ghost use Rattle.places.specs.Order.{Placeable};
 ghost use Rattle.start.specs.Values.{Puttable, put};
 ghost use Rattle.start.specs.Call.{startedBy, ownTests, Called, Fitting};
@@ -34,17 +36,18 @@ fn put_values(values: &[u32], places: &[u32], waiting: &mut [u32])
 fn fill_memory(
     d: Description,
     f: Figures,
+    ends: &[u32],
     values: &[u32],
     waiting: &mut [u32],
     received: &mut [u32],
     state: &mut [u32],
 )
-    requires { ⌜ Fitting d f (now values) (memoryOf (now waiting) (now received) (now state)) ⌝ }
+    requires { ⌜ (Fitting d f (now values) (memoryOf (now waiting) (now received) (now state))) × (Ends (d .nest) (now ends)) × (3072 ≤ length (now ends)) ⌝ }
     ensures { λ r. ⌜ memoryOf (now (waiting .exit)) (now (received .exit)) (now (state .exit))
         ≡ startedBy d (now (values .entry)) (memoryOf (now (waiting .entry)) (now (received .entry)) (now (state .entry))) ⌝ }
 {
     let mut places = [0u32; 24576];
-    places::fill_places(d, &mut places);
+    places::fill_places(d, ends, &mut places);
     put_values(values, &places, waiting);
     tables::clear(f.elements, received);
     tables::clear(f.words, state);
@@ -71,19 +74,20 @@ fn own_refusal(f: Figures, values: usize, waiting: usize, received: usize, state
 // The call on an accepted description.
 fn start_accepted(
     d: Description,
+    ends: &[u32],
     values: &[u32],
     waiting: &mut [u32],
     received: &mut [u32],
     state: &mut [u32],
 ) -> Answer
-    requires { ⌜ Placeable d ⌝ }
+    requires { ⌜ (Placeable d) × (Ends (d .nest) (now ends)) × (3072 ≤ length (now ends)) ⌝ }
     ensures { λ r. ⌜ Called d (now (values .entry)) (memoryOf (now (waiting .entry)) (now (received .entry)) (now (state .entry))) r
         (memoryOf (now (waiting .exit)) (now (received .exit)) (now (state .exit))) ⌝ }
 {
-    let f = accept::figures_of(d);
+    let f = accept::figures_of(d, ends);
     let r = own_refusal(f, values.len(), waiting.len(), received.len(), state.len());
     if r == 0 {
-        fill_memory(d, f, values, waiting, received, state);
+        fill_memory(d, f, ends, values, waiting, received, state);
         Answer::Done
     } else {
         Answer::Refused(r)
@@ -102,9 +106,18 @@ pub fn start(
         × (memoryOf (now (waiting .exit)) (now (received .exit)) (now (state .exit))
         ≡ start gaugeLimits (now (s .entry)) (now (values .entry)) (memoryOf (now (waiting .entry)) (now (received .entry)) (now (state .entry))) .memory) ⌝ }
 {
-    let r = verdict::refusal_of(s);
+    let mut ends = [0u32; 3072];
+    let r = verdict::refusal_of(s, &mut ends);
     if r == 0 {
-        start_accepted(decode::description(s), values, waiting, received, state)
+        let ends = &ends;
+        start_accepted(
+            decode::description(s),
+            ends,
+            values,
+            waiting,
+            received,
+            state,
+        )
     } else {
         Answer::Refused(r)
     }

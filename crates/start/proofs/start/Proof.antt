@@ -1,10 +1,11 @@
 -- `start::start` meets its contract. Assumes nothing.
-use mathlib.Core.Path.{sym, _∙_, subst}
+use mathlib.Core.Path.{sym, _∙_}
+use native.Mathlib.Omega.{arith}
 use denote.Ref.{now}
 use borrow.Author.Needs.{needs}
 use Rattle.meaning.specs.Limits.{gaugeLimits}
 use Rattle.refusals.specs.Accepted.{accepted-within}
-use Rattle.places.specs.Order.{Placeable, placeable}
+use Rattle.places.specs.Order.{placeable}
 use Rattle.meaning.specs.Rules.{memoryOf}
 use Rattle.start.specs.Call.{accepted-call, refused-call}
 use Rattle.start.proofs.start.Statement.{statement}
@@ -14,12 +15,14 @@ refusal-of-requires : tie.Need-refusal-of-requires
 refusal-of-requires c κs = search needs
 
 description-requires : tie.Need-description-requires
-description-requires c κs = accepted-within gaugeLimits _ (sym (c .before .refusal-of .ensures) ∙ c .if1 .taken) .0 .sized
+description-requires c κs = accepted-within gaugeLimits _ (sym (c .before .before .refusal-of .ensures .0) ∙ c .before .if1 .taken) .0 .sized
 
 start-accepted-requires : tie.Need-start-accepted-requires
 start-accepted-requires c κs =
-    let d = c .before .before .before in
-    subst Placeable (sym (d .description .ensures)) (placeable _ (sym (d .before .before .refusal-of .ensures) ∙ d .before .if1 .taken))
+    let d = c .before .before .before .before in
+    let z = d .before .before .if1 .taken in
+    let r = d .before .before .before .refusal-of .ensures in
+    rw (d .description .ensures) (placeable _ (sym (r .0) ∙ z), r .1 z, omega arith)
 
 same-length : tie.Need-same-length
 same-length c = search needs
@@ -32,16 +35,16 @@ same-length-3 c = search needs
 
 returns : tie.Need-returns
 returns c =
-    let d = c .before .before .before .before .before .before .before .before .before .before in
-    let i = d .before in
-    let a = c .before .before .before .before .before .before .before .before .before .before .before .before .before .before .before .before .before .before .args in
+    let d = c .before .before .before .before .before .before .before .before .before .before .before in
+    let i = d .before .before in
+    let a = i .before .before .before .before .before .before .before .before .args in
     accepted-call (now (a .s)) (now (a .values)) (memoryOf (now (a .waiting)) (now (a .received)) (now (a .state)))
-    (sym (i .before .refusal-of .ensures) ∙ i .if1 .taken) (d .description .ensures) (c .before .before .before .before .before .before .start-accepted .ensures)
+    (sym (i .before .refusal-of .ensures .0) ∙ i .if1 .taken) (d .description .ensures) (c .before .before .before .before .before .before .start-accepted .ensures)
 
 returns-2 : tie.Need-returns-2
 returns-2 c =
-    let a = c .before .before .before .before .before .before .before .args in
-    refused-call (now (a .s)) (now (a .values)) (memoryOf (now (a .waiting)) (now (a .received)) (now (a .state))) (c .before .refusal-of .ensures) (c .if1 .left)
+    let a = c .before .before .before .before .before .before .before .before .args in
+    refused-call (now (a .s)) (now (a .values)) (memoryOf (now (a .waiting)) (now (a .received)) (now (a .state))) (c .before .refusal-of .ensures .0) (c .if1 .left)
 
 pub start-spec : {M : Type 1} → statement M
 start-spec =

@@ -7,17 +7,21 @@ use Rattle.start.proofs.start_accepted.Statement.{statement}
 use Rattle.start.proofs.start_accepted.Tie as tie
 
 figures-of-requires : tie.Need-figures-of-requires
-figures-of-requires c κs = c .before .before .before .before .pre .described
+figures-of-requires c κs = let p = c .before .before .before .before .before .pre in (p .0 .described, p .1, p .2)
 
 own-refusal-requires : tie.Need-own-refusal-requires
 own-refusal-requires c κs = search needs
 
 fill-memory-requires : tie.Need-fill-memory-requires
 fill-memory-requires c κs =
-    let s = c .before .before .before .before .before .before .before .before .before .before in
-    let a = s .args in
-    fitting (a .d) (c .before .before .before .before .before .figures-of .ensures) (now (a .values)) (memoryOf (now (a .waiting)) (now (a .received)) (now (a .state))) (c .before .before .before .before .own-refusal .ensures)
-    (s .pre) (c .before .before .before .if1 .taken)
+    let f = c .before .before .before .before .before in
+    let s = f .before .before .before .before .before .before in
+    let a = s .args in (
+      fitting (a .d) (f .figures-of .ensures) (now (a .values)) (memoryOf (now (a .waiting)) (now (a .received)) (now (a .state)))
+          (c .before .before .before .before .own-refusal .ensures) (s .pre .0) (c .before .before .before .if1 .taken),
+      s .pre .1,
+      s .pre .2,
+    )
 
 same-length : tie.Need-same-length
 same-length c = search needs
@@ -30,13 +34,14 @@ same-length-3 c = search needs
 
 returns : tie.Need-returns
 returns c =
-    let a = c .before .before .before .before .before .before .before .before .before .before .before .before .before .before .before .before .before .args in
-    call-done (a .d) (c .before .before .before .before .before .before .before .before .before .before .before .before .figures-of .ensures) (now (a .values)) (memoryOf (now (a .waiting)) (now (a .received)) (now (a .state)))
+    let f = c .before .before .before .before .before .before .before .before .before .before .before .before in
+    let a = f .before .before .before .before .before .before .args in
+    call-done (a .d) (f .figures-of .ensures) (now (a .values)) (memoryOf (now (a .waiting)) (now (a .received)) (now (a .state)))
     (c .before .before .before .before .before .before .before .before .before .before .before .own-refusal .ensures) (c .before .before .before .before .before .before .before .before .before .before .if1 .taken) (c .before .before .before .before .before .before .fill-memory .ensures)
 
 returns-2 : tie.Need-returns-2
 returns-2 c =
-    let a = c .before .before .before .before .before .before .before .args in
+    let a = c .before .before .before .before .before .before .before .before .args in
     call-refused (a .d) (c .before .before .figures-of .ensures) (now (a .values)) (memoryOf (now (a .waiting)) (now (a .received)) (now (a .state)))
     (c .before .own-refusal .ensures) (c .if1 .left)
 
