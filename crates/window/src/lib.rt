@@ -127,17 +127,6 @@ fn all_searched(d: Description, ends: &[u32], pipe: u32) -> Search
     w
 }
 
-// The pipe with a number.
-fn search_of(d: Description, pipe: u32) -> Search
-    requires { ⌜ Described d ⌝ }
-    ensures { λ r. ⌜ (r ≡ searched (looking pipe 0) (allLengths (d .nest) (streamsOf d))) × (r .start ≤ 25165824) ⌝ }
-{
-    let n = d.nest;
-    let mut ends = [0u32; 3072];
-    layout::fill_processes(n, &mut ends);
-    all_searched(d, &ends, pipe)
-}
-
 // ---- the call
 
 // No part, and why.
@@ -152,11 +141,11 @@ fn refused(number: u32) -> Piece
 }
 
 // The part of a pipe, if there is such a pipe.
-fn located(d: Description, pipe: u32) -> Piece
-    requires { ⌜ Windowed d ⌝ }
+fn located(d: Description, ends: &[u32], pipe: u32) -> Piece
+    requires { ⌜ (Windowed d) × (Ends (d .nest) (now ends)) × (3072 ≤ length (now ends)) ⌝ }
     ensures { λ r. ⌜ r ≡ pieceOf d pipe (cond (ltb pipe (pipeNumber (arrayOf d))) 0 19) ⌝ }
 {
-    let w = search_of(d, pipe);
+    let w = all_searched(d, ends, pipe);
     if w.found {
         Piece {
             refusal: 0,
@@ -169,15 +158,22 @@ fn located(d: Description, pipe: u32) -> Piece
 }
 
 // The part once the description is accepted, of lists of so many words.
-fn accepted_piece(d: Description, pipe: u32, side: u32, waiting: usize, received: usize) -> Piece
-    requires { ⌜ Windowed d ⌝ }
+fn accepted_piece(
+    d: Description,
+    ends: &[u32],
+    pipe: u32,
+    side: u32,
+    waiting: usize,
+    received: usize,
+) -> Piece
+    requires { ⌜ (Windowed d) × (Ends (d .nest) (now ends)) × (3072 ≤ length (now ends)) ⌝ }
     ensures { λ r. ⌜ (r ≡ pieceOf d pipe (refusal (ownTests d pipe side waiting received))) × (Within r waiting received) ⌝ }
 {
     let e = elements::element_count(d) as usize;
     if waiting == e {
         if received == e {
             if side < 2 {
-                located(d, pipe)
+                located(d, ends, pipe)
             } else {
                 refused(19)
             }
@@ -195,9 +191,11 @@ pub fn piece_of(s: &[u8], pipe: u32, side: u32, waiting: usize, received: usize)
         (refusedBy gaugeLimits (now (s .entry)) (ownTests (descriptionOf (now (s .entry))) pipe side waiting received)))
         × (Within r waiting received) ⌝ }
 {
-    let number = verdict::refusal_of(s);
+    let mut ends = [0u32; 3072];
+    let number = verdict::refusal_of(s, &mut ends);
     if number == 0 {
-        accepted_piece(decode::description(s), pipe, side, waiting, received)
+        let ends = &ends;
+        accepted_piece(decode::description(s), ends, pipe, side, waiting, received)
     } else {
         refused(number)
     }

@@ -28,7 +28,7 @@ refused-requires-3 c κs = search needs
 returns : tie.Need-returns
 returns c =
     let b = c .before .before .before .before in
-    let s = b .before in
+    let s = b .before .before in
     let a = s .args in
     let e = b .element-count .ensures .0 in
     let w = c .before .before .before .if1 .taken ∙ e in
@@ -36,13 +36,13 @@ returns c =
     let h = c .located .ensures in (
       h ∙ ap (pieceOf (a .d) (a .pipe)) (by-pipe (a .d) (a .pipe) (a .side) (a .waiting) (a .received) w v (c .before .if3 .taken)),
       subst (λ (r : Piece). Within r (a .waiting) (a .received)) (sym h)
-          (located-within (a .d) (a .pipe) (a .side) (a .waiting) (a .received) w v (s .pre .laid)),
+          (located-within (a .d) (a .pipe) (a .side) (a .waiting) (a .received) w v (s .pre .0 .laid)),
     )
 
 returns-2 : tie.Need-returns-2
 returns-2 c =
     let b = c .before .before .before .before in
-    let a = b .before .args in
+    let a = b .before .before .args in
     let e = b .element-count .ensures .0 in
     refused-piece (a .d) (a .pipe) (c .refused .ensures) (λ z. omega arith)
     (by-side (a .d) (a .pipe) (a .side) (a .waiting) (a .received) (c .before .before .before .if1 .taken ∙ e) (c .before .before .if2 .taken ∙ e)
@@ -51,7 +51,7 @@ returns-2 c =
 returns-3 : tie.Need-returns-3
 returns-3 c =
     let b = c .before .before .before in
-    let a = b .before .args in
+    let a = b .before .before .args in
     let e = b .element-count .ensures .0 in
     refused-piece (a .d) (a .pipe) (c .refused2 .ensures) (λ z. omega arith)
     (by-received (a .d) (a .pipe) (a .side) (a .waiting) (a .received) (c .before .before .if1 .taken ∙ e) (λ g. c .before .if2 .left (g ∙ sym e)))
@@ -59,7 +59,7 @@ returns-3 c =
 returns-4 : tie.Need-returns-4
 returns-4 c =
     let b = c .before .before in
-    let a = b .before .args in
+    let a = b .before .before .args in
     refused-piece (a .d) (a .pipe) (c .refused3 .ensures) (λ z. omega arith)
     (by-waiting (a .d) (a .pipe) (a .side) (a .waiting) (a .received) (λ g. c .before .if1 .left (g ∙ sym (b .element-count .ensures .0))))
 

@@ -5,8 +5,8 @@ use Rattle.window.specs.Pieces.{found-piece, lost-piece}
 use Rattle.window.proofs.located.Statement.{statement}
 use Rattle.window.proofs.located.Tie as tie
 
-search-of-requires : tie.Need-search-of-requires
-search-of-requires c κs = search needs
+all-searched-requires : tie.Need-all-searched-requires
+all-searched-requires c κs = let p = c .before .pre in (p .0 .described, p .1, p .2)
 
 refused-requires : tie.Need-refused-requires
 refused-requires c κs = search needs
@@ -14,16 +14,16 @@ refused-requires c κs = search needs
 returns : tie.Need-returns
 returns c =
     let s = c .before in
-    let a = s .before .args in
-    found-piece (a .d) (a .pipe) (s .search-of .ensures .0) (c .if1 .taken) refl refl refl
+    let a = s .before .before .args in
+    found-piece (a .d) (a .pipe) (s .all-searched .ensures .0) (c .if1 .taken) refl refl refl
 
 returns-2 : tie.Need-returns-2
 returns-2 c =
     let s = c .before .before in
-    let a = s .before .args in
-    lost-piece (a .d) (a .pipe) (s .search-of .ensures .0) (c .before .if1 .left) (c .refused .ensures)
+    let a = s .before .before .args in
+    lost-piece (a .d) (a .pipe) (s .all-searched .ensures .0) (c .before .if1 .left) (c .refused .ensures)
 
 pub located-spec : {M : Type 1} → statement M
 located-spec =
     tie.close
-    (tie.spec search-of-requires refused-requires returns returns-2)
+    (tie.spec all-searched-requires refused-requires returns returns-2)
