@@ -12,7 +12,6 @@ use Rattle.meaning.specs.declared.Stream.{Stream}
 use Rattle.meaning.specs.declared.Description.{Description}
 use Rattle.meaning.specs.Limits.{gaugeLimits}
 use Rattle.meaning.specs.Tests.{Test, _if_, refusal}
-use Rattle.meaning.specs.Loops.{instances}
 use Rattle.meaning.specs.Space.{processes}
 use Rattle.meaning.specs.Description.{sizesOf, descriptionOf, streamsOf, noStream}
 use Rattle.meaning.specs.Accept.{refusalOf}
@@ -29,7 +28,6 @@ use Rattle.table.specs.Planned.{refusedFor, Drawn, Planned}
 
 pub record Drawable (d : Description) : Type 0 where
   pub bounded : Bounded (d .nest)
-  pub instances : length (instances (d .nest)) ≤ 4096
   pub processes : length (processes (d .nest)) ≤ 1024
   pub most : d .sizes .streams ≤ 6
   pub used : length (streamsOf d) ≡ d .sizes .streams
@@ -47,7 +45,6 @@ drawable s e =
     let a = accepted-within gaugeLimits s e in
     record {
       bounded = accepted-bounded s e;
-      instances = a .1 .instances;
       processes = a .1 .processes;
       most = a .0 .ranged .sized .most-streams;
       used = streams-used s;

@@ -13,7 +13,7 @@ ghost use Rattle.integers.specs.Fill.{fillBy};
 ghost use Rattle.meaning.specs.Limits.{gaugeLimits};
 ghost use Rattle.meaning.specs.Loops.{instances};
 ghost use Rattle.meaning.specs.Space.{processes};
-ghost use Rattle.meaning.specs.Description.{streamsOf};
+ghost use Rattle.meaning.specs.Description.{descriptionOf, streamsOf};
 ghost use Rattle.meaning.specs.Calls.{answer, table};
 ghost use Rattle.numbering.specs.Ranges.{Bounded};
 ghost use Rattle.layout.specs.Ends.{numbered, Ends};
@@ -132,16 +132,13 @@ fn shape_of(n: Nest) -> Shape
 }
 
 // The plan of a description; its words come as zeros.
-fn draw(d: Description, words: &mut [u32]) -> Shape
-    requires { ⌜ (Drawable d) × (now words ≡ replicate 15360 0) ⌝ }
+fn draw(d: Description, ends: &[u32], words: &mut [u32]) -> Shape
+    requires { ⌜ (Drawable d) × (Ends (d .nest) (now ends)) × (3072 ≤ length (now ends)) × (now words ≡ replicate 15360 0) ⌝ }
     ensures { λ r. ⌜ (r .refusal ≡ 0) × (Drawn d r (now (words .exit))) ⌝ }
 {
-    let n = d.nest;
-    let mut ends = [0u32; 3072];
-    layout::fill_processes(n, &mut ends);
-    fill_streams(d, &ends, words);
-    copy_ends(&ends, words);
-    shape_of(n)
+    fill_streams(d, ends, words);
+    copy_ends(ends, words);
+    shape_of(d.nest)
 }
 
 // The plan of a declined call: no rows.
@@ -179,11 +176,11 @@ fn process_count(n: Nest) -> usize
     numbering::size_of(numbering::extent_of(n, place)) as usize
 }
 
-// The refusal of the call, 0 if there is none.
-fn refusal_for(s: &[u8], room: usize) -> u32
-    ensures { λ r. ⌜ r ≡ refusedFor (now (s .entry)) room ⌝ }
+// The refusal of the call, 0 if there is none; the words of the processes are then filled.
+fn refusal_for(s: &[u8], room: usize, ends: &mut [u32; 3072]) -> u32
+    ensures { λ r. ⌜ (r ≡ refusedFor (now (s .entry)) room) × (r ≡ 0 → Ends (descriptionOf (now (s .entry)) .nest) (now (ends .exit))) ⌝ }
 {
-    let r = verdict::refusal_of(s);
+    let r = verdict::refusal_of(s, ends);
     if r == 0 {
         let n = decode::description(s).nest;
         if room < process_count(n) { 18 } else { 0 }
@@ -197,9 +194,11 @@ fn plan(s: &[u8], room: usize, words: &mut [u32; 15360]) -> Shape
     requires { ⌜ now words ≡ replicate 15360 0 ⌝ }
     ensures { λ r. ⌜ Planned (now (s .entry)) room r (now (words .exit)) ⌝ }
 {
-    let refusal = refusal_for(s, room);
+    let mut ends = [0u32; 3072];
+    let refusal = refusal_for(s, room, &mut ends);
     if refusal == 0 {
-        draw(decode::description(s), words)
+        let ends = &ends;
+        draw(decode::description(s), ends, words)
     } else {
         declined(refusal)
     }

@@ -3,34 +3,21 @@ use mathlib.Core.Path.{_≡_, sym, subst}
 use mathlib.Core.List.{List}
 use Prim.Native.Nat.{ℕ, _≤_, _<_}
 use native.Mathlib.Omega.{arith}
-use lib.ListN.{length, getD, length-replicate}
+use lib.ListN.{length, getD}
+use denote.Ref.{now}
 use Rattle.meaning.specs.Description.{streamsOf}
 use Rattle.table.specs.Blocks.{Streamed, zeros-length, front-copied, streamed-copied}
 use borrow.Author.Needs.{needs}
 use Rattle.table.proofs.draw.Statement.{statement}
 use Rattle.table.proofs.draw.Tie as tie
 
-slice-aggregate-fill-processes : tie.Need-slice-aggregate-fill-processes
-slice-aggregate-fill-processes c = search needs
-
-fill-processes-requires : tie.Need-fill-processes-requires
-fill-processes-requires c κs = search needs
-
-slice-aggregate-fill-streams : tie.Need-slice-aggregate-fill-streams
-slice-aggregate-fill-streams c = search needs
-
 fill-streams-requires : tie.Need-fill-streams-requires
 fill-streams-requires c κs = search needs
 
-slice-aggregate-copy-ends : tie.Need-slice-aggregate-copy-ends
-slice-aggregate-copy-ends c = search needs
-
 copy-ends-requires : tie.Need-copy-ends-requires
 copy-ends-requires c κs =
-    let f = c .before .before .before .before in
-    let p = f .before .before .before .before in
-    let s = p .before .before .before .before in
-    (omega (arith, p .fill-processes .kept .1 .0, length-replicate {A = ℕ} 3072 0), omega (arith, f .fill-streams .kept .1 .1 .0, zeros-length (s .pre .1)))
+    let f = c .before .before .before in
+    let s = f .before .before .before .before in (s .pre .2, omega (arith, f .fill-streams .kept .1 .1 .0, zeros-length (s .pre .3)))
 
 shape-of-requires : tie.Need-shape-of-requires
 shape-of-requires c κs = search needs
@@ -41,14 +28,13 @@ same-length c = search needs
 returns : tie.Need-returns
 returns c =
     let k = c .before .before .before in
-    let f = k .before .before .before .before .before in
-    let p = f .before .before .before .before in
-    let s = p .before .before .before .before in
+    let f = k .before .before .before .before in
+    let s = f .before .before .before .before in
     let n = s .args .d .nest in
     let g = s .pre .0 in
-    let es = p .fill-processes .last .1 .0 in
+    let es = now (s .args .ends) in
     let w = f .fill-streams .last .1 .1 .0 in
-    let l : 3072 ≤ length w = omega (arith, f .fill-streams .kept .1 .1 .0, zeros-length (s .pre .1)) in (
+    let l : 3072 ≤ length w = omega (arith, f .fill-streams .kept .1 .1 .0, zeros-length (s .pre .3)) in (
       c .shape-of .ensures .refusal,
       record {
         shaped = c .shape-of .ensures;
@@ -56,7 +42,7 @@ returns c =
         few = g .processes;
         most = omega (arith, g .used, g .most);
         front = es;
-        ends = p .fill-processes .ensures;
+        ends = s .pre .1;
         copied = subst (λ (v : List ℕ). (j : ℕ) → j < 3072 → getD v j 0 ≡ getD es j 0) (sym (k .copy-ends .ensures)) (front-copied es w l);
         streams = subst (Streamed n (streamsOf (s .args .d)) _) (sym (k .copy-ends .ensures)) (streamed-copied es w l (f .fill-streams .ensures));
       },
@@ -65,13 +51,4 @@ returns c =
 pub draw-spec : {M : Type 1} → statement M
 draw-spec =
     tie.close
-    (tie.spec
-    slice-aggregate-fill-processes
-    fill-processes-requires
-    slice-aggregate-fill-streams
-    fill-streams-requires
-    slice-aggregate-copy-ends
-    copy-ends-requires
-    shape-of-requires
-    same-length
-    returns)
+    (tie.spec fill-streams-requires copy-ends-requires shape-of-requires same-length returns)
