@@ -167,7 +167,8 @@ pub fn plain_run(s: &[u8], values: &[u32], output: &mut [u32]) -> Answer
     ensures { λ r. ⌜ (r ≡ plainRun gaugeLimits (now (s .entry)) (now (values .entry)) (now (output .entry)) .answer)
         × (now (output .exit) ≡ plainRun gaugeLimits (now (s .entry)) (now (values .entry)) (now (output .entry)) .output) ⌝ }
 {
-    let r = verdict::refusal_of(s);
+    let mut ends = [0u32; 3072];
+    let r = verdict::refusal_of(s, &mut ends);
     if r == 0 {
         run_accepted(decode::description(s), values, output)
     } else {

@@ -14,12 +14,12 @@ refusal-of-requires c κs = search needs
 
 description-requires : tie.Need-description-requires
 description-requires c κs =
-    accepted-within gaugeLimits _ (sym (c .before .refusal-of .ensures) ∙ c .if1 .taken) .0 .sized
+    accepted-within gaugeLimits _ (sym (c .before .refusal-of .ensures .0) ∙ c .if1 .taken) .0 .sized
 
 run-accepted-requires : tie.Need-run-accepted-requires
 run-accepted-requires c κs =
     let d = c .before in
-    subst Fitting (sym (d .description .ensures)) (accepted-fitting _ (sym (d .before .before .refusal-of .ensures) ∙ d .before .if1 .taken))
+    subst Fitting (sym (d .description .ensures)) (accepted-fitting _ (sym (d .before .before .refusal-of .ensures .0) ∙ d .before .if1 .taken))
 
 same-length : tie.Need-same-length
 same-length c = search needs
@@ -29,14 +29,14 @@ returns c =
     let r = c .before .before in
     let d = r .before .before in
     let i = d .before in
-    let a = i .before .before .before .before .before .args in
-    accepted-call (now (a .s)) (now (a .values)) (now (a .output)) (sym (i .before .refusal-of .ensures) ∙ i .if1 .taken) (d .description .ensures)
+    let a = i .before .before .before .before .before .before .args in
+    accepted-call (now (a .s)) (now (a .values)) (now (a .output)) (sym (i .before .refusal-of .ensures .0) ∙ i .if1 .taken) (d .description .ensures)
     (r .run-accepted .ensures)
 
 returns-2 : tie.Need-returns-2
 returns-2 c =
-    let a = c .before .before .before .before .before .args in
-    refused-call (now (a .s)) (now (a .values)) (now (a .output)) (c .before .refusal-of .ensures) (c .if1 .left)
+    let a = c .before .before .before .before .before .before .args in
+    refused-call (now (a .s)) (now (a .values)) (now (a .output)) (c .before .refusal-of .ensures .0) (c .if1 .left)
 
 pub plain-run-spec : {M : Type 1} → statement M
 plain-run-spec =
