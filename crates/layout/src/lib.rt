@@ -121,10 +121,10 @@ fn fill_ends(numbers: &[u32], count: u32, steps: &[i32], processes: u32, ends: &
     tables::fill_lasts(numbers, count, steps, processes, &mut ends[2048..3072]);
 }
 
-// Of each process its count, its first and its last instance.
-pub fn fill_processes(n: Nest, ends: &mut [u32])
+// Of each process its count, its first and its last instance; how many processes there are.
+pub fn fill_processes(n: Nest, ends: &mut [u32]) -> u32
     requires { ⌜ (Bounded n) × (length (instances n) ≤ 4096) × (length (processes n) ≤ 1024) × (length (now ends) ≡ 3072) ⌝ }
-    ensures { λ r. ⌜ Ends n (now (ends .exit)) ⌝ }
+    ensures { λ r. ⌜ (r ≡ length (processes n)) × (Ends n (now (ends .exit))) ⌝ }
 {
     let place = n.place;
     let space = numbering::extent_of(n, place);
@@ -135,4 +135,5 @@ pub fn fill_processes(n: Nest, ends: &mut [u32])
     let mut steps = [0i32; 4096];
     tables::fill_steps(n, &mut steps);
     fill_ends(&numbers, count, &steps, processes, ends);
+    processes
 }

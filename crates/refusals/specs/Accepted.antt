@@ -23,14 +23,16 @@ use Rattle.meaning.specs.Space.{processes}
 use Rattle.meaning.specs.Streams.{line, stationary, hop, move}
 use Rattle.meaning.specs.Description.{descriptionOf, streamsOf, noStream, written}
 use Rattle.meaning.specs.Accept.{small, refused11, refused12, refused13, refused14, streamTests, testsFrom, refusalOf}
+use Rattle.meaning.specs.Walk.{walkTests, walkRefusal}
 use Rattle.geometry.specs.Numbers.{and-left, and-right}
 use Rattle.geometry.specs.Tests.{numbered, both-pass}
+use Rattle.geometry.specs.Descriptions.{walk-passes}
 use Rattle.vectors.specs.Within.{Within2}
 use Rattle.decode.specs.Refusals.{firstTests, passed}
-use Rattle.decode.specs.Ranged.{Ranged, Decoded, decoded}
+use Rattle.decode.specs.Ranged.{Decoded, decoded}
 use Rattle.refusals.specs.InRange.{InRange, in-range}
 use Rattle.refusals.specs.Small.{small-is}
-use Rattle.refusals.specs.Stages.{layoutTests, laterTests, few, few-processes, all-tests}
+use Rattle.refusals.specs.Stages.{layoutTests, walk-tests, few, few-processes, all-tests}
 
 -- ---- one stream
 
@@ -77,7 +79,12 @@ stream-within l n w s h e =
 
 -- ---- a description
 
--- few instances, few processes, and all streams so
+-- few instances and few processes
+pub record NestWithin (l : Limits) (n : Nest) : Type 0 where
+  pub instances : length (instances n) ≤ l .instances
+  pub processes : length (processes n) ≤ l .processes
+
+-- and all streams so
 pub record DescriptionWithin (l : Limits) (d : Description) : Type 0 where
   pub instances : length (instances (d .nest)) ≤ l .instances
   pub processes : length (processes (d .nest)) ≤ l .processes
@@ -97,26 +104,32 @@ each-passes l d i (suc k) (s ∷ ss) e h =
     subst (λ (j : ℕ). refusal (streamTests l (d .nest) (written d j) (getD ss k noStream)) ≡ 0) z
     (each-passes l d (suc i) k ss (both-pass (streamTests l (d .nest) (written d i) s) (testsFrom l d (suc i) ss) tt e .1) (omega arith))
 
-later-passes : (l : Limits) (d : Description) → Ranged d → refusal (laterTests l d) ≡ 0 → DescriptionWithin l d
+-- what 1 to 10 leave
+pub walk-within : (l : Limits) (s : List ℕ) → walkRefusal l s ≡ 0 → Decoded s × NestWithin l (descriptionOf s .nest)
 unfolding numbered
-later-passes l d h e =
-    let n = d .nest in
-    let p = both-pass (layoutTests l n) (testsFrom l d 0 (streamsOf d)) tt e in
-    record {
-      instances = few l n (p .0);
-      processes = few-processes l n (p .0);
-      stream = λ i k.
-          let in-use : i < d .sizes .streams = omega (arith, length-take (d .sizes .streams) (d .streams)) in
-          let at = getD-take (d .sizes .streams) (d .streams) i noStream in-use in
-          stream-within l n (written d i) (getD (streamsOf d) i noStream)
-          (in-range (h .nest) (rw at (h .streams i)))
-          (subst (λ (j : ℕ). refusal (streamTests l n (written d j) (getD (streamsOf d) i noStream)) ≡ 0) (zero-add i)
-          (each-passes l d 0 i (streamsOf d) (p .1) k));
-    }
+walk-within l s e =
+    let n = descriptionOf s .nest in
+    let p = both-pass (firstTests s) (layoutTests l n) tt (walk-tests l s ∙ e) in
+    (decoded s (p .0), record { instances = few l n (p .1); processes = few-processes l n (p .1) })
 
 -- an accepted description is in range and within the limits
 pub accepted-within : (l : Limits) (s : List ℕ) → refusalOf l s ≡ 0 → Decoded s × DescriptionWithin l (descriptionOf s)
 unfolding numbered
 accepted-within l s e =
-    let p = both-pass (firstTests s) (laterTests l (descriptionOf s)) tt (all-tests l s ∙ e) in
-    let d = decoded s (p .0) in (d, later-passes l (descriptionOf s) (d .ranged) (p .1))
+    let d = descriptionOf s in
+    let n = d .nest in
+    let p = both-pass (walkTests l s) (testsFrom l d 0 (streamsOf d)) tt (all-tests l s ∙ e) in
+    let w = walk-within l s (walk-passes l s e) in (
+      w .0,
+      record {
+        instances = w .1 .instances;
+        processes = w .1 .processes;
+        stream = λ i k.
+            let in-use : i < d .sizes .streams = omega (arith, length-take (d .sizes .streams) (d .streams)) in
+            let at = getD-take (d .sizes .streams) (d .streams) i noStream in-use in
+            stream-within l n (written d i) (getD (streamsOf d) i noStream)
+            (in-range (w .0 .ranged .nest) (rw at (w .0 .ranged .streams i)))
+            (subst (λ (j : ℕ). refusal (streamTests l n (written d j) (getD (streamsOf d) i noStream)) ≡ 0) (zero-add i)
+            (each-passes l d 0 i (streamsOf d) (p .1) k));
+      },
+    )

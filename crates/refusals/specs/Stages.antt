@@ -1,4 +1,4 @@
--- The refusals 6 to 17 in stages, each a test or two and the stage after them; lists of tests one after the other; stream by stream. Assumes
+-- The refusals in stages, each a test or two and the stage after them; lists of tests one after the other; stream by stream. Assumes
 -- nothing.
 use mathlib.Core.Path.{_≡_, refl, sym, _∙_}
 use mathlib.Core.Bool.{Bool, true, false}
@@ -19,6 +19,7 @@ use Rattle.meaning.specs.Loops.{instances}
 use Rattle.meaning.specs.Space.{processes}
 use Rattle.meaning.specs.Description.{descriptionOf, streamsOf, noStream, written}
 use Rattle.meaning.specs.Accept.{refused6, refused7, refused8, refused10, refused13, refused14, refused15, refused16, refused17, streamTests, testsFrom, refusalOf}
+use Rattle.meaning.specs.Walk.{walkTests, walkRefusal}
 use Rattle.geometry.specs.Tests.{numbered, none-applies, one-applies}
 use Rattle.decode.specs.Refusals.{firstTests, refuses, passes, passed}
 
@@ -35,13 +36,14 @@ orderTests n w s = (15 if refused15 w n s) ∷ (16 if refused16 n s) ∷ (17 if 
 abbrev pub moveTests : Limits → Nest → Bool → Stream → List Test
 moveTests l n w s = (13 if refused13 n s) ∷ (14 if refused14 l n s) ∷ orderTests n w s
 
--- 6 to 17
-abbrev pub laterTests : Limits → Description → List Test
-laterTests l d = layoutTests l (d .nest) ++ testsFrom l d 0 (streamsOf d)
+-- 1 to 10, after those of the bytes
+pub walk-tests : (l : Limits) (s : List ℕ) → refusal (firstTests s ++ layoutTests l (descriptionOf s .nest)) ≡ walkRefusal l s
+unfolding descriptionOf walkRefusal
+walk-tests l s = refl
 
--- all, after those of the bytes
-pub all-tests : (l : Limits) (s : List ℕ) → refusal (firstTests s ++ laterTests l (descriptionOf s)) ≡ refusalOf l s
-unfolding descriptionOf refusalOf
+-- all, after those
+pub all-tests : (l : Limits) (s : List ℕ) → refusal (walkTests l s ++ testsFrom l (descriptionOf s) 0 (streamsOf (descriptionOf s))) ≡ refusalOf l s
+unfolding refusalOf
 all-tests l s = refl
 
 -- the instances and the processes are within the limits
@@ -70,6 +72,19 @@ goes-on a b t e z h = h ∙ none-applies a b t (sym e ∙ z)
 
 pub stops : {q : ℕ} (a b : List Test) → q ≡ refusal a → (q ≡ 0 → ⊥) → q ≡ refusal (a ++ b)
 stops a b e f = e ∙ one-applies a b (λ z. f (e ∙ z))
+
+-- the streams after 1 to 10
+module _ (l : Limits) (s : List ℕ) {q : ℕ} (e : q ≡ walkRefusal l s) where
+  abbrev ofStreams : List Test
+  ofStreams = testsFrom l (descriptionOf s) 0 (streamsOf (descriptionOf s))
+
+  pub walk-goes-on : {r : ℕ} → q ≡ 0 → r ≡ refusal ofStreams → r ≡ refusalOf l s
+  unfolding numbered walkRefusal
+  walk-goes-on z h = goes-on (walkTests l s) ofStreams tt e z h ∙ all-tests l s
+
+  pub walk-stops : (q ≡ 0 → ⊥) → q ≡ refusalOf l s
+  unfolding walkRefusal
+  walk-stops f = stops (walkTests l s) ofStreams e f ∙ all-tests l s
 
 -- ---- stream by stream
 

@@ -113,13 +113,7 @@ fn move_refusal(n: Nest, s: Stream, written: bool, limits: Limits, walk: &[i32])
 }
 
 // The same of 11 to 17.
-pub fn stream_refusal(
-    n: Nest,
-    s: Stream,
-    written: bool,
-    limits: Limits,
-    walk: &[i32],
-) -> u32
+pub fn stream_refusal(n: Nest, s: Stream, written: bool, limits: Limits, walk: &[i32]) -> u32
     requires { ⌜ (InRange n s) × (Along n (now walk)) ⌝ }
     ensures { λ r. ⌜ r ≡ refusal (streamTests limits n written s) ⌝ }
 {

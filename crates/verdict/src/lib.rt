@@ -1,30 +1,78 @@
-// Whether a description is accepted, and by which number it is refused: document 01's refusals 1 to 17, the first that applies.
+// Whether a description is accepted, and by which number it is refused: document 01's refusals 1 to 17, the first that applies. Between 10 and 11 the words of the
+// processes and of the walk are filled, once for all streams; those of the processes are handed on.
 ghost use mathlib.Core.Path.{_≡_};
 ghost use Prim.Native.Nat.{_≤_};
-ghost use lib.ListN.{length};
 ghost use Rattle.meaning.specs.Tests.{refusal};
 ghost use Rattle.meaning.specs.Limits.{gaugeLimits};
 ghost use Rattle.meaning.specs.Description.{descriptionOf, streamsOf};
-ghost use Rattle.meaning.specs.Loops.{instances};
 ghost use Rattle.meaning.specs.Accept.{testsFrom, refusalOf};
-ghost use Rattle.decode.specs.Ranged.{Ranged};
-ghost use Rattle.refusals.specs.Stages.{laterTests};
+ghost use Rattle.meaning.specs.Walk.{walkRefusal};
 ghost use Rattle.layout.specs.Ends.{Ends};
+ghost use Rattle.walk.specs.Walked.{Along, Walkable};
+ghost use Rattle.decode.specs.Ranged.{Ranged};
 use meaning::Description;
 use meaning::Limits;
+use meaning::Nest;
+
+// ---- 1 to 10
+
+// The first of the refusals 1 to 10 that applies, 0 if none does.
+fn walk_refusal(s: &[u8], limits: Limits) -> u32
+    ensures { λ r. ⌜ r ≡ walkRefusal limits (now (s .entry)) ⌝ }
+{
+    let r = ranges::refusal(s);
+    if r == 0 {
+        let n = decode::description(s).nest;
+        nests::nest_refusal(n, limits)
+    } else {
+        r
+    }
+}
+
+// The words of the processes and of the walk.
+fn fill_nest(n: Nest, ends: &mut [u32; 3072], walk: &mut [i32; 12288])
+    requires { ⌜ Walkable n ⌝ }
+    ensures { λ r. ⌜ (Ends n (now (ends .exit))) × (Along n (now (walk .exit))) ⌝ }
+{
+    let processes = layout::fill_processes(n, ends);
+    walk::fill_walk(n, processes, ends, walk);
+}
+
+// The same of a description, if there is no such refusal; the limits may not exceed the places of the words.
+fn walk_within(s: &[u8], limits: Limits, ends: &mut [u32; 3072], walk: &mut [i32; 12288]) -> u32
+    requires { ⌜ (limits .instances ≤ 4096) × (limits .processes ≤ 1024) ⌝ }
+    ensures { λ r. ⌜ (r ≡ walkRefusal limits (now (s .entry)))
+        × (r ≡ 0 → (Ends (descriptionOf (now (s .entry)) .nest) (now (ends .exit))) × (Along (descriptionOf (now (s .entry)) .nest) (now (walk .exit)))) ⌝ }
+{
+    let r = walk_refusal(s, limits);
+    if r == 0 {
+        let n = decode::description(s).nest;
+        fill_nest(n, ends, walk);
+    }
+    r
+}
+
+// WALK: the number by which 1 to 10 refuse a description, 0 if they do not; then the words of its processes and of its walk are filled.
+pub fn walk_of(s: &[u8], ends: &mut [u32; 3072], walk: &mut [i32; 12288]) -> u32
+    ensures { λ r. ⌜ (r ≡ walkRefusal gaugeLimits (now (s .entry)))
+        × (r ≡ 0 → (Ends (descriptionOf (now (s .entry)) .nest) (now (ends .exit))) × (Along (descriptionOf (now (s .entry)) .nest) (now (walk .exit)))) ⌝ }
+{
+    walk_within(s, meaning::gauge(), ends, walk)
+}
+
+// ---- 11 to 17
 
 // The first of the refusals 11 to 17 that applies to a stream, lowest first, 0 if none does.
-fn streams_refusal(d: Description, limits: Limits) -> u32
-    requires { ⌜ (Ranged d) × (length (instances (d .nest)) ≤ 4096) ⌝ }
+fn streams_refusal(d: Description, limits: Limits, walk: &[i32]) -> u32
+    requires { ⌜ (Ranged d) × (Along (d .nest) (now walk)) ⌝ }
     ensures { λ r. ⌜ r ≡ refusal (testsFrom limits d 0 (streamsOf d)) ⌝ }
 {
     let n = d.nest;
     let m = d.sizes.streams;
-    let mut table = [0; 4096];
     let mut i: u32 = 0;
     while i < m {
         let s = decode::stream(d, i as usize);
-        let r = streams::stream_refusal(n, s, decode::written(d, i), limits, &mut table);
+        let r = streams::stream_refusal(n, s, decode::written(d, i), limits, walk);
         if r != 0 {
             return r;
         }
@@ -33,35 +81,21 @@ fn streams_refusal(d: Description, limits: Limits) -> u32
     0
 }
 
-// The first of the refusals 6 to 17 that applies, 0 if none does; the words of the processes are then filled.
-fn later_refusal(d: Description, limits: Limits, ends: &mut [u32; 3072]) -> u32
-    requires { ⌜ (Ranged d) × (limits .instances ≤ 4096) × (limits .processes ≤ 1024) ⌝ }
-    ensures { λ r. ⌜ (r ≡ refusal (laterTests limits d)) × (r ≡ 0 → Ends (d .nest) (now (ends .exit))) ⌝ }
-{
-    let n = d.nest;
-    let r = nests::nest_refusal(n, limits);
-    if r == 0 {
-        layout::fill_processes(n, ends);
-        streams_refusal(d, limits)
-    } else {
-        r
-    }
-}
-
-// The refusal of a description under some limits, 0 if it is accepted; the limits may not exceed the places of the tables.
+// The refusal of a description under some limits, 0 if it is accepted.
 fn refusal_within(s: &[u8], limits: Limits, ends: &mut [u32; 3072]) -> u32
     requires { ⌜ (limits .instances ≤ 4096) × (limits .processes ≤ 1024) ⌝ }
     ensures { λ r. ⌜ (r ≡ refusalOf limits (now (s .entry))) × (r ≡ 0 → Ends (descriptionOf (now (s .entry)) .nest) (now (ends .exit))) ⌝ }
 {
-    let r = ranges::refusal(s);
+    let mut walk = [0i32; 12288];
+    let r = walk_within(s, limits, ends, &mut walk);
     if r == 0 {
-        later_refusal(decode::description(s), limits, ends)
+        streams_refusal(decode::description(s), limits, &walk)
     } else {
         r
     }
 }
 
-// The refusal of a description by its number, 0 if it is accepted; of its processes the count, the first and the last instances are then filled.
+// The refusal of a description by its number, 0 if it is accepted; then count, first and last instance of its processes are filled.
 pub fn refusal_of(s: &[u8], ends: &mut [u32; 3072]) -> u32
     ensures { λ r. ⌜ (r ≡ refusalOf gaugeLimits (now (s .entry))) × (r ≡ 0 → Ends (descriptionOf (now (s .entry)) .nest) (now (ends .exit))) ⌝ }
 {

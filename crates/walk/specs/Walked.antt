@@ -35,15 +35,19 @@ pub record Along (n : Nest) (w : List ℤ) : Type 0 where
   pub few : length (instances n) ≤ 4096
   pub room : length w ≡ 12288
 
--- what the walk is stored by: a nest that 1 to 10 do not refuse, with few processes and instances, and the words of its processes
-pub record Walkable (n : Nest) (many : ℕ) (ends : List ℕ) (w : List ℤ) : Type 0 where
+-- a nest that 1 to 10 do not refuse, with few processes and instances
+pub record Walkable (n : Nest) : Type 0 where
   pub nest : Bounded n
   pub layout : Layout n
+  pub instances : length (instances n) ≤ 4096
+  pub processes : length (processes n) ≤ 1024
+
+-- what its walk is stored by: the words of its processes
+pub record Walking (n : Nest) (many : ℕ) (ends : List ℕ) (w : List ℤ) : Type 0 where
+  pub walkable : Walkable n
+  pub counted : many ≡ length (processes n)
   pub held : Ends n ends
   pub words : length ends ≡ 3072
-  pub few : length (processes n) ≤ 1024
-  pub counted : many ≡ length (processes n)
-  pub instances : length (instances n) ≤ 4096
   pub room : length w ≡ 12288
 
 -- the same for the line of process p, which begins at a place

@@ -17,7 +17,7 @@ ghost use Rattle.geometry.specs.Processes.{runAt};
 ghost use Rattle.numbering.specs.Extents.{boxed};
 ghost use Rattle.layout.specs.Ends.{processOf};
 ghost use Rattle.walk.specs.Words.{vectorAt, put, Lined, Running};
-ghost use Rattle.walk.specs.Walked.{Walked, Walkable, Lining};
+ghost use Rattle.walk.specs.Walked.{Walked, Walking, Lining};
 ghost use Rattle.walk.specs.Touched.{Misses};
 ghost use Rattle.walk.specs.Search.{numberOn, Numbered, Searching};
 use integers::Matrix;
@@ -89,7 +89,7 @@ fn put_line(n: Nest, increment: V3, ends: &[u32], p: usize, from: usize, walk: &
 
 // The lines of all processes, in row order.
 pub fn fill_walk(n: Nest, processes: u32, ends: &[u32], walk: &mut [i32])
-    requires { ⌜ Walkable n processes (now ends) (now walk) ⌝ }
+    requires { ⌜ Walking n processes (now ends) (now walk) ⌝ }
     ensures { λ r. ⌜ Walked n (now (walk .exit)) ⌝ }
 {
     let place = n.place;

@@ -55,9 +55,8 @@ returns c =
     let f = g .before .before .before in
     let s = f .before .before .before .before .before .before .before in
     let i = f .before .before in
-    ends-are (s .pre .0 .directed)
-    (process-table _ (f .fill-numbers .ensures) (i .instance-count .ensures .0) (i .before .size-of .ensures .0) (i .before .before .extent-of .ensures .0))
-    (filled-steps _ (g .fill-steps .ensures)) (c .before .before .fill-ends .ensures)
+    let t = process-table _ (f .fill-numbers .ensures) (i .instance-count .ensures .0) (i .before .size-of .ensures .0) (i .before .before .extent-of .ensures .0) in
+    (t .sized, ends-are (s .pre .0 .directed) t (filled-steps _ (g .fill-steps .ensures)) (c .before .before .fill-ends .ensures))
 
 pub fill-processes-spec : {M : Type 1} → statement M
 fill-processes-spec =

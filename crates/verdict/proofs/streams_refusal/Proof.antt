@@ -18,10 +18,10 @@ use Rattle.decode.proofs.written.Reads as written-reads
 use Rattle.streams.proofs.stream_refusal.Reads as stream-refusal-reads
 
 abbrev Inv-loop : tie.InvT-loop
-Inv-loop d limits n m table₀ i₀ table i = from limits d i ≡ refusal (testsFrom limits d 0 (streamsOf d))
+Inv-loop d limits walk n m i₀ i = from limits d i ≡ refusal (testsFrom limits d 0 (streamsOf d))
 
 abbrev μ-loop : tie.MeasureT-loop
-μ-loop d limits n m table₀ i₀ table i = m - i
+μ-loop d limits walk n m i₀ i = m - i
 
 -- so many its type has
 six : (b : lts.At-loop (
@@ -49,17 +49,17 @@ written-requires c κs = search needs
 
 stream-refusal-requires : tie.Need-stream-refusal-requires Inv-loop μ-loop
 stream-refusal-requires c κs =
-    let b = c .before .before .before .before in
+    let b = c .before .before .before in
     let p = b .before .before .pre in
-    (in-range (p .0 .nest) (rw (← c .before .before .stream .ensures) at (p .0 .streams (b .loop .i))), p .1)
+    (in-range (p .0 .nest) (rw (← c .before .stream .ensures) at (p .0 .streams (b .loop .i))), p .1)
 
 returns : tie.Need-returns Inv-loop μ-loop
 returns c =
-    let e = c .before .before .before .before in
+    let e = c .before .before .before in
     let b = e .before .before in
     let a = b .before .before in
     stream-refused (a .args .limits) (a .args .d) (a .pre .0 .sized .most-streams) (six b) (b .loop .i) (omega arith) (e .stream .ensures)
-    (rw (c .before .before .before .written .ensures) at (c .before .stream-refusal .ensures)) (c .if1 .taken)
+    (rw (c .before .before .written .ensures) at (c .before .stream-refusal .ensures)) (c .if1 .taken)
     ∙ b .loop .inv
 
 add-i : tie.Need-add-i Inv-loop μ-loop
@@ -70,11 +70,11 @@ loop-less c = search needs
 
 loop-again : tie.Need-loop-again Inv-loop μ-loop
 loop-again c =
-    let e = c .before .before .before .before in
+    let e = c .before .before .before in
     let b = e .before .before in
     let a = b .before .before in
     stream-passed (a .args .limits) (a .args .d) (a .pre .0 .sized .most-streams) (six b) (b .loop .i) (omega arith) (e .stream .ensures)
-    (rw (c .before .before .before .written .ensures) at (c .before .stream-refusal .ensures)) (c .if1 .left)
+    (rw (c .before .before .written .ensures) at (c .before .stream-refusal .ensures)) (c .if1 .left)
     ∙ b .loop .inv
 
 returns-2 : tie.Need-returns-2 Inv-loop μ-loop

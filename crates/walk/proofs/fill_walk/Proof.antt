@@ -38,14 +38,14 @@ put-line-requires c κs =
     let p = s .pre in
     let h : l .p < length (processesOf (s .args .n)) = omega (arith, p .counted) in
     record {
-      nest = p .nest;
+      nest = p .walkable .nest;
       held = p .held;
       words = p .words;
-      few = p .few;
+      few = p .walkable .processes;
       process = h;
       increment = i .ensures .0;
       within = i .ensures .1;
-      fits = omega (arith, l .inv .2, passed-most (p .layout) (l .p) h, p .instances);
+      fits = omega (arith, l .inv .2, passed-most (p .walkable .layout) (l .p) h, p .walkable .instances);
       room = l .inv .1 ∙ p .room;
     }
 
