@@ -15,7 +15,7 @@ use Rattle.meaning.specs.declared.Nest.{Nest}
 use Rattle.meaning.specs.declared.Stream.{Stream}
 use Rattle.meaning.specs.Loops.{instances}
 use Rattle.meaning.specs.Space.{Box, points, rowIndex, boxOf}
-use Rattle.meaning.specs.Points.{Directed, Within as InBounds, Inside}
+use Rattle.meaning.specs.Points.{Directed, Inside}
 use Rattle.meaning.specs.Streams.{elements, touches, touched}
 use Rattle.meaning.specs.Accept.{refused17}
 use Rattle.meaning.specs.Walk.{walk}
@@ -27,12 +27,12 @@ use Rattle.geometry.specs.Boxes.{box-has, points-inside}
 use Rattle.geometry.specs.RowOrder.{row-at, row-lt, row-number}
 use Rattle.geometry.specs.Processes.{Layout}
 use Rattle.geometry.specs.Accept.{touch, touched-few}
-use Rattle.geometry.specs.Walk.{walk-length, nothing-else, any-on-walk}
+use Rattle.geometry.specs.Walk.{walk-length, any-on-walk}
 use Rattle.vectors.specs.Within.{Within, Rows}
 use Rattle.numbering.specs.Ranges.{Bounded, point-small}
 use Rattle.numbering.specs.Extents.{Spanning, box-spanning}
 use Rattle.walk.specs.Words.{vectorAt}
-use Rattle.walk.specs.Walked.{Walked, Along}
+use Rattle.walk.specs.Walked.{Walked, Along, is-instance}
 use Rattle.walk.specs.Touched.{Touch, Misses, Misses.untouched, Misses.all-touched}
 
 -- the number in a box of what a matrix sends instance i of the words to
@@ -61,14 +61,8 @@ module _ {n : Nest} (bounded : Bounded n) (layout : Layout n) (s : Stream) {w : 
   abbrev number : ℕ → ℕ
   number = numberOn (s .map) box w
 
-  -- the words hold instances
-  is-instance : (i : ℕ) → i < length (instances n) → InBounds n (vectorAt w i)
-  is-instance i h =
-      let l : i < length (walk n) = omega (arith, walk-length layout) in
-      subst (InBounds n) (sym (walked .at i l)) (nothing-else layout (getD (walk n) i zero3) (getD-in (walk n) i zero3 l))
-
   inside : (i : ℕ) → i < length (instances n) → Inside box (image (s .map) (vectorAt w i))
-  inside i h = box-has (layout .dirs) (s .map) (is-instance i h)
+  inside i h = box-has (layout .dirs) (s .map) (is-instance layout walked i h)
 
   pub searching : {marks : List Bool} → Rows 4 (s .map) → 3 * length (instances n) ≤ length w → length (elements n s) ≤ length marks
       → ((e : ℕ) → e < length (elements n s) → getD marks e false ≡ false)
@@ -80,7 +74,7 @@ module _ {n : Nest} (bounded : Bounded n) (layout : Layout n) (s : Stream) {w : 
               rows = rows;
               box = box-spanning bounded rows;
               words = omega (arith, words);
-              small = point-small bounded (is-instance i h);
+              small = point-small bounded (is-instance layout walked i h);
               inside = inside i h;
             };
         below = λ i h. row-lt box (image (s .map) (vectorAt w i)) (inside i h);
@@ -111,7 +105,7 @@ module _ {n : Nest} (bounded : Bounded n) (layout : Layout n) (s : Stream) {w : 
       let x = vectorAt w (t .by) in
       let q : image (s .map) x ≡ p =
       sym (row-at box (image (s .map) x) zero2 (inside (t .by) (t .lt))) ∙ ap (λ (i : ℕ). getD (points box) i zero2) (t .is) ∙ row-at box p zero2 h in
-      yes-any (λ v. touches s v p) (within-in (layout .dirs) (is-instance (t .by) (t .lt))) (eq-eq2 (image (s .map) x) p q)
+      yes-any (λ v. touches s v p) (within-in (layout .dirs) (is-instance layout walked (t .by) (t .lt))) (eq-eq2 (image (s .map) x) p q)
 
   pub refusal-is : {r : Bool} → Misses number (length (instances n)) (length (elements n s)) r → r ≡ refused17 n s
   refusal-is (untouched e h f) =

@@ -1,7 +1,7 @@
 -- What the words of a walk say, and the walk as it is stored process by process. Assumes nothing.
 use mathlib.Core.Path.{_≡_, refl, sym, _∙_, ap, ap₂, subst}
 use mathlib.Core.List.{List, [], _∷_}
-use Prim.Native.Nat.{ℕ, zero, suc, _+_, _-_, _≤_, _<_}
+use Prim.Native.Nat.{ℕ, zero, suc, _+_, _-_, _*_, _≤_, _<_}
 use native.Mathlib.Nat.{zero-add}
 use native.Mathlib.Decide.{decLt}
 use native.Mathlib.Omega.{arith}
@@ -15,12 +15,14 @@ use Rattle.meaning.specs.declared.Nest.{Nest}
 use Rattle.meaning.specs.Lists.{total, numbers}
 use Rattle.meaning.specs.Loops.{instances, increment}
 use Rattle.meaning.specs.Space.{processes, count, first}
+use Rattle.meaning.specs.Points.{Within as InBounds}
 use Rattle.meaning.specs.Walk.{ownLine, walk}
 use Rattle.geometry.specs.Members.{total-next, map-at, each-part, each-length, numbers-length, numbers-at}
 use Rattle.geometry.specs.Processes.{Layout, runAt}
-use Rattle.geometry.specs.Walk.{walk-length}
+use Rattle.geometry.specs.Places.{getD-in}
+use Rattle.geometry.specs.Walk.{walk-length, nothing-else}
 use Rattle.vectors.specs.Within.{Within}
-use Rattle.numbering.specs.Ranges.{Bounded}
+use Rattle.numbering.specs.Ranges.{Bounded, point-small}
 use Rattle.layout.specs.Ends.{processOf, Ends}
 use Rattle.walk.specs.Words.{vectorAt, Lined, lined-none}
 
@@ -34,6 +36,26 @@ pub record Along (n : Nest) (w : List ℤ) : Type 0 where
   pub walked : Walked n w
   pub few : length (instances n) ≤ 4096
   pub room : length w ≡ 12288
+
+-- the words hold instances, small ones
+pub is-instance : {n : Nest} {w : List ℤ} → Layout n → Walked n w → (k : ℕ) → k < length (instances n) → InBounds n (vectorAt w k)
+is-instance {n} layout walked k h =
+    let l : k < length (walk n) = omega (arith, walk-length layout) in
+    subst (InBounds n) (sym (walked .at k l)) (nothing-else layout (getD (walk n) k zero3) (getD-in (walk n) k zero3 l))
+
+-- words of so many instances that can be read one by one
+pub record Readable (n : Nest) (w : List ℤ) (many : ℕ) : Type 0 where
+  pub nest : Bounded n
+  pub words : 3 * many ≤ length w
+  pub small : (k : ℕ) → k < many → Within 64 (vectorAt w k)
+
+pub readable : {n : Nest} {w : List ℤ} {many : ℕ} → Bounded n → Along n w → many ≡ length (instances n) → Readable n w many
+readable b a e =
+    record {
+      nest = b;
+      words = omega (arith, e, a .few, a .room);
+      small = λ k h. point-small b (is-instance (a .layout) (a .walked) k (omega (arith, e)));
+    }
 
 -- a nest that 1 to 10 do not refuse, with few processes and instances
 pub record Walkable (n : Nest) : Type 0 where

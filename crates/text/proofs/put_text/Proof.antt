@@ -1,9 +1,9 @@
--- `print_table::put_text` is safe and ends. Assumes nothing.
+-- `text::put_text` is safe and ends. Assumes nothing.
 use Prim.Native.Nat.{_≤_, _-_}
 use lib.ListN.{length}
 use borrow.Author.Needs.{needs}
-use Rattle.print_table.proofs.put_text.Statement.{statement}
-use Rattle.print_table.proofs.put_text.Tie as tie
+use Rattle.text.proofs.put_text.Statement.{statement}
+use Rattle.text.proofs.put_text.Tie as tie
 
 abbrev Inv-loop : tie.InvT-loop
 Inv-loop line₀ at text next₀ i₀ line next i = i ≤ length text

@@ -1,9 +1,9 @@
--- `print_table::print_line` is safe and ends. Assumes nothing.
+-- `text::print_line` is safe and ends. Assumes nothing.
 use mathlib.Core.Path.{sym}
 use lib.Seq.{length-take-le}
 use borrow.Author.Needs.{needs}
-use Rattle.print_table.proofs.print_line.Statement.{statement}
-use Rattle.print_table.proofs.print_line.Tie as tie
+use Rattle.text.proofs.print_line.Statement.{statement}
+use Rattle.text.proofs.print_line.Tie as tie
 
 written-requires : tie.Need-written-requires
 written-requires c κs = search needs

@@ -1,0 +1,81 @@
+// The walk by process of a description: its bytes on standard input; on standard output how many processes and instances there are, then a line for each instance
+// as the walk comes to it, with its process's point (y), its step (t) and itself (x), or `refused` and the number, 1 to 10. It reads up to 65,536 bytes, more than
+// any description has.
+ghost use Rattle.vectors.specs.Within.{Within};
+ghost use Rattle.numbering.specs.Ranges.{Bounded};
+ghost use Rattle.walk.specs.Walked.{Along, Readable};
+use integers::V3;
+use libc::STDIN_FILENO;
+use meaning::Nest;
+
+fn put_visit(line: &mut [u8; 256], n: Nest, x: V3, loops: u32) -> usize
+    requires { ⌜ (Bounded n) × (Within 64 x) ⌝ }
+{
+    let place = n.place;
+    let step = n.step;
+    let y = text::put(line, 0, b'y');
+    let point = text::put_point(line, y, vectors::image_of(place, x), loops);
+    let t = text::put_text(line, point, b" t");
+    let time = text::put_signed(line, t, vectors::dot_of(step, x));
+    let i = text::put_text(line, time, b" x");
+    let end = text::put_instance(line, i, x, loops);
+    text::put(line, end, b'\n')
+}
+
+fn print_visit(n: Nest, x: V3, loops: u32)
+    requires { ⌜ (Bounded n) × (Within 64 x) ⌝ }
+{
+    let mut line = [0u8; 256];
+    let end = put_visit(&mut line, n, x, loops);
+    text::print_line(line, end);
+}
+
+fn print_visits(n: Nest, walk: &[i32], instances: usize, loops: u32)
+    requires { ⌜ Readable n (now walk) instances ⌝ }
+{
+    let mut k: usize = 0;
+    while k < instances {
+        print_visit(n, walk::instance_at(walk, k), loops);
+        k += 1;
+    }
+}
+
+fn put_figures(line: &mut [u8; 256], processes: u32, instances: u32) -> usize {
+    let first = text::put_number(line, 0, b"processes ", processes);
+    let second = text::put_number(line, first, b" instances ", instances);
+    text::put(line, second, b'\n')
+}
+
+fn print_figures(processes: u32, instances: u32) {
+    let mut line = [0u8; 256];
+    let end = put_figures(&mut line, processes, instances);
+    text::print_line(line, end);
+}
+
+fn print_whole(n: Nest, walk: &[i32], loops: u32)
+    requires { ⌜ (Bounded n) × (Along n (now walk)) ⌝ }
+{
+    let place = n.place;
+    let processes = numbering::size_of(numbering::extent_of(n, place));
+    let instances = numbering::instance_count(n);
+    print_figures(processes, instances);
+    print_visits(n, walk, instances as usize, loops);
+}
+
+fn print_walk(s: &[u8]) {
+    let mut ends = [0u32; 3072];
+    let mut walk = [0i32; 12288];
+    let refusal = verdict::walk_of(s, &mut ends, &mut walk);
+    if refusal == 0 {
+        let n = decode::description(s).nest;
+        print_whole(n, &walk, integers::bits_at(s, 0));
+    } else {
+        text::print_refusal(refusal);
+    }
+}
+
+fn main() {
+    let mut space = io::large_buffer();
+    let n = io::read_full(STDIN_FILENO, &mut space);
+    print_walk(&space[..n]);
+}
