@@ -1,8 +1,8 @@
-// What Accept, Table and Plain run answer and leave in the lent lists, for descriptions on standard input, each behind a word with its number
-// of bytes. It reads up to 65,536 descriptions; more than 508 bytes are taken as 508, and bytes that are missing as 0. For each it prints
-// Accept's answer, then `table` with three calls (one row fewer than there are processes, as many, and 1,024), then `plain` with four calls (a
+// What Accept, Table and Plain run answer and leave in the lent lists, and the walk by process, for descriptions on standard input, each behind a word with its
+// number of bytes. It reads up to 65,536 descriptions; more than 508 bytes are taken as 508, and bytes that are missing as 0. For each it prints
+// Accept's answer, then `walk` with the number by which 1 to 10 refuse it, or 0, and the sum of the walk's coordinates, then `table` with three calls (one row fewer than there are processes, as many, and 1,024), then `plain` with four calls (a
 // value too few, an output too long, both wrong, and both right). A call is printed as the number by which it declines, or 0, and the sum of
-// its list, one row or word more than the call names. An array of at most 12 elements has its rows, values and final values printed as well.
+// its list, one row or word more than the call names. An array of at most 12 elements has the walk's instances, its rows, values and final values printed as well.
 // A description that is declined counts as one process and one element.
 ghost use Prim.Native.Nat.{_≤_, _<_, _+_};
 ghost use lib.ListN.{length};
@@ -84,6 +84,19 @@ fn sum_of_rows(rows: [Row; 1024], count: usize) -> u32 {
     sum
 }
 
+// The same of whole numbers, from 0.
+fn sum_of_signed(numbers: &[i32], count: usize) -> u32
+    requires { ⌜ count ≤ length (now numbers) ⌝ }
+{
+    let mut sum: u32 = 0;
+    let mut i: usize = 0;
+    while i < count {
+        sum = mix_signed(sum, numbers[i]);
+        i += 1;
+    }
+    sum
+}
+
 // The values for the description of a number.
 fn fill_values(values: &mut [u32], count: usize, number: u32)
     requires { ⌜ (count ≤ length (now values)) × (count ≤ 24577) ⌝ }
@@ -141,6 +154,16 @@ fn print_words(words: &[u32], count: usize)
     let mut i: usize = 0;
     while i < count {
         print_number(words[i]);
+        i += 1;
+    }
+}
+
+fn print_signeds(numbers: &[i32], count: usize)
+    requires { ⌜ count ≤ length (now numbers) ⌝ }
+{
+    let mut i: usize = 0;
+    while i < count {
+        print_signed(numbers[i]);
         i += 1;
     }
 }
@@ -262,6 +285,33 @@ fn accept_line(s: &[u8]) -> Extents
     }
 }
 
+// Of the walk's first coordinates the sum, and all of them if the array is small.
+fn print_visits(walk: &[i32], coordinates: usize, small: bool)
+    requires { ⌜ coordinates ≤ length (now walk) ⌝ }
+{
+    print_number(sum_of_signed(walk, coordinates));
+    print(b"\n");
+    if small {
+        print(b"along");
+        print_signeds(walk, coordinates);
+        print(b"\n");
+    }
+}
+
+fn walk_lines(s: &[u8], small: bool) {
+    let mut ends = [0u32; 3072];
+    let mut walk = [0i32; 12288];
+    let refusal = verdict::walk_of(s, &mut ends, &mut walk);
+    print(b"walk");
+    print_number(refusal);
+    if refusal == 0 {
+        let n = decode::description(s).nest;
+        print_visits(&walk, 3 * numbering::instance_count(n) as usize, small);
+    } else {
+        print(b" 0\n");
+    }
+}
+
 fn table_call(s: &[u8], lent: usize, seen: usize) {
     let listed = rows::table(s, lent);
     let answer = listed.answer;
@@ -322,6 +372,7 @@ fn plain_lines(s: &[u8], e: Extents, number: u32)
 
 fn compare(s: &[u8], number: u32) {
     let e = accept_line(s);
+    walk_lines(s, e.small);
     table_lines(s, e);
     plain_lines(s, e, number);
 }
