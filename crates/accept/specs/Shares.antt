@@ -23,10 +23,11 @@ use Rattle.meaning.specs.Description.{descriptionOf, streamsOf, noStream}
 use Rattle.meaning.specs.Calls.{lengthOf}
 use Rattle.meaning.specs.Accept.{refusalOf, figures, divisors, accept}
 use Rattle.numbering.specs.Ranges.{Bounded}
+use Rattle.geometry.specs.Members.{total-next}
 use Rattle.refusals.specs.Accepted.{accepted-within}
 use Rattle.refusals.specs.InRange.{nest-bounded}
 use Rattle.refusals.specs.StateWords.{end-words}
-use Rattle.elements.specs.Counts.{Few, total-next, total-most}
+use Rattle.elements.specs.Counts.{Few, total-most}
 use Rattle.elements.specs.Few.{accepted-few}
 use Rattle.pipes.specs.declared.Flow.{Flow}
 use Rattle.pipes.specs.Flow.{Laid, Seen}

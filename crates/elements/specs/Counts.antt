@@ -12,6 +12,7 @@ use Rattle.meaning.specs.Lists.{total}
 use Rattle.meaning.specs.Streams.{elements}
 use Rattle.meaning.specs.Description.{streamsOf, noStream}
 use Rattle.meaning.specs.Body.{streamStart, elementCount}
+use Rattle.geometry.specs.Members.{total-next}
 use Rattle.decode.specs.Ranged.{Ranged}
 
 -- a description in range whose streams in use have at most 4096 elements each
@@ -22,12 +23,6 @@ pub record Few (d : Description) : Type 0 where
 -- ---- sums over the first members of a list
 
 module _ {A : Type 0} (f : A → ℕ) where
-  pub total-next : (xs : List A) (i : ℕ) (z : A) → i < length xs → total f (take (suc i) xs) ≡ total f (take i xs) + f (getD xs i z)
-  unfolding total
-  total-next [] i z h = absurd (omega arith)
-  total-next (x ∷ xs) zero z h = omega arith
-  total-next (x ∷ xs) (suc i) z h = ap (λ (k : ℕ). f x + k) (total-next xs i z (omega arith)) ∙ omega arith
-
   pub total-most : (xs : List A) (i m : ℕ) (z : A) → i ≤ length xs → ((j : ℕ) → j < i → f (getD xs j z) ≤ m) → total f (take i xs) ≤ i * m
   unfolding total
   total-most xs zero m z h g = omega arith

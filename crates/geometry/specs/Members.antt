@@ -186,7 +186,12 @@ module _ {A B : Type 0} where
       ap (λ (c : ℕ). getD (f x ++ each f l) c e) (add-assoc (length (f x)) (total (λ x. length (f x)) (take q l)) i)
       ∙ getD-append-add (f x) (each f l) (total (λ x. length (f x)) (take q l) + i) e ∙ each-part f l q i d e (omega arith) k
 
--- one more member summed
+-- no member summed, and one more
+pub total-none : {A : Type 0} (f : A → ℕ) (l : List A) → total f (take 0 l) ≡ 0
+unfolding total
+total-none f [] = refl
+total-none f (x ∷ l) = refl
+
 pub total-next : {A : Type 0} (f : A → ℕ) (l : List A) (i : ℕ) (d : A) → i < length l → total f (take (suc i) l) ≡ total f (take i l) + f (getD l i d)
 unfolding total
 total-next f [] i d h = absurd (omega arith)

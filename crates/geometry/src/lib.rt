@@ -6,8 +6,9 @@
 //   instances          Instances: `within-in`, `in-within`, `distinct`, `number-earlier`, `earlier-number`: the points in the bounds, in order;
 //                      `instances-length`: how many
 //   processes          Segments: `segment`, `numbered`, `instance` (G1); Processes: `instance-firing`, `firing-instance`, .. (G2);
-//                      Firings: `runs-are`; Passes: `every-pass`: every pass of the loops is run by one processor; Counts: `counts-total`
-//   boxes              Boxes: `inside-points`, `points-sorted`, `box-basis`, `box-least`; RowOrder: `row-at`, `row-number`
+//                      Firings: `runs-are`; Passes: `every-pass`: every pass of the loops is run by one processor; Counts: `counts-total`;
+//                      Walk: `whole-walk`: process by process every instance once
+//   boxes              Boxes: `inside-points`, `points-sorted`, `box-basis`, `box-least`; RowOrder: `row-at`, `row-number`, `numbers-rise`
 //   pipes              Pipes: `one-pipe` (G4), `same-pipe`, `on-in`, `in-on`, `no-pipe`; Positions: `pipe-at`, `pipe-next`, `before-at`
 //   elements           Moving: `pipe-line` (G5); Elements: `entry-before`, `home-in`, `home-is`, `pipes-total`, `home-element`, `waiting-number`,
 //                      `number-waiting` (G7); over all streams PipeOrder; PipeLists: `pipe-elements`, `pipe-ends`, `soaks`: as demand 2 speaks of them
@@ -18,7 +19,7 @@
 //   the report         Report: equations (3), (4), (8), (9), (10); (2) is `box-basis` of Boxes
 //   two loops          TwoLoops: that the padded third loop changes nothing
 //   divisors           Divisors: those of a description's streams in their list
-//   from Accept        Descriptions: `laid`: what the refusals leave
+//   from Accept        Descriptions: `walk-layout`: what the refusals 1 to 10 leave; `laid`: what all leave
 //   for the network    Wiring: `wired`, `flowing`, `keeping`, `meeting`; Arrays: `pipe-is`, `pipe-of`, `through`, `place-on`
 //
 // Members, Sorting, Best, Numbers, Places, Reach and BoxLines are what these use; Tests is for the crates above. No theorem uses that an increment's

@@ -37,3 +37,4 @@ pub mod Cases
 pub mod Runs
 pub mod GuardedRuns
 pub mod Slanted
+pub mod Walks

@@ -26,10 +26,12 @@
 //   FixedPoint        request 2.1: what Accept answers to operation 6
 //   GuardedLines      request 2.5: what Accept answers to descriptions of the older length and to guards, and when lines run
 //   CommonDivisors    request 2.7: what the divisors in Accept's answer are, and how far apart they say that values and working processes lie
+//   Walk              request 2.4: the walk by process, what a whole walk comes to, and Accept with the check along it
 //   Designs, Cases    the documents' designs as bytes, and document 01's cases marked P, computed as one table (Comparison)
 //   Singles, Runs     cases beside them that hold the rules: tables, single steps and declined calls; states stopped in the middle, other orders
 //   GuardedRuns       runs under guards, plainly and in two orders
 //   Slanted           divisors above 1, and a run of a slanted grid
+//   Walks             walks beside the written order
 //
 // Two loops are three, the third running from 0 to 0: its direction is 1, its step coefficient 0; place and every index map get a second row
 // (0, 0, 1), and a loading vector a second component 0. Then one set of definitions serves both.

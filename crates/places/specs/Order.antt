@@ -27,6 +27,7 @@ use Rattle.meaning.specs.Array.{arrayOf, pipeOrder, partStart}
 use Rattle.meaning.specs.Accept.{refusalOf}
 use Rattle.meaning.specs.Calls.{lengthOf}
 use Rattle.meaning.specs.Points.{Within}
+use Rattle.geometry.specs.Members.{total-next}
 use Rattle.geometry.specs.Places.{ahead, getD-in, found}
 use Rattle.geometry.specs.Instances.{within-in, in-within}
 use Rattle.geometry.specs.Boxes.{points-inside, box-has}
@@ -40,7 +41,7 @@ use Rattle.stations.specs.Through.{entryNumber as entryRank, entry-lt, entry-ra
 use Rattle.stations.specs.Ends.{number-lt}
 use Rattle.stations.specs.Orders.{found-at, touchedPipe, touchedIndex, place-inside, place-on-pipe, touched-lt, touched-waits}
 use Rattle.pipes.specs.Held.{entryNumber}
-use Rattle.elements.specs.Counts.{total-next, total-most}
+use Rattle.elements.specs.Counts.{total-most}
 use Rattle.parts.specs.Starts.{entering, startAt}
 use Rattle.accept.specs.Shares.{Described, described}
 use Rattle.places.specs.Spread.{spread, spread-length, spread-keeps, spread-puts}

@@ -24,14 +24,13 @@ use Rattle.meaning.specs.Pipes.{entries, pipeElements}
 use Rattle.meaning.specs.Description.{streamsOf, noStream}
 use Rattle.meaning.specs.Body.{streamStart}
 use Rattle.meaning.specs.Array.{Array, arrayOf, pipeNumber, partStart}
-use Rattle.geometry.specs.Members.{filter-in}
+use Rattle.geometry.specs.Members.{filter-in, total-none, total-next}
 use Rattle.geometry.specs.Sorting.{sorted-filter}
 use Rattle.geometry.specs.Places.{ahead, getD-in, ahead-getD, ahead-filter}
 use Rattle.geometry.specs.Boxes.{row-distinct, points-sorted}
 use Rattle.geometry.specs.Elements.{partOf}
 use Rattle.geometry.specs.Descriptions.{Laid}
 use Rattle.geometry.specs.Arrays.{streamAt, pipe-count}
-use Rattle.stations.specs.Sums.{total-none, total-next}
 use Rattle.stations.specs.Pipes.{entryCount, base, entryAt, base-next, part-start}
 use Rattle.stations.specs.Through.{is-true, pointOf}
 use Rattle.stations.specs.Ends.{number-lt, number-point, entry-inside}

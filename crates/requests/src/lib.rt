@@ -4,6 +4,8 @@
 //         before; Plain run and the network have it (RunsLoops)
 //   2.2   LongerStrides: `longer-strides`: 9 is never given; what was not refused by it is answered as before, what was is answered by what comes after;
 //         first and last of Table's rows are the outermost points of the process's own line in the bounds (Outermost)
+//   2.4   WalkByProcess: `walk-by-process`: what Accept accepts or refuses by 11 to 17 has a walk; a whole walk comes to every instance exactly once and to nothing
+//         else, in that order, and is a rearrangement of the instances; Accept with the check along it is Accept
 //   2.5   GuardedLines: `guarded-lines`: descriptions of the older length are refused by 3, a guard out of its ranges by 4; Accept answers every guard in its
 //         ranges alike; a line of comparison 0 always runs; Plain run and the network run a line only if its index compares so (RunsLoops)
 //   2.7   CommonDivisors: `common-divisors`: of an accepted description each divisor in use is the one that the shortening rule takes out, is not 0 and says how

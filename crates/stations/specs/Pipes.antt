@@ -20,11 +20,11 @@ use Rattle.meaning.specs.Description.{noStream, streamsOf}
 use Rattle.meaning.specs.Body.{streamStart}
 use Rattle.meaning.specs.Array.{Pipe, stopOf, pipeOf, pipesFrom, Array, arrayOf, pipeNumber, noPipe, pipeAt, stopsOn, elementsOn, partStart}
 use Rattle.meaning.specs.Rules.{streamOn}
-use Rattle.geometry.specs.Members.{map-at}
+use Rattle.geometry.specs.Members.{map-at, total-next}
 use Rattle.geometry.specs.Elements.{partOf, pipes-total}
 use Rattle.geometry.specs.Descriptions.{Laid}
 use Rattle.geometry.specs.Arrays.{streamAt, pipe-count}
-use Rattle.stations.specs.Sums.{total-append, total-next, total-below, Part, part, total-first, total-second, total-like, total-map}
+use Rattle.stations.specs.Sums.{total-append, total-below, Part, part, total-first, total-second, total-like, total-map}
 
 -- the number of a stream's first pipe, by the streams before it
 abbrev pub entryCount : Nest → Stream → ℕ

@@ -7,24 +7,13 @@ use native.Mathlib.Decide.{decLe}
 use lib.ListN.{length, getD, take}
 use lib.Seq.{take-append-le, take-append-add}
 use Rattle.meaning.specs.Lists.{total}
+use Rattle.geometry.specs.Members.{total-none}
 
 module _ {X : Type 0} (f : X → ℕ) where
-  pub total-none : (l : List X) → total f (take 0 l) ≡ 0
-  unfolding total
-  total-none [] = refl
-  total-none (x ∷ l) = refl
-
   pub total-append : (l l' : List X) → total f (l ++ l') ≡ total f l + total f l'
   unfolding total
   total-append [] l' = omega arith
   total-append (x ∷ l) l' = omega (arith, total-append l l')
-
-  -- one more member
-  pub total-next : (l : List X) (k : ℕ) (d : X) → k < length l → total f (take (suc k) l) ≡ total f (take k l) + f (getD l k d)
-  unfolding total
-  total-next [] k d h = absurd (omega arith)
-  total-next (x ∷ l) zero d h = omega (arith, total-none l)
-  total-next (x ∷ l) (suc k) d h = omega (arith, total-next l k d (omega arith))
 
   -- a place in member k's part is a place in the whole
   pub total-below : (l : List X) (k j : ℕ) (d : X) → k < length l → j < f (getD l k d) → total f (take k l) + j < total f l

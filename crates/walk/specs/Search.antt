@@ -40,7 +40,7 @@ abbrev pub numberOn : Matrix → Box → List ℤ → ℕ → ℕ
 numberOn m k w i = rowIndex k (image m (vectorAt w i))
 
 -- what that number is found by
-pub record Numbered (m : Matrix) (k : Box) (w : List ℤ) (i : ℕ) : Type 0 where
+pub record Numberable (m : Matrix) (k : Box) (w : List ℤ) (i : ℕ) : Type 0 where
   pub rows : Rows 4 m
   pub box : Spanning k
   pub words : 3 * i + 2 < length w
@@ -49,7 +49,7 @@ pub record Numbered (m : Matrix) (k : Box) (w : List ℤ) (i : ℕ) : Type 0 whe
 
 -- what the search is lent: the words of a walk, and a mark, not set yet, for each point of the box
 pub record Searching (m : Matrix) (k : Box) (w : List ℤ) (many points : ℕ) (marks : List Bool) : Type 0 where
-  pub each : (i : ℕ) → i < many → Numbered m k w i
+  pub each : (i : ℕ) → i < many → Numberable m k w i
   pub below : (i : ℕ) → i < many → numberOn m k w i < points
   pub few : points ≤ length marks
   pub clear : (e : ℕ) → e < points → getD marks e false ≡ false
@@ -126,12 +126,12 @@ module _ {n : Nest} (bounded : Bounded n) (layout : Layout n) (s : Stream) {w : 
       false-is {b = false} g = refl
 
 -- the same by the box and the numbers that code has found
-pub record Sized (n : Nest) (s : Stream) (k : Box) (many size : ℕ) : Type 0 where
+pub record BoxSized (n : Nest) (s : Stream) (k : Box) (many size : ℕ) : Type 0 where
   pub box : k ≡ boxOf n (s .map)
   pub counted : many ≡ length (instances n)
   pub sized : size ≡ length (points k)
 
-module _ {n : Nest} {s : Stream} {k : Box} {many size : ℕ} (z : Sized n s k many size) where
+module _ {n : Nest} {s : Stream} {k : Box} {many size : ℕ} (z : BoxSized n s k many size) where
   pub size-is : size ≡ length (elements n s)
   size-is = z .sized ∙ ap (λ (b : Box). length (points b)) (z .box)
 

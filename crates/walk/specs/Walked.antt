@@ -1,6 +1,6 @@
 -- What the words of a walk say, and the walk as it is stored process by process. Assumes nothing.
-use mathlib.Core.Path.{_≡_, refl, sym, _∙_, ap, ap₂, subst}
-use mathlib.Core.List.{List, [], _∷_}
+use mathlib.Core.Path.{_≡_, sym, _∙_, ap, ap₂, subst}
+use mathlib.Core.List.{List}
 use Prim.Native.Nat.{ℕ, zero, suc, _+_, _-_, _*_, _≤_, _<_}
 use native.Mathlib.Nat.{zero-add}
 use native.Mathlib.Decide.{decLt}
@@ -17,7 +17,7 @@ use Rattle.meaning.specs.Loops.{instances, increment}
 use Rattle.meaning.specs.Space.{processes, count, first}
 use Rattle.meaning.specs.Points.{Within as InBounds}
 use Rattle.meaning.specs.Walk.{ownLine, walk}
-use Rattle.geometry.specs.Members.{total-next, map-at, each-part, each-length, numbers-length, numbers-at}
+use Rattle.geometry.specs.Members.{total-none, total-next, map-at, each-part, each-length, numbers-length, numbers-at}
 use Rattle.geometry.specs.Processes.{Layout, runAt}
 use Rattle.geometry.specs.Places.{getD-in}
 use Rattle.geometry.specs.Walk.{walk-length, nothing-else}
@@ -116,12 +116,7 @@ module _ (n : Nest) where
   line-length y = length-map (numbers (count n y)) (runAt n y) ∙ numbers-length 0 (count n y)
 
   pub passed-none : 0 ≡ passed 0
-  unfolding total
-  passed-none = go (processes n)
-    where
-      go : (l : List V2) → 0 ≡ total (λ y. length (ownLine n y)) (take 0 l)
-      go [] = refl
-      go (y ∷ l) = refl
+  passed-none = sym (total-none (λ y. length (ownLine n y)) (processes n))
 
   pub passed-next : (p : ℕ) → p < length (processes n) → passed (suc p) ≡ passed p + count n (processOf n p)
   passed-next p h =

@@ -19,7 +19,7 @@ ghost use Rattle.layout.specs.Ends.{processOf};
 ghost use Rattle.walk.specs.Words.{vectorAt, put, Lined, Running};
 ghost use Rattle.walk.specs.Walked.{Walked, Walking, Lining};
 ghost use Rattle.walk.specs.Touched.{Misses};
-ghost use Rattle.walk.specs.Search.{numberOn, Numbered, Searching};
+ghost use Rattle.walk.specs.Search.{numberOn, Numberable, Searching};
 use integers::Matrix;
 use integers::V3;
 use meaning::Nest;
@@ -106,7 +106,7 @@ pub fn fill_walk(n: Nest, processes: u32, ends: &[u32], walk: &mut [i32])
 
 // The number of the element that instance k of the walk touches.
 fn number_at(m: Matrix, e: Extent, walk: &[i32], k: usize) -> usize
-    requires { ⌜ Numbered m (boxed e) (now walk) k ⌝ }
+    requires { ⌜ Numberable m (boxed e) (now walk) k ⌝ }
     ensures { λ r. ⌜ r ≡ numberOn m (boxed e) (now (walk .entry)) k ⌝ }
 {
     numbering::row_number(e, vectors::image_of(m, instance_at(walk, k))) as usize

@@ -3,7 +3,7 @@ use mathlib.Core.Bool.{false}
 use Prim.Native.Nat.{_≤_}
 use native.Mathlib.Omega.{arith}
 use lib.ListN.{getD-replicate}
-use Rattle.walk.specs.Search.{Sized, size-is, searching-by, refusal-by, too-many}
+use Rattle.walk.specs.Search.{BoxSized, size-is, searching-by, refusal-by, too-many}
 use borrow.Author.Needs.{needs}
 use Rattle.streams.proofs.elements_refused.Statement.{statement}
 use Rattle.streams.proofs.elements_refused.Tie as tie
@@ -26,7 +26,7 @@ cast-instances c = search needs
 returns : tie.Need-returns
 returns c =
     let s = c .before .before .before .before .before in
-    let z : Sized (s .args .n) (s .args .s) _ _ _ =
+    let z : BoxSized (s .args .n) (s .args .s) _ _ _ =
     record {
       box = c .before .before .before .extent-of .ensures .0;
       counted = c .before .instance-count .ensures .0;
@@ -40,7 +40,7 @@ slice-aggregate-untouched c = search needs
 untouched-requires : tie.Need-untouched-requires
 untouched-requires c κs =
     let s = c .before .before .before .before .before .before in
-    let z : Sized (s .args .n) (s .args .s) _ _ _ =
+    let z : BoxSized (s .args .n) (s .args .s) _ _ _ =
     record {
       box = c .before .before .before .before .extent-of .ensures .0;
       counted = c .before .before .instance-count .ensures .0;
