@@ -82,7 +82,7 @@ module _ {n : Nest} (bounded : Bounded n) (layout : Layout n) (s : Stream) {w : 
         clear = clear;
       }
 
-  -- the number of an element is that of the point there
+  -- the element of a number
   abbrev element : ℕ → V2
   element e = getD (elements n s) e zero2
 
