@@ -38,11 +38,12 @@ fn fill_nest(n: Nest, ends: &mut [u32; 3072], walk: &mut [i32; 12288])
     walk::fill_walk(n, processes, ends, walk);
 }
 
-// The same of a description, if there is no such refusal; the limits may not exceed the places of the words.
+// The same of a description, if there is no such refusal, else they stay; the limits may not exceed the places of the words.
 fn walk_within(s: &[u8], limits: Limits, ends: &mut [u32; 3072], walk: &mut [i32; 12288]) -> u32
     requires { ⌜ (limits .instances ≤ 4096) × (limits .processes ≤ 1024) ⌝ }
     ensures { λ r. ⌜ (r ≡ walkRefusal limits (now (s .entry)))
-        × (r ≡ 0 → (Ends (descriptionOf (now (s .entry)) .nest) (now (ends .exit))) × (Along (descriptionOf (now (s .entry)) .nest) (now (walk .exit)))) ⌝ }
+        × (r ≡ 0 → (Ends (descriptionOf (now (s .entry)) .nest) (now (ends .exit))) × (Along (descriptionOf (now (s .entry)) .nest) (now (walk .exit))))
+        × ((r ≡ 0 → ⊥) → (now (ends .exit) ≡ now (ends .entry)) × (now (walk .exit) ≡ now (walk .entry))) ⌝ }
 {
     let r = walk_refusal(s, limits);
     if r == 0 {
@@ -52,10 +53,11 @@ fn walk_within(s: &[u8], limits: Limits, ends: &mut [u32; 3072], walk: &mut [i32
     r
 }
 
-// WALK: the number by which 1 to 10 refuse a description, 0 if they do not; then the words of its processes and of its walk are filled.
+// The number by which 1 to 10 refuse a description, and then no word changes, or 0, and then the words of its processes and of its walk are filled.
 pub fn walk_of(s: &[u8], ends: &mut [u32; 3072], walk: &mut [i32; 12288]) -> u32
     ensures { λ r. ⌜ (r ≡ walkRefusal gaugeLimits (now (s .entry)))
-        × (r ≡ 0 → (Ends (descriptionOf (now (s .entry)) .nest) (now (ends .exit))) × (Along (descriptionOf (now (s .entry)) .nest) (now (walk .exit)))) ⌝ }
+        × (r ≡ 0 → (Ends (descriptionOf (now (s .entry)) .nest) (now (ends .exit))) × (Along (descriptionOf (now (s .entry)) .nest) (now (walk .exit))))
+        × ((r ≡ 0 → ⊥) → (now (ends .exit) ≡ now (ends .entry)) × (now (walk .exit) ≡ now (walk .entry))) ⌝ }
 {
     walk_within(s, meaning::gauge(), ends, walk)
 }

@@ -20,7 +20,7 @@ returns : tie.Need-returns
 returns c =
     let s = now (c .before .before .before .before .before .args .s) in
     let h = c .walk-within .ensures in
-    (h .0 ∙ ap (λ (l : Limits). walkRefusal l s) (c .before .before .before .gauge .ensures), h .1)
+    (h .0 ∙ ap (λ (l : Limits). walkRefusal l s) (c .before .before .before .gauge .ensures), h .1, h .2)
 
 pub walk-of-spec : {M : Type 1} → statement M
 walk-of-spec = tie.close (tie.spec gauge-requires walk-within-requires returns)

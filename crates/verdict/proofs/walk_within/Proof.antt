@@ -1,5 +1,5 @@
 -- `verdict::walk_within` meets its contract. Assumes nothing.
-use mathlib.Core.Path.{sym, _∙_, subst}
+use mathlib.Core.Path.{refl, sym, _∙_, subst}
 use denote.Ref.{now}
 use native.Mathlib.Omega.{arith}
 use Rattle.meaning.specs.declared.Description.{Description}
@@ -34,11 +34,14 @@ fill-nest-requires c κs =
     })
 
 returns : tie.Need-returns
-returns c =
-    (c .before .before .before .before .before .before .walk-refusal .ensures, λ z. rw (c .before .before .before .before .description .ensures) at (c .fill-nest .ensures))
+returns c = (
+  c .before .before .before .before .before .before .walk-refusal .ensures,
+  λ z. rw (c .before .before .before .before .description .ensures) at (c .fill-nest .ensures),
+  λ f. absurd (f (c .before .before .before .before .before .if1 .taken)),
+)
 
 returns-2 : tie.Need-returns-2
-returns-2 c = (c .before .walk-refusal .ensures, λ z. absurd (c .if1 .left z))
+returns-2 c = (c .before .walk-refusal .ensures, λ z. absurd (c .if1 .left z), λ f. (refl, refl))
 
 pub walk-within-spec : {M : Type 1} → statement M
 walk-within-spec =
