@@ -17,7 +17,7 @@ use Rattle.meaning.specs.Loops.{instances, placeOf, increment}
 use Rattle.meaning.specs.Space.{rowIndex, space, processes, count, first, last}
 use Rattle.meaning.specs.Sorted.{Sorted, Distinct}
 use Rattle.meaning.specs.Points.{Within}
-use Rattle.meaning.specs.Walk.{ownLine, walk, processNumber, Before, WholeWalk}
+use Rattle.meaning.specs.Walk.{ownLine, walk, processNumber, ComesBefore, WholeWalk}
 use Rattle.geometry.specs.Members.{any-same, map-in, in-each, each-in, numbers-in, in-numbers}
 use Rattle.geometry.specs.Sorting.{sorted-map, sorted-with, sorted-by-map, sorted-each, numbers-sorted, fewer, rearranged}
 use Rattle.geometry.specs.Instances.{within-in, in-within, distinct}
@@ -54,10 +54,10 @@ module _ {n : Nest} (layout : Layout n) where
   every x w =
       in-each (ownLine n) (inside-points (space n) (placeOf n x) (at-box (layout .dirs) {m = n .place} (record { within = w; to = refl }))) (line-has w)
 
-  in-order : Sorted (Before n) (walk n)
+  in-order : Sorted (ComesBefore n) (walk n)
   unfolding walk
   in-order =
-      sorted-each {R = λ y y'. rowIndex (space n) y < rowIndex (space n) y'} {S = Before n} (ownLine n)
+      sorted-each {R = λ y y'. rowIndex (space n) y < rowIndex (space n) y'} {S = ComesBefore n} (ownLine n)
       (λ y. sorted-map
       (λ x x' r. let e : processNumber n x ≡ processNumber n x' = ap (rowIndex (space n)) (r .0 .to ∙ sym (r .1 .to)) in
       record { never-fall = omega arith; rise = λ _. r .2 })

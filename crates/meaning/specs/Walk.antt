@@ -4,6 +4,7 @@ use mathlib.Core.Path.{_≡_}
 use mathlib.Core.Bool.{Bool, not}
 use mathlib.Core.List.{List, [], _∷_, _++_, map, List·Memᴰ as In, List·Permᴰ as Rearranged}
 use Prim.Native.Nat.{ℕ, suc, _≤_}
+use lib.ListN.{take}
 use lib.IntN.{pos}
 use lib.Signed.{_<ℤ_}
 use Rattle.integers.specs.Vectors.{shift3}
@@ -22,7 +23,7 @@ use Rattle.meaning.specs.Sorted.{Sorted, Distinct}
 use Rattle.meaning.specs.Points.{Within}
 use Rattle.meaning.specs.Streams.{elements, touches}
 use Rattle.meaning.specs.Description.{descriptionOf, streamsOf, written}
-use Rattle.meaning.specs.Accept.{refused11, refused12, refused13, refused14, refused15, refused16, nestTests, byteTests, answerOf, accept}
+use Rattle.meaning.specs.Accept.{streamTests, nestTests, byteTests, answerOf, accept}
 use Rattle.meaning.specs.Answers.{acceptNumber}
 
 -- ---- the walk
@@ -42,7 +43,7 @@ abbrev pub processNumber : Nest → V3 → ℕ
 processNumber n x = rowIndex (space n) (placeOf n x)
 
 -- x comes before x' in "that order": process numbers never fall, and within a process steps rise
-pub record Before (n : Nest) (x x' : V3) : Type 0 where
+pub record ComesBefore (n : Nest) (x x' : V3) : Type 0 where
   pub never-fall : processNumber n x ≤ processNumber n x'
   pub rise : processNumber n x ≡ processNumber n x' → stepOf n x <ℤ stepOf n x'
 
@@ -51,7 +52,7 @@ pub record WholeWalk (n : Nest) : Type 0 where
   pub every : (x : V3) → Within n x → In x (walk n)
   pub once : Distinct (walk n)
   pub nothing-else : (x : V3) → In x (walk n) → Within n x
-  pub in-order : Sorted (Before n) (walk n)
+  pub in-order : Sorted (ComesBefore n) (walk n)
   -- "from first to last"
   pub to-last : (y : V2) (k : ℕ) → count n y ≡ suc k → shift3 (first n y) (pos k) (increment n) ≡ last n y
   -- so it is a rearrangement of the instances in the written order
@@ -72,10 +73,9 @@ walkRefusal l s = refusal (walkTests l s)
 abbrev pub untouchedOnWalk : Nest → Stream → Bool
 untouchedOnWalk n s = any (λ e. not (any (λ x. touches s x e) (walk n))) (elements n s)
 
+-- 11 to 16 as they are, and 17 so
 abbrev pub walkingTests : Limits → Nest → Bool → Stream → List Test
-walkingTests l n w s =
-    (11 if refused11 s) ∷ (12 if refused12 n s) ∷ (13 if refused13 n s) ∷ (14 if refused14 l n s) ∷ (15 if refused15 w n s)
-    ∷ (16 if refused16 n s) ∷ (17 if untouchedOnWalk n s) ∷ []
+walkingTests l n w s = take 6 (streamTests l n w s) ++ ((17 if untouchedOnWalk n s) ∷ [])
 
 -- of the streams from number i on
 unfoldable pub walkingFrom : Limits → Description → ℕ → List Stream → List Test

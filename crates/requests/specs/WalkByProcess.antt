@@ -7,6 +7,7 @@ use Prim.Native.Nat.{ℕ, suc, _≤_}
 use native.Mathlib.Decide.{ℕ-discrete}
 use native.Mathlib.Omega.{arith}
 use lib.Dec.{T, leb, leb→le}
+use lib.ListN.{take}
 use Rattle.meaning.specs.declared.Limits.{Limits}
 use Rattle.meaning.specs.declared.Nest.{Nest}
 use Rattle.meaning.specs.declared.Stream.{Stream}
@@ -15,10 +16,10 @@ use Rattle.meaning.specs.Lists.{any, every}
 use Rattle.meaning.specs.Tests.{Test, _if_, refusal}
 use Rattle.meaning.specs.Streams.{elements, touches}
 use Rattle.meaning.specs.Description.{descriptionOf, streamsOf, written}
-use Rattle.meaning.specs.Accept.{refused11, refused12, refused13, refused14, refused15, refused16, refused17, testsFrom, refusalOf, answerOf, accept}
+use Rattle.meaning.specs.Accept.{refused17, streamTests, testsFrom, refusalOf, answerOf, accept}
 use Rattle.meaning.specs.Answers.{acceptNumber}
 use Rattle.meaning.specs.Walk.{walkTests, walkRefusal, untouchedOnWalk, walkingFrom, walkingAccept, WalkByProcess}
-use Rattle.geometry.specs.Tests.{none-applies, one-applies, numbered}
+use Rattle.geometry.specs.Tests.{one-applies}
 use Rattle.geometry.specs.Processes.{Layout}
 use Rattle.geometry.specs.Descriptions.{walk-passes, walk-layout}
 use Rattle.geometry.specs.Walk.{whole-walk, any-on-walk}
@@ -35,12 +36,8 @@ walking-same : (l : Limits) (d : Description) → Layout (d .nest) → (i : ℕ)
 unfolding walkingFrom testsFrom
 walking-same l d layout i [] = refl
 walking-same l d layout i (s ∷ ss) =
-    let n = d .nest in
-    ap₂
-    (λ (b : Bool) (t : List Test).
-    ((11 if refused11 s) ∷ (12 if refused12 n s) ∷ (13 if refused13 n s) ∷ (14 if refused14 l n s) ∷ (15 if refused15 (written d i) n s)
-    ∷ (16 if refused16 n s) ∷ (17 if b) ∷ []) ++ t)
-    (untouched-same layout s) (walking-same l d layout (suc i) ss)
+    ap₂ (λ (b : Bool) (t : List Test). (take 6 (streamTests l (d .nest) (written d i) s) ++ ((17 if b) ∷ [])) ++ t) (untouched-same layout s)
+    (walking-same l d layout (suc i) ss)
 
 -- ---- numbers
 

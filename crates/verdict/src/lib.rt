@@ -45,12 +45,12 @@ fn walk_within(s: &[u8], limits: Limits, ends: &mut [u32; 3072], walk: &mut [i32
         × (r ≡ 0 → (Ends (descriptionOf (now (s .entry)) .nest) (now (ends .exit))) × (Along (descriptionOf (now (s .entry)) .nest) (now (walk .exit))))
         × ((r ≡ 0 → ⊥) → (now (ends .exit) ≡ now (ends .entry)) × (now (walk .exit) ≡ now (walk .entry))) ⌝ }
 {
-    let r = walk_refusal(s, limits);
-    if r == 0 {
+    let refusal = walk_refusal(s, limits);
+    if refusal == 0 {
         let n = decode::description(s).nest;
         fill_nest(n, ends, walk);
     }
-    r
+    refusal
 }
 
 // The number by which 1 to 10 refuse a description, and then no word changes, or 0, and then the words of its processes and of its walk are filled.

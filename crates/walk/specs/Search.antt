@@ -131,6 +131,10 @@ pub record BoxSized (n : Nest) (s : Stream) (k : Box) (many size : ℕ) : Type 0
   pub counted : many ≡ length (instances n)
   pub sized : size ≡ length (points k)
 
+pub box-sized : {n : Nest} (s : Stream) {k : Box} {many size : ℕ} → k ≡ boxOf n (s .map) → many ≡ length (instances n) → size ≡ length (points k)
+    → BoxSized n s k many size
+box-sized s b c z = record { box = b; counted = c; sized = z }
+
 module _ {n : Nest} {s : Stream} {k : Box} {many size : ℕ} (z : BoxSized n s k many size) where
   pub size-is : size ≡ length (elements n s)
   size-is = z .sized ∙ ap (λ (b : Box). length (points b)) (z .box)

@@ -3,7 +3,7 @@ use mathlib.Core.Bool.{false}
 use Prim.Native.Nat.{_≤_}
 use native.Mathlib.Omega.{arith}
 use lib.ListN.{getD-replicate}
-use Rattle.walk.specs.Search.{BoxSized, size-is, searching-by, refusal-by, too-many}
+use Rattle.walk.specs.Search.{box-sized, size-is, searching-by, refusal-by, too-many}
 use borrow.Author.Needs.{needs}
 use Rattle.streams.proofs.elements_refused.Statement.{statement}
 use Rattle.streams.proofs.elements_refused.Tie as tie
@@ -26,12 +26,8 @@ cast-instances c = search needs
 returns : tie.Need-returns
 returns c =
     let s = c .before .before .before .before .before in
-    let z : BoxSized (s .args .n) (s .args .s) _ _ _ =
-    record {
-      box = c .before .before .before .extent-of .ensures .0;
-      counted = c .before .instance-count .ensures .0;
-      sized = c .before .before .size-of .ensures .0;
-    } in
+    let e = c .before .before .before .extent-of .ensures .0 in
+    let z = box-sized (s .args .s) e (c .before .instance-count .ensures .0) (c .before .before .size-of .ensures .0) in
     too-many (s .args .s) (s .pre .0 .nest .directed) (omega (arith, size-is z, z .counted, c .if1 .taken))
 
 slice-aggregate-untouched : tie.Need-slice-aggregate-untouched
@@ -40,25 +36,17 @@ slice-aggregate-untouched c = search needs
 untouched-requires : tie.Need-untouched-requires
 untouched-requires c κs =
     let s = c .before .before .before .before .before .before in
-    let z : BoxSized (s .args .n) (s .args .s) _ _ _ =
-    record {
-      box = c .before .before .before .before .extent-of .ensures .0;
-      counted = c .before .before .instance-count .ensures .0;
-      sized = c .before .before .before .size-of .ensures .0;
-    } in
+    let e = c .before .before .before .before .extent-of .ensures .0 in
+    let z = box-sized (s .args .s) e (c .before .before .instance-count .ensures .0) (c .before .before .before .size-of .ensures .0) in
     let b : c .before .before .before .size-of .result ≤ 4096 = omega (arith, z .counted, s .pre .1 .few, c .before .if1 .left) in
     searching-by z (s .pre .0 .nest) (s .pre .1) (s .pre .0 .map) b (λ e h. getD-replicate 4096 e false false (omega (arith, b, h)))
 
 returns-2 : tie.Need-returns-2
 returns-2 c =
     let s = c .before .before .before .before .before .before .before .before in
-    refusal-by {s = s .args .s}
-    (record {
-      box = c .before .before .before .before .before .before .extent-of .ensures .0;
-      counted = c .before .before .before .before .instance-count .ensures .0;
-      sized = c .before .before .before .before .before .size-of .ensures .0;
-    })
-    (s .pre .0 .nest) (s .pre .1) (c .before .untouched .ensures)
+    let k = c .before .before .before .before in
+    let z = box-sized (s .args .s) (k .before .before .extent-of .ensures .0) (k .instance-count .ensures .0) (k .before .size-of .ensures .0) in
+    refusal-by z (s .pre .0 .nest) (s .pre .1) (c .before .untouched .ensures)
 
 pub elements-refused-spec : {M : Type 1} → statement M
 elements-refused-spec =
