@@ -21,8 +21,8 @@ use Rattle.meaning.specs.declared.Stream.{Stream}
 use Rattle.meaning.specs.Lists.{every, numbersFrom}
 use Rattle.meaning.specs.Streams.{line}
 use Rattle.meaning.specs.Description.{sizesOf, directionAt, stepAt, wordsOf, inRange, nestOf, noStream, descriptionOf, streamsOf, written, refused2, refused4, refused5}
-use Rattle.meaning.specs.Accept.{against, streamTests, testsFrom, nestTests, byteTests, refusalOf}
-use Rattle.meaning.specs.Tests.{Test, refusal}
+use Rattle.meaning.specs.Accept.{refused33, against, streamTests, testsFrom, nestTests, byteTests, refusalOf}
+use Rattle.meaning.specs.Tests.{Test, _if_, refusal}
 use Rattle.meaning.specs.Walk.{walkTests, walkRefusal}
 use Rattle.meaning.specs.Points.{Direction, Direction.onward, Direction.back, Directed, Within, Earlier}
 use Rattle.geometry.specs.Members.{in-numbers}
@@ -184,8 +184,8 @@ walk-passes l s e = both-pass (walkTests l s) (testsFrom l (descriptionOf s) 0 (
 pub walk-layout : (l : Limits) (s : List ℕ) → walkRefusal l s ≡ 0 → Layout (descriptionOf s .nest)
 unfolding walkRefusal descriptionOf every
 walk-layout l s e =
-    layout-of (directed s (sizesOf s) (of (there (here refl))) (of (there (there (there (here refl))))))
-    (of (there (there (there (there (there (there (here refl)))))))) (of (there (there (there (there (there (there (there (here refl)))))))))
+    layout-of (directed s (sizesOf s) (of (there (there (here refl)))) (of (there (there (there (there (here refl)))))))
+    (of (there (there (there (there (there (there (there (here refl))))))))) (of (there (there (there (there (there (there (there (there (here refl))))))))))
   where
     of : {t : Test} → In t (walkTests l s) → T (not (t .applies))
     of i = unrefused (walkTests l s) tt e i
@@ -221,21 +221,24 @@ laid l s e =
     n : Nest
     n = d .nest
 
+    before : List Test
+    before = (33 if refused33 l) ∷ byteTests s
+
     all : List Test
-    all = byteTests s ++ (nestTests l n ++ testsFrom l d 0 (streamsOf d))
+    all = before ++ (nestTests l n ++ testsFrom l d 0 (streamsOf d))
 
     all-numbered : T (every numbered all)
     all-numbered =
-        every-append (byteTests s) (nestTests l n ++ testsFrom l d 0 (streamsOf d)) tt
+        every-append before (nestTests l n ++ testsFrom l d 0 (streamsOf d)) tt
         (every-append (nestTests l n) (testsFrom l d 0 (streamsOf d)) tt (streams-numbered l d 0 (streamsOf d)))
 
     of-nest : {t : Test} → In t (nestTests l n) → T (not (t .applies))
-    of-nest i = unrefused all all-numbered e (Memᴰ·append-right (byteTests s) (Memᴰ·append-left (testsFrom l d 0 (streamsOf d)) i))
+    of-nest i = unrefused all all-numbered e (Memᴰ·append-right before (Memᴰ·append-left (testsFrom l d 0 (streamsOf d)) i))
 
     of-stream : (i : ℕ) → i < length (streamsOf d) → {t : Test}
         → In t (streamTests l n (written d i) (getD (streamsOf d) i noStream)) → T (not (t .applies))
     of-stream i k {t} j =
-        unrefused all all-numbered e (Memᴰ·append-right (byteTests s) (Memᴰ·append-right (nestTests l n)
+        unrefused all all-numbered e (Memᴰ·append-right before (Memᴰ·append-right (nestTests l n)
         (in-tests l d 0 (streamsOf d) i k (subst (λ (c : ℕ). In t (streamTests l n (written d c) (getD (streamsOf d) i noStream))) (sym (zero-add i)) j))))
 
     flat : Layout n

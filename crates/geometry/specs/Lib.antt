@@ -22,6 +22,7 @@ pub mod Clock
 pub mod Order
 pub mod Accept
 pub mod Descriptions
+pub mod UpTo
 pub mod TwoLoops
 pub mod Divisors
 pub mod Firings

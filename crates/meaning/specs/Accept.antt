@@ -1,5 +1,5 @@
--- Document 01, Accept: the refusals 6 to 17, each by its number, all in order, and the figures and divisors that it answers. 9 is never given (request 2.2) and keeps its
--- number.
+-- Document 01, Accept: the refusals 6 to 17, each by its number, and 33 of request 2.9, all in order, and the figures and divisors that it answers. 9 is never given
+-- (request 2.2) and keeps its number.
 use mathlib.Core.Path.{_≡_}
 use mathlib.Core.Bool.{Bool, not, cond, _&&_}
 use mathlib.Core.List.{List, [], _∷_, _++_, map}
@@ -30,6 +30,12 @@ use Rattle.meaning.specs.Description.{sizesOf, descriptionOf, streamsOf,
 use Rattle.meaning.specs.Body.{elementCount}
 use Rattle.meaning.specs.Answers.{acceptNumber}
 
+-- ---- 33: the board
+
+-- 33: "another board word"
+abbrev pub refused33 : Limits → Bool
+refused33 l = ltb 1 (l .board)
+
 -- ---- 6, 7, 8 and 10: the nest
 
 -- a vector is zero
@@ -44,7 +50,7 @@ lowRank m = isZero3 (unshortened m)
 abbrev pub small : ℤ → Bool
 small c = leZ (negsuc 0) c && leZ c (pos 1)
 
--- 6: "over 4,096 instances"
+-- 6: "over 4,096 instances", or the limit of the bench: "6 and 10 use that board's pair"
 abbrev pub refused6 : Limits → Nest → Bool
 refused6 l n = ltb (l .instances) (length (instances n))
 
@@ -56,7 +62,7 @@ refused7 n = lowRank (n .place)
 abbrev pub refused8 : Nest → Bool
 refused8 n = eqZ (stepOf n (increment n)) (pos 0)
 
--- 10: "over 1,024 processes"
+-- 10: "over 1,024 processes", or that of the bench
 abbrev pub refused10 : Limits → Nest → Bool
 refused10 l n = ltb (l .processes) (length (processes n))
 
@@ -117,9 +123,10 @@ abbrev pub byteTests : List ℕ → List Test
 byteTests s =
     (1 if refused1 s) ∷ (2 if refused2 (sizesOf s)) ∷ (3 if refused3 s (sizesOf s)) ∷ (4 if refused4 s (sizesOf s)) ∷ []
 
+-- "33 for another board word, before 1"
 abbrev pub allTests : Limits → List ℕ → List Test
 allTests l s =
-    let d = descriptionOf s in byteTests s ++ (nestTests l (d .nest) ++ testsFrom l d 0 (streamsOf d))
+    let d = descriptionOf s in (33 if refused33 l) ∷ (byteTests s ++ (nestTests l (d .nest) ++ testsFrom l d 0 (streamsOf d)))
 
 -- the refusal of a description, 0 if it is accepted
 unfoldable pub refusalOf : Limits → List ℕ → ℕ

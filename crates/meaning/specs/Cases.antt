@@ -129,9 +129,9 @@ cases =
     ∷ (number (acceptNumber (accept gaugeLimits (crossing 5))) is number 14)
     ∷ (number (acceptNumber (accept gaugeLimits (crossing 8))) is number 14)
     -- step 7i+j gives hop 8: accepted before request 2.8, and now 14; 8i+j was 14 then too
-    ∷ (number (acceptNumber (accept formerLimits (crossing 7))) is number 0)
+    ∷ (number (acceptNumber (accept (formerLimits 0) (crossing 7))) is number 0)
     ∷ (number (acceptNumber (accept gaugeLimits (crossing 7))) is number 14)
-    ∷ (number (acceptNumber (accept formerLimits (crossing 8))) is number 14)
+    ∷ (number (acceptNumber (accept (formerLimits 0) (crossing 8))) is number 14)
     -- so a state has at most 99,328 words
     ∷ (number stateWordsMost is number 99328)
     -- design one with bounds 0..0 takes 13 steps

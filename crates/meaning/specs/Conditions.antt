@@ -28,6 +28,12 @@ use Rattle.meaning.specs.Operations.{lastOperation}
 use Rattle.meaning.specs.Description.{sizesOf, matrixWords, leftAt, rightAt, directionAt, stepAt, placeAt, mapAt, loadingAt, lineAt, descriptionOf, noStream, streamsOf, linesOf}
 use Rattle.meaning.specs.Accept.{accept, figures, divisors}
 
+-- ---- 33: the board
+
+-- "0 gauge or 1 bench"
+abbrev pub Known : Limits → Type 0
+Known l = l .board ≤ 1
+
 -- ---- 1 to 4: the words
 
 -- "loops r (2 or 3), streams m (1 to 6), body lines b (1 to 8)"
@@ -156,6 +162,7 @@ pub record StreamMeets (l : Limits) (d : Description) (i : ℕ) : Type 0 where
   pub touched : AllTouched (d .nest) (streamOf d i)
 
 pub record Meets (l : Limits) (s : List ℕ) : Type 0 where
+  pub board : Known l
   pub begins : 12 ≤ length s
   pub sizes : SizesFit (sizesOf s)
   pub long : length s ≡ 4 * wordTotal (sizesOf s)
@@ -175,11 +182,12 @@ AcceptedExactly = (l : Limits) (s : List ℕ) → (accept l s ≡ Accepted (figu
 
 -- the conditions one by one; those of a stream with its number
 pub data Condition : Type 0 where
-  Begins Sizes-fit Long Words-fit Bounds-fit Instances Place-rank Increment Processes : Condition
+  Board Begins Sizes-fit Long Words-fit Bounds-fit Instances Place-rank Increment Processes : Condition
   Rank Line Move Hop Order Loading Touched : ℕ → Condition
 
 -- what each asks
 abbrev pub Asks : Limits → List ℕ → Condition → Type 0
+Asks l s Board = Known l
 Asks l s Begins = 12 ≤ length s
 Asks l s Sizes-fit = SizesFit (sizesOf s)
 Asks l s Long = length s ≡ 4 * wordTotal (sizesOf s)
@@ -197,8 +205,9 @@ Asks l s (Order i) = Written (descriptionOf s) i → KeepsOrder (descriptionOf s
 Asks l s (Loading i) = LoadingFits (descriptionOf s .nest) (streamOf (descriptionOf s) i)
 Asks l s (Touched i) = AllTouched (descriptionOf s .nest) (streamOf (descriptionOf s) i)
 
--- document 01's number for each; 9 has none any more (request 2.2)
+-- document 01's number for each, request 2.9's for the board; 9 has none any more (request 2.2)
 abbrev pub numberOf : Condition → ℕ
+numberOf Board = 33
 numberOf Begins = 1
 numberOf Sizes-fit = 2
 numberOf Long = 3
@@ -216,13 +225,13 @@ numberOf (Order i) = 15
 numberOf (Loading i) = 16
 numberOf (Touched i) = 17
 
--- the order in which they are listed: "then by stream, lowest first, and for each in this order"
+-- the order in which they are listed: "33 … before 1"; "then by stream, lowest first, and for each in this order"
 abbrev pub ofStream : ℕ → List Condition
 ofStream i = Rank i ∷ Line i ∷ Move i ∷ Hop i ∷ Order i ∷ Loading i ∷ Touched i ∷ []
 
 abbrev pub conditions : ℕ → List Condition
 conditions streams =
-    Begins ∷ Sizes-fit ∷ Long ∷ Words-fit ∷ Bounds-fit ∷ Instances ∷ Place-rank ∷ Increment ∷ Processes ∷ each ofStream (numbers streams)
+    Board ∷ Begins ∷ Sizes-fit ∷ Long ∷ Words-fit ∷ Bounds-fit ∷ Instances ∷ Place-rank ∷ Increment ∷ Processes ∷ each ofStream (numbers streams)
 
 -- of conditions in order, one of number k fails, and those before it hold
 pub record First (Holds : Condition → Type 0) (listed : List Condition) (k : ℕ) : Type 0 where

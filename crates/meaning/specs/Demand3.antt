@@ -17,6 +17,7 @@ use Rattle.meaning.specs.Array.{arrayOf, pipeNumber, pipeAt, elementsOn,
 use Rattle.meaning.specs.State.{words}
 use Rattle.meaning.specs.Rules.{Step, Receive, Send, Take, Fire, Give, Memory, ready, anyReady, Found, at, nothing, runSteps, totalOf}
 use Rattle.meaning.specs.Answers.{answerNumber, ranNumber, readyNumber}
+use Rattle.meaning.specs.Alike.{Serves}
 use Rattle.meaning.specs.Calls.{start, step, run, readyCall, window, result, stepOf, lengthOf, stateLength}
 
 -- ---- lists of calls
@@ -51,14 +52,20 @@ module _ (l : Limits) (s : List ℕ) where
   grants M (CallWindow pipe side) = []
   grants M (CallResult output) = []
 
-  -- after a list of calls: the memory, and all granted steps
-  unfoldable pub memoryAfter : Memory → List Call → Memory
-  memoryAfter M [] = M
-  memoryAfter M (c ∷ cs) = memoryAfter (leaves M c) cs
+-- a call, and the limits of the board that it is told, "not always the same" (request 2.9)
+pub record Told : Type 0 where
+  pub limits : Limits
+  pub call : Call
 
-  unfoldable pub grantedBy : Memory → List Call → List Step
+module _ (s : List ℕ) where
+  -- after a list of calls: the memory, and all granted steps
+  unfoldable pub memoryAfter : Memory → List Told → Memory
+  memoryAfter M [] = M
+  memoryAfter M (c ∷ cs) = memoryAfter (leaves (c .limits) s M (c .call)) cs
+
+  unfoldable pub grantedBy : Memory → List Told → List Step
   grantedBy M [] = []
-  grantedBy M (c ∷ cs) = grants M c ++ grantedBy (leaves M c) cs
+  grantedBy M (c ∷ cs) = grants (c .limits) s M (c .call) ++ grantedBy (leaves (c .limits) s M (c .call)) cs
 
 -- the granted receives on pipe q
 abbrev pub isReceive : ℕ → Step → Bool
@@ -128,27 +135,29 @@ pub record NotByMemory (k : ℕ) : Type 0 where
   pub not21 : k ≡ 21 → ⊥
   pub not22 : k ≡ 22 → ⊥
 
--- after a start that left M₁, and the calls cs
-pub record AfterCalls (l : Limits) (s : List ℕ) (values : List ℕ) (M₁ : Memory) (cs : List Call) : Type 0 where
-  pub holds : Holds (descriptionOf s) values (memoryAfter l s M₁ cs) (grantedBy l s M₁ cs)
+-- after a start under the limits l that left M₁, and the calls cs
+pub record AfterCalls (l : Limits) (s : List ℕ) (values : List ℕ) (M₁ : Memory) (cs : List Told) : Type 0 where
+  pub holds : Holds (descriptionOf s) values (memoryAfter s M₁ cs) (grantedBy s M₁ cs)
   -- no call that may come next is declined by its memory
-  pub next : (c : Call) → NotByMemory (declinedBy l s (memoryAfter l s M₁ cs) c)
+  pub next : (c : Told) → NotByMemory (declinedBy (c .limits) s (memoryAfter s M₁ cs) (c .call))
   -- Result answers 25 exactly while some value is not out, and afterwards the final values
-  pub early : allReceived (descriptionOf s) (grantedBy l s M₁ cs) ≡ false → (output : List ℕ)
-      → result l s output (memoryAfter l s M₁ cs) ≡ record { answer = Refused 25; output = output }
-  pub only-early : (output : List ℕ) → answerNumber (result l s output (memoryAfter l s M₁ cs) .answer) ≡ 25
-      → allReceived (descriptionOf s) (grantedBy l s M₁ cs) ≡ false
-  pub late : allReceived (descriptionOf s) (grantedBy l s M₁ cs) ≡ true → (output : List ℕ) → length output ≡ lengthOf (descriptionOf s)
-      → result l s output (memoryAfter l s M₁ cs) ≡ record { answer = Done; output = finalValues (descriptionOf s) values }
+  pub early : allReceived (descriptionOf s) (grantedBy s M₁ cs) ≡ false → (output : List ℕ)
+      → result l s output (memoryAfter s M₁ cs) ≡ record { answer = Refused 25; output = output }
+  pub only-early : (output : List ℕ) → answerNumber (result l s output (memoryAfter s M₁ cs) .answer) ≡ 25
+      → allReceived (descriptionOf s) (grantedBy s M₁ cs) ≡ false
+  pub late : allReceived (descriptionOf s) (grantedBy s M₁ cs) ≡ true → (output : List ℕ) → length output ≡ lengthOf (descriptionOf s)
+      → result l s output (memoryAfter s M₁ cs) ≡ record { answer = Done; output = finalValues (descriptionOf s) values }
   -- "the finish is one state and one received list whatever the order"
-  pub finished : allReceived (descriptionOf s) (grantedBy l s M₁ cs) ≡ true
-      → SameMemory (descriptionOf s) (memoryAfter l s M₁ cs) (finish (descriptionOf s) values)
+  pub finished : allReceived (descriptionOf s) (grantedBy s M₁ cs) ≡ true
+      → SameMemory (descriptionOf s) (memoryAfter s M₁ cs) (finish (descriptionOf s) values)
   -- what stands past the words that Accept counts is as it was lent
-  pub beyond : drop (stateLength (descriptionOf s)) (memoryAfter l s M₁ cs .state) ≡ drop (stateLength (descriptionOf s)) (M₁ .state)
+  pub beyond : drop (stateLength (descriptionOf s)) (memoryAfter s M₁ cs .state) ≡ drop (stateLength (descriptionOf s)) (M₁ .state)
 
--- DEMAND 3: for every start that is not declined, and every list of calls after it
-abbrev pub Demand3 : Limits → List ℕ → List ℕ → Memory → Type 0
-Demand3 l s values M₀ = (cs : List Call) → AfterCalls l s values (start l s values M₀ .memory) cs
+-- DEMAND 3: for every start that is not declined, and every list of calls after it, each told any limits; such a call "is declined and changes nothing, or does
+-- what the first board would"
+pub record Demand3 (l : Limits) (s values : List ℕ) (M₀ : Memory) : Type 0 where
+  pub after : (cs : List Told) → AfterCalls l s values (start l s values M₀ .memory) cs
+  pub told : (k : Limits) → Serves l k s
 
 -- for every description, every start that is not declined, whatever was lent (`guarantee` of guarantee)
 abbrev pub Guarantee : Type 0

@@ -18,9 +18,9 @@ use Rattle.meaning.specs.Lists.{any, each, numbers}
 use Rattle.meaning.specs.Tests.{Test, _if_, refusal}
 use Rattle.meaning.specs.Points.{Between}
 use Rattle.meaning.specs.Description.{sizesOf, lineAt, descriptionOf, streamsOf, linesOf}
-use Rattle.meaning.specs.Accept.{byteTests, nestTests, testsFrom, answerOf, accept}
+use Rattle.meaning.specs.Accept.{refused33, byteTests, nestTests, testsFrom, answerOf, accept}
 use Rattle.meaning.specs.Leaves.{RunsLoops}
-use Rattle.meaning.specs.Conditions.{Condition, Condition.Begins, Condition.Sizes-fit, Condition.Long, Condition.Words-fit, Condition.Bounds-fit, Condition.Instances, Condition.Place-rank, Condition.Increment, Condition.Processes, WordsFit, Asks, ofStream, AnsweredBy}
+use Rattle.meaning.specs.Conditions.{Condition, Condition.Board, Condition.Begins, Condition.Sizes-fit, Condition.Long, Condition.Words-fit, Condition.Bounds-fit, Condition.Instances, Condition.Place-rank, Condition.Increment, Condition.Processes, WordsFit, Asks, ofStream, AnsweredBy}
 
 -- ---- Accept before the request
 
@@ -31,13 +31,16 @@ HasSix d = (t : Line) × In t (linesOf d) × (t .operation ≡ 6)
 abbrev pub hasSix : Description → Bool
 hasSix d = any (λ t. eqb (t .operation) 6) (linesOf d)
 
--- what came and comes after 4
+-- what comes before 4, and 4 as it is now; what came and comes after it
+abbrev pub testsBefore : Limits → List ℕ → List Test
+testsBefore l s = (33 if refused33 l) ∷ byteTests s
+
 abbrev pub testsAfter : Limits → List ℕ → List Test
 testsAfter l s = let d = descriptionOf s in nestTests l (d .nest) ++ testsFrom l d 0 (streamsOf d)
 
 -- 4, as it was, with "operations 0 to 5", was given to an operation word of 6 too (`former-four` below)
 abbrev pub formerTests : Limits → List ℕ → List Test
-formerTests l s = byteTests s ++ ((4 if hasSix (descriptionOf s)) ∷ testsAfter l s)
+formerTests l s = testsBefore l s ++ ((4 if hasSix (descriptionOf s)) ∷ testsAfter l s)
 
 abbrev pub formerAccept : Limits → List ℕ → Acceptance
 formerAccept l s = answerOf s (refusal (formerTests l s))
@@ -46,7 +49,7 @@ formerAccept l s = answerOf s (refusal (formerTests l s))
 
 -- the conditions of the numbers up to 4, and of those after it
 abbrev pub conditionsBefore : List Condition
-conditionsBefore = Begins ∷ Sizes-fit ∷ Long ∷ Words-fit ∷ []
+conditionsBefore = Board ∷ Begins ∷ Sizes-fit ∷ Long ∷ Words-fit ∷ []
 
 abbrev pub conditionsAfter : ℕ → List Condition
 conditionsAfter streams = Bounds-fit ∷ Instances ∷ Place-rank ∷ Increment ∷ Processes ∷ each ofStream (numbers streams)

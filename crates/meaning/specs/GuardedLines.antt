@@ -9,14 +9,12 @@ use Rattle.integers.specs.Bytes.{bitsAt, wordAt}
 use Rattle.integers.specs.declared.V3.{V3}
 use Rattle.meaning.specs.declared.Limits.{Limits}
 use Rattle.meaning.specs.declared.Line.{Line}
-use Rattle.meaning.specs.declared.Row.{Row}
 use Rattle.meaning.specs.declared.Acceptance.the-variants.{Refused}
 use Rattle.meaning.specs.Description.{sizesOf, lineAt, noLine, descriptionOf, linesOf}
 use Rattle.meaning.specs.Accept.{accept, Accepts}
-use Rattle.meaning.specs.Rules.{Memory}
-use Rattle.meaning.specs.Answers.{answerNumber, ranNumber, readyNumber}
-use Rattle.meaning.specs.Calls.{table, start, step, run, readyCall, window, result, plainRun}
-use Rattle.meaning.specs.Conditions.{SizesFit, formerTotal, GuardFits, Condition, Condition.Begins, Condition.Sizes-fit, Condition.Long, Asks}
+use Rattle.meaning.specs.Calls.{run}
+use Rattle.meaning.specs.Conditions.{Known, SizesFit, formerTotal, GuardFits, Condition, Condition.Board, Condition.Begins, Condition.Sizes-fit, Condition.Long, Asks}
+use Rattle.meaning.specs.Alike.{DeclinedBy}
 use Rattle.meaning.specs.Leaves.{Runs, RunsLoops}
 
 -- ---- lines and guards
@@ -40,21 +38,9 @@ pub record OtherGuards (s t : List ℕ) : Type 0 where
 
 -- ---- refusals
 
--- every call is declined by k
-pub record DeclinedBy (l : Limits) (s : List ℕ) (k : ℕ) : Type 0 where
-  pub accept : accept l s ≡ Refused k
-  pub table : (rows : List Row) → answerNumber (table l s rows .answer) ≡ k
-  pub start : (values : List ℕ) (M : Memory) → answerNumber (start l s values M .answer) ≡ k
-  pub step : (kind number stream : ℕ) (M : Memory) → answerNumber (step l s kind number stream M .answer) ≡ k
-  pub run : (n : ℕ) (M : Memory) → ranNumber (run l s n M .answer) ≡ k
-  pub ready : (words : List ℕ) (M : Memory) → readyNumber (readyCall l s words M .answer) ≡ k
-  pub window : (pipe side : ℕ) (waiting received : List ℕ) → window l s pipe side waiting received .refusal ≡ k
-  pub result : (output : List ℕ) (M : Memory) → answerNumber (result l s output M .answer) ≡ k
-  pub plain : (values output : List ℕ) → answerNumber (plainRun l s values output .answer) ≡ k
-
--- the conditions of 1 to 3
+-- the conditions of 33 and of 1 to 3
 abbrev pub conditionsBefore : List Condition
-conditionsBefore = Begins ∷ Sizes-fit ∷ Long ∷ []
+conditionsBefore = Board ∷ Begins ∷ Sizes-fit ∷ Long ∷ []
 
 -- ---- REQUEST 2.5, for every description and all limits
 
@@ -62,7 +48,7 @@ pub record Guarded (l : Limits) (s : List ℕ) : Type 0 where
   -- "each line gains three words after its four"
   pub words : Accepts l s → (i : ℕ) → i < sizesOf s .lines → HasWords s i (getD (linesOf (descriptionOf s)) i noLine)
   -- "descriptions of the older length are declined by 3", of all sizes
-  pub older-length : SizesFit (sizesOf s) → length s ≡ 4 * formerTotal (sizesOf s) → DeclinedBy l s 3
+  pub older-length : Known l → SizesFit (sizesOf s) → length s ≡ 4 * formerTotal (sizesOf s) → DeclinedBy l s 3
   -- "refusal 4 covers the new words"
   pub covered : ((c : Condition) → In c conditionsBefore → Asks l s c) → (i : ℕ) → i < sizesOf s .lines → (GuardFits s (sizesOf s) i → ⊥)
       → accept l s ≡ Refused 4

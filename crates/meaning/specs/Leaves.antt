@@ -20,7 +20,7 @@ use Rattle.meaning.specs.Body.{touchedBy, gather, scatter}
 use Rattle.meaning.specs.Accept.{Accepts}
 use Rattle.meaning.specs.Rules.{Memory}
 use Rattle.meaning.specs.Calls.{lengthOf, start, result, plainRun}
-use Rattle.meaning.specs.Demand3.{Call, memoryAfter, grantedBy, allReceived}
+use Rattle.meaning.specs.Demand3.{Told, memoryAfter, grantedBy, allReceived}
 
 -- ---- what a line puts into its target
 
@@ -94,7 +94,7 @@ pub record RunsLoops (l : Limits) (s : List ℕ) : Type 0 where
       → length output ≡ lengthOf (descriptionOf s) → (left : List ℕ)
       → LoopsLeave (descriptionOf s) (instances (descriptionOf s .nest)) values left ↔ (plainRun l s values output ≡ record { answer = Done; output = left })
   -- THE NETWORK: after a start and any calls, when all values are out, Result answers and writes what Plain run does
-  pub network : (values : List ℕ) (M : Memory) → start l s values M .answer ≡ Done → (cs : List Call)
-      → allReceived (descriptionOf s) (grantedBy l s (start l s values M .memory) cs) ≡ true → (output : List ℕ)
+  pub network : (values : List ℕ) (M : Memory) → start l s values M .answer ≡ Done → (cs : List Told)
+      → allReceived (descriptionOf s) (grantedBy s (start l s values M .memory) cs) ≡ true → (output : List ℕ)
       → length output ≡ lengthOf (descriptionOf s)
-      → result l s output (memoryAfter l s (start l s values M .memory) cs) ≡ plainRun l s values output
+      → result l s output (memoryAfter s (start l s values M .memory) cs) ≡ plainRun l s values output

@@ -21,6 +21,7 @@ pub mod Rules
 pub mod Answers
 pub mod Calls
 pub mod Demand1
+pub mod Alike
 pub mod Demand2
 pub mod Demand3
 pub mod FivePlaces
@@ -30,6 +31,7 @@ pub mod FixedPoint
 pub mod GuardedLines
 pub mod CommonDivisors
 pub mod Walk
+pub mod BenchBoard
 pub mod Designs
 pub mod Comparison
 pub mod Singles

@@ -21,9 +21,9 @@ use Rattle.meaning.specs.Loops.{placeOf, increment}
 use Rattle.meaning.specs.Space.{processes}
 use Rattle.meaning.specs.Points.{Within, At, IsLine}
 use Rattle.meaning.specs.Description.{sizesOf, descriptionOf, streamsOf, refused5}
-use Rattle.meaning.specs.Accept.{small, refused6, refused7, refused8, refused10, byteTests, testsFrom, answerOf, accept, Accepts}
+use Rattle.meaning.specs.Accept.{small, refused33, refused6, refused7, refused8, refused10, byteTests, testsFrom, answerOf, accept, Accepts}
 use Rattle.meaning.specs.Calls.{table}
-use Rattle.meaning.specs.Conditions.{Small, Condition, Condition.Begins, Condition.Sizes-fit, Condition.Long, Condition.Words-fit, Condition.Bounds-fit, Condition.Instances, Condition.Place-rank, Condition.Increment, Condition.Processes, Asks, ofStream, AnsweredBy}
+use Rattle.meaning.specs.Conditions.{Small, Condition, Condition.Board, Condition.Begins, Condition.Sizes-fit, Condition.Long, Condition.Words-fit, Condition.Bounds-fit, Condition.Instances, Condition.Place-rank, Condition.Increment, Condition.Processes, Asks, ofStream, AnsweredBy}
 use Rattle.meaning.specs.Demand2.{rowAt}
 
 -- ---- Accept before the request
@@ -36,7 +36,7 @@ formerNine n = not (small (increment n .x) && small (increment n .y) && small (i
 abbrev pub testsBefore : Limits → List ℕ → List Test
 testsBefore l s =
     let n = descriptionOf s .nest in
-    byteTests s ++ ((5 if refused5 n) ∷ (6 if refused6 l n) ∷ (7 if refused7 n) ∷ (8 if refused8 n) ∷ [])
+    (33 if refused33 l) ∷ byteTests s ++ ((5 if refused5 n) ∷ (6 if refused6 l n) ∷ (7 if refused7 n) ∷ (8 if refused8 n) ∷ [])
 
 abbrev pub testsAfter : Limits → List ℕ → List Test
 testsAfter l s = let d = descriptionOf s in (10 if refused10 l (d .nest)) ∷ testsFrom l d 0 (streamsOf d)
@@ -57,7 +57,7 @@ pub record LongStride (n : Nest) : Type 0 where
 
 -- the conditions of the numbers before 9, and of those after it
 abbrev pub conditionsBefore : List Condition
-conditionsBefore = Begins ∷ Sizes-fit ∷ Long ∷ Words-fit ∷ Bounds-fit ∷ Instances ∷ Place-rank ∷ Increment ∷ []
+conditionsBefore = Board ∷ Begins ∷ Sizes-fit ∷ Long ∷ Words-fit ∷ Bounds-fit ∷ Instances ∷ Place-rank ∷ Increment ∷ []
 
 abbrev pub conditionsAfter : ℕ → List Condition
 conditionsAfter streams = Processes ∷ each ofStream (numbers streams)

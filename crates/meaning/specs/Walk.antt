@@ -23,7 +23,7 @@ use Rattle.meaning.specs.Sorted.{Sorted, Distinct}
 use Rattle.meaning.specs.Points.{Within}
 use Rattle.meaning.specs.Streams.{elements, touches}
 use Rattle.meaning.specs.Description.{descriptionOf, streamsOf, written}
-use Rattle.meaning.specs.Accept.{streamTests, nestTests, byteTests, answerOf, accept}
+use Rattle.meaning.specs.Accept.{refused33, streamTests, nestTests, byteTests, answerOf, accept}
 use Rattle.meaning.specs.Answers.{acceptNumber}
 
 -- ---- the walk
@@ -60,9 +60,9 @@ pub record WholeWalk (n : Nest) : Type 0 where
 
 -- ---- the descriptions that have a walk
 
--- the number of the first of the refusals 1 to 10 that applies, those before any stream is looked at; 0 if none does, and then there is a walk
+-- the number of the first of the refusals 33 and 1 to 10 that applies, those before any stream is looked at; 0 if none does, and then there is a walk
 abbrev pub walkTests : Limits → List ℕ → List Test
-walkTests l s = byteTests s ++ nestTests l (descriptionOf s .nest)
+walkTests l s = (33 if refused33 l) ∷ byteTests s ++ nestTests l (descriptionOf s .nest)
 
 unfoldable pub walkRefusal : Limits → List ℕ → ℕ
 walkRefusal l s = refusal (walkTests l s)
@@ -92,7 +92,7 @@ pub record WalkByProcess (l : Limits) (s : List ℕ) : Type 0 where
   -- what Accept accepts, or refuses by 11 to 17, has a walk, and the check goes along it
   pub whole : walkRefusal l s ≡ 0 → WholeWalk (descriptionOf s .nest)
   pub accepted : acceptNumber (accept l s) ≡ 0 → walkRefusal l s ≡ 0
-  pub by-stream : 11 ≤ acceptNumber (accept l s) → walkRefusal l s ≡ 0
+  pub by-stream : 11 ≤ acceptNumber (accept l s) → acceptNumber (accept l s) ≤ 17 → walkRefusal l s ≡ 0
   -- all else has Accept's number
   pub refused : (walkRefusal l s ≡ 0 → ⊥) → walkRefusal l s ≡ acceptNumber (accept l s)
   -- "Accept answers every description as before": with the check along the walk as with any

@@ -1,6 +1,6 @@
 // The types of the calls. What they mean is in specs/, one definition for each word of document 01, in its order, as the requests of document 02 leave it:
 //
-//   Limits            those of refusals 6, 10 and 14, the former ones, and how many words they allow a state
+//   Limits            the boards: their limits of refusals 6, 10 and 14, the former ones, and how many words they allow a state
 //   Lists, Tests      small helpers: lists filtered and searched, refusals tried in order
 //   Loops             instances, their written order, step, place; the vector before shortening, line and divisor of a matrix; increment
 //   Space             boxes, row order, the process space; count, first and last
@@ -11,15 +11,16 @@
 //   Description       bytes to words, lengths, ranges, decoding
 //   Body              lines, one instance on a store, the plain run
 //   Lines             laws of lines that mathematics and code share
-//   Accept            the refusals 1 to 17 without 9, named one by one and chained; the figures and the divisors
+//   Accept            the refusals 33 and 1 to 17 without 9, named one by one and chained; the figures and the divisors
 //   Points, Sorted    points, lines, boxes and lists in order as propositions
 //   Array, State      what the rules look at; the words of the state and where they stand
 //   Rules             send, take, fire, give, receive: ready and apply; sound; the lowest ready step
 //   Answers, Calls    the numbers and values of answers; the nine calls: the answer and every lent list afterwards
 //   Conditions        the conditions of acceptance said a second time, as propositions; demand 2: accepted and refused exactly by them
 //   Demand1           what all calls have in common: numbers and values of answers, nothing changed, nothing written beyond
+//   Alike             one description under two limits, call by call: answered alike, or declined
 //   Demand2           what Table leaves, every pass of the loops by one processor, what Plain run leaves
-//   Demand3           lists of calls, and what holds after every one of them
+//   Demand3           lists of calls, each told a board, and what holds after every one of them
 //   FivePlaces        request 2.8: what the lower limit of refusal 14 changes, and what it leaves
 //   LongerStrides     request 2.2: what Accept answers without refusal 9, and that first and last are outermost
 //   Leaves            what operations put, when a line runs and what loops leave, as propositions; by the plain run and by the network
@@ -27,6 +28,7 @@
 //   GuardedLines      request 2.5: what Accept answers to descriptions of the older length and to guards, and when lines run
 //   CommonDivisors    request 2.7: what the divisors in Accept's answer are, and how far apart they say that values and working processes lie
 //   Walk              request 2.4: the walk by process, what a whole walk comes to, and Accept with the check along it
+//   BenchBoard        request 2.9: what a board word changes, and what it leaves
 //   Designs, Cases    the documents' designs as bytes, and document 01's cases marked P, computed as one table (Comparison)
 //   Singles, Runs     cases beside them that hold the rules: tables, single steps and declined calls; states stopped in the middle, other orders
 //   GuardedRuns       runs under guards, plainly and in two orders
@@ -35,8 +37,6 @@
 //
 // Two loops are three, the third running from 0 to 0: its direction is 1, its step coefficient 0; place and every index map get a second row
 // (0, 0, 1), and a loading vector a second component 0. Then one set of definitions serves both.
-ghost use mathlib.Core.Path.{_≡_};
-ghost use Rattle.meaning.specs.Limits.{gaugeLimits};
 use integers::Matrix;
 use integers::V2;
 use integers::V3;
@@ -82,8 +82,9 @@ pub struct Description {
     pub lines: [Line; 8],
 }
 
-// The limits of refusals 6, 10 and 14.
+// A board word, and that board's limits of refusals 6, 10 and 14.
 pub struct Limits {
+    pub board: u32,
     pub instances: u32,
     pub processes: u32,
     pub hop: u32,
@@ -142,15 +143,4 @@ pub enum Ran {
 pub enum Readiness {
     Ready { count: u32, lowest: u32 },
     Refused(u32),
-}
-
-// The limits of the gauges.
-pub fn gauge() -> Limits
-    ensures { λ r. ⌜ r ≡ gaugeLimits ⌝ }
-{
-    Limits {
-        instances: 4096,
-        processes: 1024,
-        hop: 5,
-    }
 }

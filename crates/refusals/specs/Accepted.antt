@@ -22,7 +22,7 @@ use Rattle.meaning.specs.Loops.{instances, stepOf, placeOf}
 use Rattle.meaning.specs.Space.{processes}
 use Rattle.meaning.specs.Streams.{line, stationary, hop, move}
 use Rattle.meaning.specs.Description.{descriptionOf, streamsOf, noStream, written}
-use Rattle.meaning.specs.Accept.{small, refused11, refused12, refused13, refused14, streamTests, testsFrom, refusalOf}
+use Rattle.meaning.specs.Accept.{small, refused33, refused11, refused12, refused13, refused14, streamTests, testsFrom, refusalOf}
 use Rattle.meaning.specs.Walk.{walkTests, walkRefusal}
 use Rattle.geometry.specs.Numbers.{and-left, and-right}
 use Rattle.geometry.specs.Tests.{numbered, both-pass}
@@ -104,12 +104,12 @@ each-passes l d i (suc k) (s ∷ ss) e h =
     subst (λ (j : ℕ). refusal (streamTests l (d .nest) (written d j) (getD ss k noStream)) ≡ 0) z
     (each-passes l d (suc i) k ss (both-pass (streamTests l (d .nest) (written d i) s) (testsFrom l d (suc i) ss) tt e .1) (omega arith))
 
--- what 1 to 10 leave
+-- what 33 and 1 to 10 leave
 pub walk-within : (l : Limits) (s : List ℕ) → walkRefusal l s ≡ 0 → Decoded s × NestWithin l (descriptionOf s .nest)
 unfolding numbered
 walk-within l s e =
     let n = descriptionOf s .nest in
-    let p = both-pass (firstTests s) (layoutTests l n) tt (walk-tests l s ∙ e) in
+    let p = both-pass (firstTests s) (layoutTests l n) tt (passed 33 (refused33 l) _ (λ g. omega arith) (walk-tests l s ∙ e) .1) in
     (decoded s (p .0), record { instances = few l n (p .1); processes = few-processes l n (p .1) })
 
 -- an accepted description is in range and within the limits

@@ -18,7 +18,7 @@ use Rattle.meaning.specs.Tests.{Test, _if_, refusal}
 use Rattle.meaning.specs.Loops.{instances}
 use Rattle.meaning.specs.Space.{processes}
 use Rattle.meaning.specs.Description.{descriptionOf, streamsOf, noStream, written}
-use Rattle.meaning.specs.Accept.{refused6, refused7, refused8, refused10, refused13, refused14, refused15, refused16, refused17, streamTests, testsFrom, refusalOf}
+use Rattle.meaning.specs.Accept.{refused33, refused6, refused7, refused8, refused10, refused13, refused14, refused15, refused16, refused17, streamTests, testsFrom, refusalOf}
 use Rattle.meaning.specs.Walk.{walkTests, walkRefusal}
 use Rattle.geometry.specs.Tests.{numbered, none-applies, one-applies}
 use Rattle.decode.specs.Refusals.{firstTests, refuses, passes, passed}
@@ -36,8 +36,8 @@ orderTests n w s = (15 if refused15 w n s) ∷ (16 if refused16 n s) ∷ (17 if 
 abbrev pub moveTests : Limits → Nest → Bool → Stream → List Test
 moveTests l n w s = (13 if refused13 n s) ∷ (14 if refused14 l n s) ∷ orderTests n w s
 
--- 1 to 10, after those of the bytes
-pub walk-tests : (l : Limits) (s : List ℕ) → refusal (firstTests s ++ layoutTests l (descriptionOf s .nest)) ≡ walkRefusal l s
+-- 33, and 1 to 10, after those of the bytes
+pub walk-tests : (l : Limits) (s : List ℕ) → refusal ((33 if refused33 l) ∷ (firstTests s ++ layoutTests l (descriptionOf s .nest))) ≡ walkRefusal l s
 unfolding descriptionOf walkRefusal
 walk-tests l s = refl
 
@@ -73,7 +73,7 @@ goes-on a b t e z h = h ∙ none-applies a b t (sym e ∙ z)
 pub stops : {q : ℕ} (a b : List Test) → q ≡ refusal a → (q ≡ 0 → ⊥) → q ≡ refusal (a ++ b)
 stops a b e f = e ∙ one-applies a b (λ z. f (e ∙ z))
 
--- the streams after 1 to 10
+-- the streams after 33 and 1 to 10
 module _ (l : Limits) (s : List ℕ) {q : ℕ} (e : q ≡ walkRefusal l s) where
   abbrev ofStreams : List Test
   ofStreams = testsFrom l (descriptionOf s) 0 (streamsOf (descriptionOf s))

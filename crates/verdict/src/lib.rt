@@ -1,9 +1,8 @@
-// Whether a description is accepted, and by which number it is refused: document 01's refusals 1 to 17, the first that applies. Between 10 and 11 the words of the
+// Whether a description is accepted, and by which number it is refused: 33 of request 2.9 and document 01's refusals 1 to 17, the first that applies. Between 10 and 11 the words of the
 // processes and of the walk are filled, once for all streams; those of the processes are handed on.
 ghost use mathlib.Core.Path.{_≡_};
-ghost use Prim.Native.Nat.{_≤_};
 ghost use Rattle.meaning.specs.Tests.{refusal};
-ghost use Rattle.meaning.specs.Limits.{gaugeLimits};
+ghost use Rattle.meaning.specs.Limits.{limitsOf, gaugeLimits, UpTo};
 ghost use Rattle.meaning.specs.Description.{descriptionOf, streamsOf};
 ghost use Rattle.meaning.specs.Accept.{testsFrom, refusalOf};
 ghost use Rattle.meaning.specs.Walk.{walkRefusal};
@@ -14,12 +13,15 @@ use meaning::Description;
 use meaning::Limits;
 use meaning::Nest;
 
-// ---- 1 to 10
+// ---- 33 and 1 to 10
 
-// The first of the refusals 1 to 10 that applies, 0 if none does.
+// The first of the refusals 33 and 1 to 10 that applies, 0 if none does.
 fn walk_refusal(s: &[u8], limits: Limits) -> u32
     ensures { λ r. ⌜ r ≡ walkRefusal limits (now (s .entry)) ⌝ }
 {
+    if 1 < limits.board {
+        return 33;
+    }
     let r = ranges::refusal(s);
     if r == 0 {
         let n = decode::description(s).nest;
@@ -38,9 +40,9 @@ fn fill_nest(n: Nest, ends: &mut [u32; 3072], walk: &mut [i32; 12288])
     walk::fill_walk(n, processes, ends, walk);
 }
 
-// The same of a description, if there is no such refusal, else they stay; the limits may not exceed the places of the words.
+// The same of a description, if there is no such refusal, else they stay.
 fn walk_within(s: &[u8], limits: Limits, ends: &mut [u32; 3072], walk: &mut [i32; 12288]) -> u32
-    requires { ⌜ (limits .instances ≤ 4096) × (limits .processes ≤ 1024) ⌝ }
+    requires { ⌜ UpTo limits gaugeLimits ⌝ }
     ensures { λ r. ⌜ (r ≡ walkRefusal limits (now (s .entry)))
         × (r ≡ 0 → (Ends (descriptionOf (now (s .entry)) .nest) (now (ends .exit))) × (Along (descriptionOf (now (s .entry)) .nest) (now (walk .exit))))
         × ((r ≡ 0 → ⊥) → (now (ends .exit) ≡ now (ends .entry)) × (now (walk .exit) ≡ now (walk .entry))) ⌝ }
@@ -53,13 +55,13 @@ fn walk_within(s: &[u8], limits: Limits, ends: &mut [u32; 3072], walk: &mut [i32
     refusal
 }
 
-// The number by which 1 to 10 refuse a description, and then no word changes, or 0, and then the words of its processes and of its walk are filled.
-pub fn walk_of(s: &[u8], ends: &mut [u32; 3072], walk: &mut [i32; 12288]) -> u32
-    ensures { λ r. ⌜ (r ≡ walkRefusal gaugeLimits (now (s .entry)))
+// The number by which 33 and 1 to 10 refuse a description, and then no word changes, or 0, and then the words of its processes and of its walk are filled.
+pub fn walk_of(board: u32, s: &[u8], ends: &mut [u32; 3072], walk: &mut [i32; 12288]) -> u32
+    ensures { λ r. ⌜ (r ≡ walkRefusal (limitsOf board) (now (s .entry)))
         × (r ≡ 0 → (Ends (descriptionOf (now (s .entry)) .nest) (now (ends .exit))) × (Along (descriptionOf (now (s .entry)) .nest) (now (walk .exit))))
         × ((r ≡ 0 → ⊥) → (now (ends .exit) ≡ now (ends .entry)) × (now (walk .exit) ≡ now (walk .entry))) ⌝ }
 {
-    walk_within(s, meaning::gauge(), ends, walk)
+    walk_within(s, boards::limits_of(board), ends, walk)
 }
 
 // ---- 11 to 17
@@ -83,9 +85,9 @@ fn streams_refusal(d: Description, limits: Limits, walk: &[i32]) -> u32
     0
 }
 
-// The refusal of a description under some limits, 0 if it is accepted.
-fn refusal_within(s: &[u8], limits: Limits, ends: &mut [u32; 3072]) -> u32
-    requires { ⌜ (limits .instances ≤ 4096) × (limits .processes ≤ 1024) ⌝ }
+// The refusal of a description by its number, 0 if it is accepted; then count, first and last instance of its processes are filled.
+pub fn refusal_of(s: &[u8], limits: Limits, ends: &mut [u32; 3072]) -> u32
+    requires { ⌜ UpTo limits gaugeLimits ⌝ }
     ensures { λ r. ⌜ (r ≡ refusalOf limits (now (s .entry))) × (r ≡ 0 → Ends (descriptionOf (now (s .entry)) .nest) (now (ends .exit))) ⌝ }
 {
     let mut walk = [0i32; 12288];
@@ -95,11 +97,4 @@ fn refusal_within(s: &[u8], limits: Limits, ends: &mut [u32; 3072]) -> u32
     } else {
         r
     }
-}
-
-// The refusal of a description by its number, 0 if it is accepted; then count, first and last instance of its processes are filled.
-pub fn refusal_of(s: &[u8], ends: &mut [u32; 3072]) -> u32
-    ensures { λ r. ⌜ (r ≡ refusalOf gaugeLimits (now (s .entry))) × (r ≡ 0 → Ends (descriptionOf (now (s .entry)) .nest) (now (ends .exit))) ⌝ }
-{
-    refusal_within(s, meaning::gauge(), ends)
 }

@@ -29,8 +29,8 @@ fill-nest-requires c κs =
     (record {
       nest = nest-bounded (w .0 .ranged .nest);
       layout = walk-layout l (now (s .args .s)) e;
-      instances = omega (arith, w .1 .instances, s .pre .0);
-      processes = omega (arith, w .1 .processes, s .pre .1);
+      instances = omega (arith, w .1 .instances, s .pre .instances);
+      processes = omega (arith, w .1 .processes, s .pre .processes);
     })
 
 returns : tie.Need-returns

@@ -1,0 +1,24 @@
+// The limits that a board word names, request 2.9.
+ghost use mathlib.Core.Path.{_≡_};
+ghost use Rattle.meaning.specs.Limits.{limitsOf, gaugeLimits, UpTo};
+use meaning::Limits;
+
+// The limits of a board, the gauge 0 or the bench 1; another word, which no call accepts, has the gauge's.
+pub fn limits_of(board: u32) -> Limits
+    ensures { λ r. ⌜ (r ≡ limitsOf board) × (UpTo r gaugeLimits) ⌝ }
+{
+    if board == 1 {
+        return Limits {
+            board: board,
+            instances: 1024,
+            processes: 256,
+            hop: 5,
+        };
+    }
+    Limits {
+        board: board,
+        instances: 4096,
+        processes: 1024,
+        hop: 5,
+    }
+}
