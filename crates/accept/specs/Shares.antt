@@ -13,6 +13,7 @@ use Rattle.meaning.specs.declared.Description.{Description}
 use Rattle.meaning.specs.declared.Figures.{Figures}
 use Rattle.meaning.specs.declared.Divisors.{Divisors}
 use Rattle.meaning.specs.declared.Acceptance.the-variants.{Accepted, Refused}
+use Rattle.meaning.specs.declared.Limits.{Limits}
 use Rattle.meaning.specs.Limits.{gaugeLimits, processWordsMost, endWordsMost}
 use Rattle.meaning.specs.Lists.{total}
 use Rattle.meaning.specs.Loops.{instances}
@@ -205,11 +206,11 @@ figures-are {d} h {r} {t} e p i l q w s =
     (s ∙ ap₂ (λ (i : ℕ) (t : Totals). i + t .steps) i g)
 
 -- ACCEPT
-pub accepts : (s : List ℕ) {f : Figures} {g : Divisors} → refusalOf gaugeLimits s ≡ 0 → f ≡ figures (descriptionOf s) → g ≡ divisors (descriptionOf s)
-    → Accepted f g ≡ accept gaugeLimits s
+pub accepts : (l : Limits) (s : List ℕ) {f : Figures} {g : Divisors} → refusalOf l s ≡ 0 → f ≡ figures (descriptionOf s) → g ≡ divisors (descriptionOf s)
+    → Accepted f g ≡ accept l s
 unfolding accept
-accepts s e h k = rw e (ap₂ Accepted h k)
+accepts l s e h k = rw e (ap₂ Accepted h k)
 
-pub refuses : (s : List ℕ) {n : ℕ} → n ≡ refusalOf gaugeLimits s → (n ≡ 0 → ⊥) → Refused n ≡ accept gaugeLimits s
+pub refuses : (l : Limits) (s : List ℕ) {n : ℕ} → n ≡ refusalOf l s → (n ≡ 0 → ⊥) → Refused n ≡ accept l s
 unfolding accept
-refuses s e f = rw (ne-eqb (refusalOf gaugeLimits s) 0 (λ z. f (e ∙ z))) (ap Refused e)
+refuses l s e f = rw (ne-eqb (refusalOf l s) 0 (λ z. f (e ∙ z))) (ap Refused e)

@@ -8,7 +8,7 @@ ghost use mathlib.Core.Path.{_≡_};
 ghost use mathlib.Core.Bool.{true};
 ghost use Prim.Native.Nat.{suc, _≤_};
 ghost use lib.ListN.{length};
-ghost use Rattle.meaning.specs.Limits.{gaugeLimits};
+ghost use Rattle.meaning.specs.Limits.{limitsOf};
 ghost use Rattle.meaning.specs.Pipes.{isEntry, entries};
 ghost use Rattle.meaning.specs.Accept.{figures, accept};
 ghost use Rattle.layout.specs.Ends.{processOf, Ends};
@@ -160,11 +160,11 @@ pub fn figures_of(d: Description, ends: &[u32]) -> Figures
 }
 
 // ACCEPT
-pub fn accept(s: &[u8]) -> Acceptance
-    ensures { λ r. ⌜ r ≡ accept gaugeLimits (now (s .entry)) ⌝ }
+pub fn accept(board: u32, s: &[u8]) -> Acceptance
+    ensures { λ r. ⌜ r ≡ accept (limitsOf board) (now (s .entry)) ⌝ }
 {
     let mut ends = [0u32; 3072];
-    let refusal = verdict::refusal_of(s, &mut ends);
+    let refusal = verdict::refusal_of(s, boards::limits_of(board), &mut ends);
     if refusal == 0 {
         let d = decode::description(s);
         let ends = &ends;
