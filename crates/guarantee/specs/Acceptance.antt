@@ -20,7 +20,7 @@ use Rattle.meaning.specs.Points.{Directed, Within}
 use Rattle.meaning.specs.Description.{sizesOf, descriptionOf, streamsOf, streamOf as decoded, noStream, written}
 use Rattle.meaning.specs.Accept.{streamTests, testsFrom, allTests, refusalOf, figures, divisors, accept, Accepts}
 use Rattle.meaning.specs.Answers.{acceptNumber}
-use Rattle.meaning.specs.Conditions.{streamOf, Meets, StreamMeets, AcceptedExactly, Condition, Condition.Begins, Condition.Sizes-fit, Condition.Long, Condition.Words-fit, Condition.Bounds-fit, Condition.Instances, Condition.Place-rank, Condition.Increment, Condition.Processes, Condition.Rank, Condition.Line, Condition.Move, Condition.Hop, Condition.Order, Condition.Loading, Condition.Touched, Asks, ofStream, conditions, RefusedExactly}
+use Rattle.meaning.specs.Conditions.{streamOf, Meets, StreamMeets, AcceptedExactly, Condition, Condition.Board, Condition.Begins, Condition.Sizes-fit, Condition.Long, Condition.Words-fit, Condition.Bounds-fit, Condition.Instances, Condition.Place-rank, Condition.Increment, Condition.Processes, Condition.Rank, Condition.Line, Condition.Move, Condition.Hop, Condition.Order, Condition.Loading, Condition.Touched, Asks, ofStream, conditions, RefusedExactly}
 use Rattle.geometry.specs.Members.{in-each, each-in, in-numbers, numbers-in}
 use Rattle.network.specs.Lists.{length-numbers}
 use Rattle.network.specs.Declined.{numbers-are}
@@ -71,6 +71,7 @@ module _ (l : Limits) (s : List ℕ) where
   tries =
       let z = sizesOf s in
       let n = d .nest in
+      next (refuses-less 1 (l .board)) (λ _.
       next (refuses-less (length s) 12) (λ _.
       next (refuses2 z) (λ sizes.
       next (refuses3 s z) (λ _.
@@ -82,25 +83,26 @@ module _ (l : Limits) (s : List ℕ) where
       next (refuses10 l (directed s z sizes words) (some-instance n bounds)) (λ _.
       subst (λ (m : ℕ). Tries (Asks l s) (each ofStream (numbers m)) (testsFrom l d 0 (streamsOf d))) streams-length
       (try-streams (directed s z sizes words) (some-instance n bounds) 0 (streamsOf d)
-      (λ k. ap (streamOf d) (sym (zero-add k)))))))))))))
+      (λ k. ap (streamOf d) (sym (zero-add k))))))))))))))
 
   -- ---- all conditions are met: one by one, and as document 01 has them
 
   pub meets-of : ((c : Condition) → In c (conditions (sizesOf s .streams)) → Asks l s c) → Meets l s
   meets-of f =
       record {
-        begins = f _ (here refl);
-        sizes = f _ (there (here refl));
-        long = f _ (there (there (here refl)));
-        words = f _ (there (there (there (here refl))));
-        bounds = f _ (there (there (there (there (here refl)))));
-        instances = f _ (there (there (there (there (there (here refl))))));
-        rank = f _ (there (there (there (there (there (there (here refl)))))));
-        increment = f _ (there (there (there (there (there (there (there (here refl))))))));
-        processes = f _ (there (there (there (there (there (there (there (there (here refl)))))))));
+        board = f _ (here refl);
+        begins = f _ (there (here refl));
+        sizes = f _ (there (there (here refl)));
+        long = f _ (there (there (there (here refl))));
+        words = f _ (there (there (there (there (here refl)))));
+        bounds = f _ (there (there (there (there (there (here refl))))));
+        instances = f _ (there (there (there (there (there (there (here refl)))))));
+        rank = f _ (there (there (there (there (there (there (there (here refl))))))));
+        increment = f _ (there (there (there (there (there (there (there (there (here refl)))))))));
+        processes = f _ (there (there (there (there (there (there (there (there (there (here refl))))))))));
         streams = λ i h. stream i (λ c k.
-            f c (there (there (there (there (there (there (there (there (there
-            (in-each ofStream (in-numbers 0 (sizesOf s .streams) i (omega arith) (omega arith)) k)))))))))));
+            f c (there (there (there (there (there (there (there (there (there (there
+            (in-each ofStream (in-numbers 0 (sizesOf s .streams) i (omega arith) (omega arith)) k))))))))))));
       }
     where
       stream : (i : ℕ) → ((c : Condition) → In c (ofStream i) → Asks l s c) → StreamMeets l d i
@@ -131,16 +133,17 @@ module _ (l : Limits) (s : List ℕ) where
       stream i h (there (there (there (there (there (there (here e))))))) = by (Touched i) (h .touched) e
 
       go : In c (conditions (sizesOf s .streams)) → Asks l s c
-      go (here e) = by Begins (m .begins) e
-      go (there (here e)) = by Sizes-fit (m .sizes) e
-      go (there (there (here e))) = by Long (m .long) e
-      go (there (there (there (here e)))) = by Words-fit (m .words) e
-      go (there (there (there (there (here e))))) = by Bounds-fit (m .bounds) e
-      go (there (there (there (there (there (here e)))))) = by Instances (m .instances) e
-      go (there (there (there (there (there (there (here e))))))) = by Place-rank (m .rank) e
-      go (there (there (there (there (there (there (there (here e)))))))) = by Increment (m .increment) e
-      go (there (there (there (there (there (there (there (there (here e))))))))) = by Processes (m .processes) e
-      go (there (there (there (there (there (there (there (there (there k))))))))) =
+      go (here e) = by Board (m .board) e
+      go (there (here e)) = by Begins (m .begins) e
+      go (there (there (here e))) = by Sizes-fit (m .sizes) e
+      go (there (there (there (here e)))) = by Long (m .long) e
+      go (there (there (there (there (here e))))) = by Words-fit (m .words) e
+      go (there (there (there (there (there (here e)))))) = by Bounds-fit (m .bounds) e
+      go (there (there (there (there (there (there (here e))))))) = by Instances (m .instances) e
+      go (there (there (there (there (there (there (there (here e)))))))) = by Place-rank (m .rank) e
+      go (there (there (there (there (there (there (there (there (here e))))))))) = by Increment (m .increment) e
+      go (there (there (there (there (there (there (there (there (there (here e)))))))))) = by Processes (m .processes) e
+      go (there (there (there (there (there (there (there (there (there (there k)))))))))) =
           let r = each-in ofStream (numbers (sizesOf s .streams)) k in
           let b = numbers-in 0 (sizesOf s .streams) (r .mem) in
           stream (r .from) (m .streams (r .from) (omega (arith, b .1))) (r .is)

@@ -14,7 +14,9 @@ use Rattle.geometry.specs.Members.{yes-any}
 use Rattle.geometry.specs.Descriptions.{laid}
 use Rattle.geometry.specs.PipeOrder.{numbers-all, list-length}
 use Rattle.network.specs.Plain.{Among, Described, streams-are}
+use Rattle.network.specs.Starts.{proper}
 use Rattle.network.specs.Demand as Demand
+use Rattle.guarantee.specs.Alike.{serves}
 use Rattle.guarantee.specs.Elements.{touched-among, element-among}
 use Rattle.guarantee.specs.Stops.{is-true}
 use Rattle.guarantee.specs.Wired.{wired, wired-instances, wired-instance, wired-touched, wired-number}
@@ -36,4 +38,8 @@ described l s e =
 
 -- DEMAND 3
 pub guarantee : Guarantee
-guarantee = Demand.guarantee (λ l s e. (wired l s e, described l s e))
+guarantee l s values M₀ e =
+    record {
+      after = Demand.guarantee (λ l s e. (wired l s e, described l s e)) l s values M₀ e;
+      told = λ k. serves l k s (proper l s values M₀ e .accepted);
+    }

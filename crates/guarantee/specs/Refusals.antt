@@ -16,7 +16,7 @@ use Rattle.meaning.specs.Space.{eq2}
 use Rattle.meaning.specs.Tests.{Test, _if_, refusal}
 use Rattle.meaning.specs.Points.{Between}
 use Rattle.meaning.specs.Accept.{small}
-use Rattle.meaning.specs.Conditions.{Small, Condition, Condition.Begins, Condition.Sizes-fit, Condition.Long, Condition.Words-fit, Condition.Bounds-fit, Condition.Instances, Condition.Place-rank, Condition.Increment, Condition.Processes, Condition.Rank, Condition.Line, Condition.Move, Condition.Hop, Condition.Order, Condition.Loading, Condition.Touched, numberOf, First}
+use Rattle.meaning.specs.Conditions.{Small, Condition, Condition.Board, Condition.Begins, Condition.Sizes-fit, Condition.Long, Condition.Words-fit, Condition.Bounds-fit, Condition.Instances, Condition.Place-rank, Condition.Increment, Condition.Processes, Condition.Rank, Condition.Line, Condition.Move, Condition.Hop, Condition.Order, Condition.Loading, Condition.Touched, numberOf, First}
 use Rattle.geometry.specs.Numbers.{eqZ-eq, eq-eqZ, eq2-eq, eq-eq2}
 use Rattle.network.specs.Decide.{Says, Says.holds, Says.fails, says-as, says-and}
 
@@ -91,6 +91,7 @@ pub data Tries (A : Condition → Type 0) : List Condition → List Test → Typ
 
 -- the numbers of conditions: none is 0, and none is 9
 pub numbered : (c : Condition) → (0 < numberOf c) × (numberOf c ≡ 9 → ⊥)
+numbered Board = (omega arith, λ e. omega arith)
 numbered Begins = (omega arith, λ e. omega arith)
 numbered Sizes-fit = (omega arith, λ e. omega arith)
 numbered Long = (omega arith, λ e. omega arith)

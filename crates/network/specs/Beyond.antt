@@ -17,7 +17,7 @@ use Rattle.meaning.specs.Array.{Array, arrayOf}
 use Rattle.meaning.specs.Rules.{Step, Memory, applyAll}
 use Rattle.meaning.specs.Answers.{answerNumber, ranNumber}
 use Rattle.meaning.specs.Calls.{stateLength, step, run}
-use Rattle.meaning.specs.Demand3.{Call, CallStep, CallRun, CallReady, CallWindow, CallResult, leaves, grants, memoryAfter}
+use Rattle.meaning.specs.Demand3.{Call, CallStep, CallRun, CallReady, CallWindow, CallResult, Told, leaves, grants, memoryAfter}
 use Rattle.network.specs.Wiring.{Wired}
 use Rattle.network.specs.Calls.{call-does}
 use Rattle.network.specs.Declined.{numbers-are, Usable, usable}
@@ -65,7 +65,10 @@ module _ (l : Limits) (s : List ℕ) where
             (written-beyond (wired (u .accepted))
             (kept (wired (u .accepted)) (omega (arith, u .passes .long, words-are d)) (u .passes .sound) (call-does l s M c .granted) .written))
 
-    pub calls-beyond : (M : Memory) (cs : List Call) → drop (stateLength d) (memoryAfter l s M cs .state) ≡ drop (stateLength d) (M .state)
-    unfolding memoryAfter
-    calls-beyond M [] = refl
-    calls-beyond M (c ∷ cs) = calls-beyond (leaves l s M c) cs ∙ call-beyond M c
+-- a list of calls, whatever limits each is told
+module _ (s : List ℕ) (wired : (l : Limits) → refusalOf l s ≡ 0 → Wired (arrayOf (descriptionOf s))) where
+  pub calls-beyond : (M : Memory) (cs : List Told)
+      → drop (stateLength (descriptionOf s)) (memoryAfter s M cs .state) ≡ drop (stateLength (descriptionOf s)) (M .state)
+  unfolding memoryAfter
+  calls-beyond M [] = refl
+  calls-beyond M (c ∷ cs) = calls-beyond (leaves (c .limits) s M (c .call)) cs ∙ call-beyond (c .limits) s (wired (c .limits)) M (c .call)

@@ -13,7 +13,7 @@ use Rattle.meaning.specs.Accept.{refusalOf}
 use Rattle.meaning.specs.Array.{Array, arrayOf, processCount, streamCount, pipeNumber, onPipe}
 use Rattle.meaning.specs.Rules.{Step, Send, Take, Fire, Give, Receive, Memory, ready, apply, inOrder, Found, at, nothing, lowest, runSteps, applyAll}
 use Rattle.meaning.specs.Calls.{orElse, memoryTests, refusedBy, seated, ifThere, stepOf, isNothing, readyAt, applied, step, run}
-use Rattle.meaning.specs.Demand3.{Call, CallStep, CallRun, CallReady, CallWindow, CallResult, leaves, asList, grants, memoryAfter, grantedBy}
+use Rattle.meaning.specs.Demand3.{Call, CallStep, CallRun, CallReady, CallWindow, CallResult, Told, leaves, asList, grants, memoryAfter, grantedBy}
 use Rattle.network.specs.Lists.{both-true}
 use Rattle.network.specs.Ready.{There}
 use Rattle.network.specs.Members.{listed, ready-there, found-passes}
@@ -167,20 +167,27 @@ module _ (l : Limits) (s : List ℕ) where
   call-does M (CallWindow pipe side) = record { granted = none; leaves-is = refl }
   call-does M (CallResult output) = record { granted = none; leaves-is = refl }
 
-  -- and so are those of a list of calls
-  pub calls-granted : (M : Memory) (cs : List Call) → Grants A M (grantedBy l s M cs)
+-- ---- lists of calls
+
+module _ (s : List ℕ) where
+  abbrev B : Array
+  B = arrayOf (descriptionOf s)
+
+  -- the steps of a list of calls are granted, whatever limits each is told
+  pub calls-granted : (M : Memory) (cs : List Told) → Grants B M (grantedBy s M cs)
   unfolding grantedBy
   calls-granted M [] = none
   calls-granted M (c ∷ cs) =
-      let d = call-does M c in
-      grants-append A (d .granted) (subst (λ (N : Memory). Grants A N (grantedBy l s (leaves l s M c) cs)) (d .leaves-is)
-      (calls-granted (leaves l s M c) cs))
+      let d = call-does (c .limits) s M (c .call) in
+      let N = leaves (c .limits) s M (c .call) in
+      grants-append B (d .granted) (subst (λ (M : Memory). Grants B M (grantedBy s N cs)) (d .leaves-is) (calls-granted N cs))
 
   -- and nothing else changes
-  pub calls-leave : (M : Memory) (cs : List Call) → memoryAfter l s M cs ≡ applyAll A M (grantedBy l s M cs)
+  pub calls-leave : (M : Memory) (cs : List Told) → memoryAfter s M cs ≡ applyAll B M (grantedBy s M cs)
   unfolding grantedBy memoryAfter applyAll
   calls-leave M [] = refl
   calls-leave M (c ∷ cs) =
-      calls-leave (leaves l s M c) cs
-      ∙ ap (λ (N : Memory). applyAll A N (grantedBy l s (leaves l s M c) cs)) (call-does M c .leaves-is)
-      ∙ sym (apply-append A M (grants l s M c) (grantedBy l s (leaves l s M c) cs))
+      let N = leaves (c .limits) s M (c .call) in
+      calls-leave N cs
+      ∙ ap (λ (M : Memory). applyAll B M (grantedBy s N cs)) (call-does (c .limits) s M (c .call) .leaves-is)
+      ∙ sym (apply-append B M (grants (c .limits) s M (c .call)) (grantedBy s N cs))

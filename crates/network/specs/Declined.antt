@@ -2,20 +2,22 @@
 use mathlib.Core.Path.{_≡_, refl, sym, _∙_, subst}
 use mathlib.Core.Bool.{Bool, true, false, not, cond, _||_}
 use mathlib.Core.List.{List, [], _∷_, _++_}
-use Prim.Native.Nat.{ℕ, _≤_, _<_}
+use Prim.Native.Nat.{ℕ, suc, _≤_, _<_}
+use native.Mathlib.Decide.{ℕ-discrete}
 use native.Mathlib.Omega.{arith}
 use lib.Dec.{eqb, ltb}
 use lib.ListN.{length}
-use borrow.Author.Tests.{ltb-false, le-ltb, eqb-true, eq-eqb, not-false}
+use borrow.Author.Tests.{ltb-false, le-ltb, eqb-true, eq-eqb, ne-eqb, not-false}
 use Rattle.meaning.specs.declared.Limits.{Limits}
 use Rattle.meaning.specs.declared.Description.{Description}
+use Rattle.meaning.specs.declared.Stream.{Stream}
 use Rattle.meaning.specs.Tests.{Test, _if_, refusal}
-use Rattle.meaning.specs.Description.{descriptionOf}
-use Rattle.meaning.specs.Accept.{refusalOf, accept}
+use Rattle.meaning.specs.Description.{descriptionOf, streamsOf}
+use Rattle.meaning.specs.Accept.{testsFrom, refusalOf, accept}
 use Rattle.meaning.specs.Array.{arrayOf, pipeNumber}
 use Rattle.meaning.specs.Rules.{sound, Memory}
 use Rattle.meaning.specs.Answers.{acceptNumber, answerNumber, ranNumber, readyNumber}
-use Rattle.meaning.specs.Calls.{lengthOf, stateLength, memoryTests, refusedBy, tableTests, table, startTests, start, stepOf, isNothing, readyAt, stepTests, step, run, readyTests, readyCall, window, allOut, resultTests, result, plainTests, plainRun}
+use Rattle.meaning.specs.Calls.{lengthOf, stateLength, orElse, memoryTests, refusedBy, tableTests, table, startTests, start, stepOf, isNothing, readyAt, stepTests, step, run, readyTests, readyCall, window, allOut, resultTests, result, plainTests, plainRun}
 use Rattle.meaning.specs.Demand1.{Numbers}
 use Rattle.meaning.specs.Demand3.{Call, CallStep, CallRun, CallReady, CallWindow, CallResult, declinedBy, NotByMemory}
 use Rattle.network.specs.Calls.{refusal-none, or-else}
@@ -143,5 +145,48 @@ module _ (l : Limits) (s : List ℕ) {M : Memory} (u : Usable l s M) where
   own-fine (CallResult output) =
       fine-more _ _ (fine-high 25 (omega arith) (λ e. omega arith)) (fine-more _ _ (fine-high 28 (omega arith) (λ e. omega arith)) fine-none)
 
-  pub not-by-memory : (c : Call) → NotByMemory (declinedBy l s M c)
-  not-by-memory c = subst NotByMemory (sym (declined-own c)) (own-fine c)
+  own-not-by-memory : (c : Call) → NotByMemory (declinedBy l s M c)
+  own-not-by-memory c = subst NotByMemory (sym (declined-own c)) (own-fine c)
+
+-- ---- nor is one of Accept's numbers
+
+low : (n : ℕ) → n < 20 → (b : Bool) (ts : List Test) → NotByMemory (refusal ts) → NotByMemory (refusal ((n if b) ∷ ts))
+low n h b ts k = fine-more (n if b) ts (fine-low n h) k
+
+streams-fine : (l : Limits) (d : Description) (i : ℕ) (ss : List Stream) → NotByMemory (refusal (testsFrom l d i ss))
+unfolding testsFrom
+streams-fine l d i [] = fine-none
+streams-fine l d i (s ∷ ss) =
+    low 11 (omega arith) _ _ (low 12 (omega arith) _ _ (low 13 (omega arith) _ _ (low 14 (omega arith) _ _ (low 15 (omega arith) _ _
+    (low 16 (omega arith) _ _ (low 17 (omega arith) _ _ (streams-fine l d (suc i) ss)))))))
+
+accept-fine : (l : Limits) (s : List ℕ) → NotByMemory (refusalOf l s)
+unfolding refusalOf
+accept-fine l s =
+    let d = descriptionOf s in
+    fine-more _ _ (fine-high 33 (omega arith) (λ e. omega arith))
+    (low 1 (omega arith) _ _ (low 2 (omega arith) _ _ (low 3 (omega arith) _ _ (low 4 (omega arith) _ _ (low 5 (omega arith) _ _
+    (low 6 (omega arith) _ _ (low 7 (omega arith) _ _ (low 8 (omega arith) _ _ (low 10 (omega arith) _ _ (streams-fine l d 0 (streamsOf d)))))))))))
+
+-- ---- so no call on such a memory is declined by it, whatever limits it is told
+
+-- a description that is refused declines every call
+declined-first : (l : Limits) (s : List ℕ) (M : Memory) → (refusalOf l s ≡ 0 → ⊥) → (c : Call) → declinedBy l s M c ≡ refusalOf l s
+declined-first l s M f c = go c
+  where
+    first : (r : ℕ) → orElse (refusalOf l s) r ≡ refusalOf l s
+    first r = rw (ne-eqb (refusalOf l s) 0 f) refl
+
+    go : (c : Call) → declinedBy l s M c ≡ refusalOf l s
+    go (CallStep kind number stream) = numbers-are l s .step kind number stream M ∙ first _
+    go (CallRun n) = numbers-are l s .run n M ∙ first _
+    go (CallReady words) = numbers-are l s .ready words M ∙ first _
+    go (CallWindow pipe side) = numbers-are l s .window pipe side (M .waiting) (M .received) ∙ first _
+    go (CallResult output) = numbers-are l s .result output M ∙ first _
+
+pub not-by-memory : (l : Limits) (s : List ℕ) {M : Memory} → Passes (descriptionOf s) M → (c : Call) → NotByMemory (declinedBy l s M c)
+not-by-memory l s {M} p c = go (ℕ-discrete (refusalOf l s) 0)
+  where
+    go : Dec (refusalOf l s ≡ 0) → NotByMemory (declinedBy l s M c)
+    go (yes e) = own-not-by-memory l s (record { accepted = e; passes = p }) c
+    go (no f) = subst NotByMemory (sym (declined-first l s M f c)) (accept-fine l s)

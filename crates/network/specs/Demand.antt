@@ -19,7 +19,7 @@ use Rattle.meaning.specs.State.{words}
 use Rattle.meaning.specs.Rules.{Step, Memory, totalOf, applyAll}
 use Rattle.meaning.specs.Answers.{answerNumber}
 use Rattle.meaning.specs.Calls.{lengthOf, stateLength, started, start, allOut, inElementOrder, result}
-use Rattle.meaning.specs.Demand3.{Call, memoryAfter, grantedBy, receives, allReceived, finalValue, Holds, finish, SameMemory, declinedBy, NotByMemory, AfterCalls, Demand3, Guarantee}
+use Rattle.meaning.specs.Demand3.{Told, memoryAfter, grantedBy, receives, allReceived, finalValue, Holds, finish, SameMemory, declinedBy, NotByMemory, AfterCalls}
 use Rattle.network.specs.Lists.{every-numbers, same-every}
 use Rattle.network.specs.WordOrder.{words-length}
 use Rattle.network.specs.Wiring.{Wired}
@@ -47,9 +47,9 @@ module _ (l : Limits) (s values : List ℕ) (M₀ : Memory) where
   abbrev M₁ : Memory
   M₁ = started l s values M₀
 
-  module _ (W : Wired A) (D : Described d W) (p : Proper l s values M₀) (cs : List Call) where
+  module _ (W : Wired A) (D : Described d W) (p : Proper l s values M₀) (cs : List Told) where
     abbrev ss : List Step
-    ss = grantedBy l s M₁ cs
+    ss = grantedBy s M₁ cs
 
     abbrev M : Memory
     M = applyAll A M₁ ss
@@ -58,7 +58,7 @@ module _ (l : Limits) (s values : List ℕ) (M₀ : Memory) where
     C = cleared l s values M₀ W D
 
     G : Grants A M₁ ss
-    G = calls-granted l s M₁ cs
+    G = calls-granted s M₁ cs
 
     F : After W values ss M
     F = after W values M₁ C ss G
@@ -130,14 +130,14 @@ module _ (l : Limits) (s values : List ℕ) (M₀ : Memory) where
     U = record { accepted = p .accepted; passes = passes-after l s values M₀ W D cs }
 
     -- a fact of that memory is one of what the calls leave
-    leave : (P : Memory → Type 0) → P M → P (memoryAfter l s M₁ cs)
-    leave P h = subst P (sym (calls-leave l s M₁ cs)) h
+    leave : (P : Memory → Type 0) → P M → P (memoryAfter s M₁ cs)
+    leave P h = subst P (sym (calls-leave s M₁ cs)) h
 
     after-calls : AfterCalls l s values M₁ cs
     after-calls =
         record {
           holds = leave (λ N. Holds d values N ss) holds-after;
-          next = λ c. leave (λ N. NotByMemory (declinedBy l s N c)) (not-by-memory l s U c);
+          next = λ c. leave (λ N. NotByMemory (declinedBy (c .limits) s N (c .call))) (not-by-memory (c .limits) s (U .passes) (c .call));
           early = λ e output. leave (λ N. result l s output N ≡ record { answer = Refused 25; output = output }) (result-early l s U output (out-is ∙ e));
           only-early = λ output.
               leave (λ N. answerNumber (result l s output N .answer) ≡ 25 → allReceived d ss ≡ false)
@@ -148,18 +148,19 @@ module _ (l : Limits) (s values : List ℕ) (M₀ : Memory) where
               ∙ ap (λ (vs : List ℕ). record { answer = Done; output = vs })
               (ap (inElementOrder l s) (received-final e) ∙ in-element-order l s values W D (p .values-length)));
           finished = λ e. leave (λ N. SameMemory d N (finish d values)) (same-finish e);
-          beyond = calls-beyond l s (λ e. W) M₁ cs;
+          beyond = calls-beyond s (λ k e. W) M₁ cs;
         }
 
-  -- demand 3
-  pub demand3 : (W : Wired A) → Described d W → start l s values M₀ .answer ≡ Done → Demand3 l s values M₀
-  demand3 W D e cs =
+  -- after a start that is not declined
+  after-start : (W : Wired A) → Described d W → start l s values M₀ .answer ≡ Done → (cs : List Told) → AfterCalls l s values (start l s values M₀ .memory) cs
+  after-start W D e cs =
       let p = proper l s values M₀ e in subst (λ (M : Memory). AfterCalls l s values M cs) (sym (p .memory)) (after-calls W D p cs)
 
 -- what geometry owes: an array of an accepted description is wired and has the description's instances and elements
 abbrev pub FromGeometry : Type 0
 FromGeometry = (l : Limits) (s : List ℕ) → refusalOf l s ≡ 0 → (W : Wired (arrayOf (descriptionOf s))) × Described (descriptionOf s) W
 
--- demand 3 for every description that is accepted
-pub guarantee : FromGeometry → Guarantee
-guarantee G l s values M₀ e = let g = G l s (proper l s values M₀ e .accepted) in demand3 l s values M₀ (g .0) (g .1) e
+-- what demand 3 says of every list of calls, for every description that is accepted
+pub guarantee : FromGeometry → (l : Limits) (s values : List ℕ) (M₀ : Memory) → start l s values M₀ .answer ≡ Done → (cs : List Told)
+    → AfterCalls l s values (start l s values M₀ .memory) cs
+guarantee G l s values M₀ e cs = let g = G l s (proper l s values M₀ e .accepted) in after-start l s values M₀ (g .0) (g .1) e cs

@@ -15,7 +15,7 @@ use Rattle.meaning.specs.Accept.{refusalOf}
 use Rattle.meaning.specs.Array.{Array, arrayOf, pipeOrder}
 use Rattle.meaning.specs.Rules.{Memory, applyAll}
 use Rattle.meaning.specs.Calls.{lengthOf, stateLength, refusedBy, started, startTests, start}
-use Rattle.meaning.specs.Demand3.{Call, grantedBy}
+use Rattle.meaning.specs.Demand3.{Told, grantedBy}
 use Rattle.network.specs.Wiring.{Wired}
 use Rattle.network.specs.Parts.{waiting-is}
 use Rattle.network.specs.Links.{written-length}
@@ -95,12 +95,12 @@ module _ (l : Limits) (s values : List ℕ) (M₀ : Memory) where
         }
 
     -- after any calls the memory passes the tests
-    pub passes-after : (cs : List Call) → Passes d (applyAll A M₁ (grantedBy l s M₁ cs))
+    pub passes-after : (cs : List Told) → Passes d (applyAll A M₁ (grantedBy s M₁ cs))
     passes-after cs =
-        let k = kept W (cleared .fit .long) (cleared-sound W values M₁ cleared) (calls-granted l s M₁ cs) in
+        let k = kept W (cleared .fit .long) (cleared-sound W values M₁ cleared) (calls-granted s M₁ cs) in
         record {
-          waits = ap length (all-waiting A M₁ (grantedBy l s M₁ cs)) ∙ length-map (pipeOrder A) (λ e. getD values e 0) ∙ D .elements-add;
-          list = all-length A M₁ (grantedBy l s M₁ cs) ∙ length-replicate {A = ℕ} (lengthOf d) 0;
+          waits = ap length (all-waiting A M₁ (grantedBy s M₁ cs)) ∙ length-map (pipeOrder A) (λ e. getD values e 0) ∙ D .elements-add;
+          list = all-length A M₁ (grantedBy s M₁ cs) ∙ length-replicate {A = ℕ} (lengthOf d) 0;
           long = omega (arith, cleared .fit .long, written-length W (k .written), words-are d);
           sound = k .sound;
         }

@@ -19,7 +19,7 @@ use Rattle.meaning.specs.Description.{sizesOf, bodyLine, noLine, descriptionOf,
 use Rattle.meaning.specs.Accept.{refusalOf, accept, Accepts}
 use Rattle.meaning.specs.Answers.{acceptNumber}
 use Rattle.meaning.specs.Calls.{orElse}
-use Rattle.meaning.specs.Conditions.{SizesFit, formerTotal, GuardFits, WordsFit, Meets, Condition, Condition.Begins, Condition.Sizes-fit, Condition.Long, Condition.Words-fit, Asks}
+use Rattle.meaning.specs.Conditions.{SizesFit, formerTotal, GuardFits, WordsFit, Meets, Condition, Condition.Board, Condition.Begins, Condition.Sizes-fit, Condition.Long, Condition.Words-fit, Asks}
 use Rattle.meaning.specs.Demand1.{Numbers}
 use Rattle.meaning.specs.FixedPoint.{conditionsAfter}
 use Rattle.meaning.specs.Leaves.{Compares, Compares.always, Runs}
