@@ -14,9 +14,9 @@ use Rattle.meaning.specs.Alike.{AnsweredAlike, DeclinedBy, Serves, Serves.decli
 use Rattle.guarantee.specs.Demand1.{demand-one}
 
 -- one refusal: every call answers and leaves the same
-pub alike : (l k : Limits) (s : List ℕ) → refusalOf l s ≡ refusalOf k s → AnsweredAlike l k s
+pub same-refusal : (l k : Limits) (s : List ℕ) → refusalOf l s ≡ refusalOf k s → AnsweredAlike l k s
 unfolding accept table start step run readyCall window result plainRun
-alike l k s r =
+same-refusal l k s r =
     record {
       accept = ap (answerOf s) r;
       table = λ rows. (rw r, rw r);
@@ -56,5 +56,5 @@ pub serves : (l k : Limits) (s : List ℕ) → refusalOf l s ≡ 0 → Serves l 
 serves l k s e = go (ℕ-discrete (refusalOf k s) 0)
   where
     go : Dec (refusalOf k s ≡ 0) → Serves l k s
-    go (yes f) = as-under (alike k l s (f ∙ sym e))
+    go (yes f) = as-under (same-refusal k l s (f ∙ sym e))
     go (no n) = declines (refusalOf k s) n (declined k s (refusalOf k s) n refl) (demand-one k s .unchanged)

@@ -10,11 +10,11 @@ use Rattle.meaning.specs.declared.Acceptance.the-variants.{Accepted, Refused}
 use Rattle.meaning.specs.Description.{sizesOf, descriptionOf}
 use Rattle.meaning.specs.Accept.{refusalOf, accept, figures, divisors}
 use Rattle.meaning.specs.Answers.{acceptNumber}
-use Rattle.meaning.specs.Calls.{table, start, step, run, readyCall, window, result, plainRun}
 use Rattle.meaning.specs.Conditions.{Meets, Condition, Asks, conditions, FirstFails}
-use Rattle.meaning.specs.FivePlaces.{AnsweredAlike}
+use Rattle.meaning.specs.Alike.{AnsweredAlike, DeclinedBy}
 use Rattle.guarantee.specs.Acceptance.{meets-of, of-meets, accepted-exactly, refused-exactly}
 use Rattle.guarantee.specs.Demand1.{demand-one}
+use Rattle.guarantee.specs.Alike.{same-refusal, declined}
 
 -- ---- Accept's answer, with the conditions that it stands for
 
@@ -70,19 +70,8 @@ same-answer {l} {k} {s} on back = go (answered l s)
 -- ---- one answer of Accept: every call answers and leaves the same
 
 pub alike : (l k : Limits) (s : List ℕ) → accept l s ≡ accept k s → AnsweredAlike l k s
-unfolding table start step run readyCall window result plainRun
-alike l k s e =
-    record {
-      accept = e;
-      table = λ rows. (rw r, rw r);
-      start = λ values M. (rw r, rw r);
-      step = λ kind number stream M. (rw r, rw r);
-      run = λ n M. (rw r, rw r);
-      ready = λ words M. (rw r, rw r);
-      window = λ pipe side waiting received. (rw r, rw r);
-      result = λ output M. (rw r, rw r);
-      plain = λ values output. (rw r, rw r);
-    }
-  where
-    r : refusalOf l s ≡ refusalOf k s
-    r = sym (demand-one l s .numbers .accept) ∙ ap acceptNumber e ∙ demand-one k s .numbers .accept
+alike l k s e = same-refusal l k s (sym (demand-one l s .numbers .accept) ∙ ap acceptNumber e ∙ demand-one k s .numbers .accept)
+
+-- what Accept refuses every call declines
+pub refused-declines : (l : Limits) (s : List ℕ) (k : ℕ) → (k ≡ 0 → ⊥) → accept l s ≡ Refused k → DeclinedBy l s k
+refused-declines l s k n e = declined l s k n (sym (demand-one l s .numbers .accept) ∙ ap acceptNumber e)

@@ -11,7 +11,7 @@ use lib.Signed.{_≤ℤ_, _<ℤ_, ltZ}
 use Rattle.integers.specs.Differences.{le-out, lt-out, le-in}
 use Rattle.integers.specs.Words.{less, not-less}
 use Rattle.meaning.specs.declared.Acceptance.the-variants.{Refused}
-use Rattle.meaning.specs.Limits.{gaugeLimits, formerLimits}
+use Rattle.meaning.specs.Limits.{limitsOf, formerLimits}
 use Rattle.meaning.specs.Lists.{numbers}
 use Rattle.meaning.specs.Loops.{stepOf}
 use Rattle.meaning.specs.Points.{Between}
@@ -28,8 +28,8 @@ use Rattle.requests.specs.Answered.{Answered, Answered.meets, Answered.f
 module _ {i : ℕ} (m : ℕ) where
   hop-listed : i < m → In (Hop i) (conditions m)
   hop-listed h =
-      there (there (there (there (there (there (there (there (there
-      (in-each ofStream (in-numbers 0 m i (omega arith) (omega arith)) (there (there (there (here refl)))))))))))))
+      there (there (there (there (there (there (there (there (there (there
+      (in-each ofStream (in-numbers 0 m i (omega arith) (omega arith)) (there (there (there (here refl))))))))))))))
 
   -- a condition of another number is no hop
   other : {c : Condition} → Hop i ≡ c → (14 ≡ numberOf c → ⊥) → i < m
@@ -54,7 +54,8 @@ module _ {i : ℕ} (m : ℕ) where
   listed-hop (there (there (there (there (there (there (here e))))))) = other e (λ k. omega arith)
   listed-hop (there (there (there (there (there (there (there (here e)))))))) = other e (λ k. omega arith)
   listed-hop (there (there (there (there (there (there (there (there (here e))))))))) = other e (λ k. omega arith)
-  listed-hop (there (there (there (there (there (there (there (there (there k))))))))) =
+  listed-hop (there (there (there (there (there (there (there (there (there (here e)))))))))) = other e (λ k. omega arith)
+  listed-hop (there (there (there (there (there (there (there (there (there (there k)))))))))) =
       let r = each-in ofStream (numbers m) k in
       let b = numbers-in 0 m (r .mem) in
       of-stream (r .from) (omega (arith, b .1)) (r .is)
@@ -69,12 +70,13 @@ by-less w h none = go (ltZ w (pos 6)) refl
 
 -- ---- all conditions but the hop are what they were
 
-module _ (s : List ℕ) where
+module _ (board : ℕ) (s : List ℕ) where
   data Stays (c : Condition) : Type 1 where
-    stays : Asks gaugeLimits s c ≡ Asks formerLimits s c → Stays c
+    stays : Asks (limitsOf board) s c ≡ Asks (formerLimits board) s c → Stays c
     hop : (i : ℕ) → c ≡ Hop i → Stays c
 
   compared : (c : Condition) → Stays c
+  compared Board = stays refl
   compared Begins = stays refl
   compared Sizes-fit = stays refl
   compared Long = stays refl
@@ -93,47 +95,47 @@ module _ (s : List ℕ) where
   compared (Touched i) = stays refl
 
   -- what was asked before is asked still, and of hops more
-  widened : (c : Condition) → Listed s c → Asks gaugeLimits s c → Asks formerLimits s c
+  widened : (c : Condition) → Listed s c → Asks (limitsOf board) s c → Asks (formerLimits board) s c
   widened c k a = go (compared c)
     where
-      go : Stays c → Asks formerLimits s c
+      go : Stays c → Asks (formerLimits board) s c
       go (stays e) = subst (λ (A : Type 0). A) e a
-      go (hop i e) = subst (Asks formerLimits s) (sym e) (longer (subst (Asks gaugeLimits s) e a))
+      go (hop i e) = subst (Asks (formerLimits board) s) (sym e) (longer (subst (Asks (limitsOf board) s) e a))
         where
-          longer : Asks gaugeLimits s (Hop i) → Asks formerLimits s (Hop i)
+          longer : Asks (limitsOf board) s (Hop i) → Asks (formerLimits board) s (Hop i)
           longer h u l m = le-in (omega (arith, le-out (h u l m)))
 
   -- a hop that was short enough and is none from 6 to 8 is short enough
   narrowed : ((i : ℕ) → i < sizesOf s .streams → LongHop (descriptionOf s) i → ⊥) → (c : Condition) → Listed s c
-      → Asks formerLimits s c → Asks gaugeLimits s c
+      → Asks (formerLimits board) s c → Asks (limitsOf board) s c
   narrowed none c k a = go (compared c)
     where
-      go : Stays c → Asks gaugeLimits s c
+      go : Stays c → Asks (limitsOf board) s c
       go (stays e) = subst (λ (A : Type 0). A) (sym e) a
-      go (hop i e) = subst (Asks gaugeLimits s) (sym e) (short (subst (Asks formerLimits s) e a))
+      go (hop i e) = subst (Asks (limitsOf board) s) (sym e) (short (subst (Asks (formerLimits board) s) e a))
         where
           inside : i < sizesOf s .streams
           inside = listed-hop (sizesOf s .streams) (subst (Listed s) e k)
 
-          short : Asks formerLimits s (Hop i) → Asks gaugeLimits s (Hop i)
+          short : Asks (formerLimits board) s (Hop i) → Asks (limitsOf board) s (Hop i)
           short h u l m =
               by-less (stepOf (descriptionOf s .nest) u) (h u l m)
               (λ b. none i inside (record { line = u; is-line = l; moves = m; hop = b }))
 
   -- ---- the three claims
 
-  refused : (i : ℕ) → i < sizesOf s .streams → LongHop (descriptionOf s) i → RefusedByThen gaugeLimits s (Hop i)
-  refused i h long = go (answered gaugeLimits s)
+  refused : (i : ℕ) → i < sizesOf s .streams → LongHop (descriptionOf s) i → RefusedByThen (limitsOf board) s (Hop i)
+  refused i h long = go (answered (limitsOf board) s)
     where
-      broken : Asks gaugeLimits s (Hop i) → ⊥
+      broken : Asks (limitsOf board) s (Hop i) → ⊥
       broken a = omega (arith, le-out (a (long .line) (long .is-line) (long .moves)), le-out (long .hop .lo))
 
-      go : Answered gaugeLimits s → RefusedByThen gaugeLimits s (Hop i)
+      go : Answered (limitsOf board) s → RefusedByThen (limitsOf board) s (Hop i)
       go (meets m) = absurd (broken (m .streams i h .hop))
       go (fails k f) =
           record {
             number = k;
-            answer = refused-exactly gaugeLimits s k .1 f;
+            answer = refused-exactly (limitsOf board) s k .1 f;
             first = f;
             by-then = after (List·Memᴰ·append-cases (f .passed) (subst (In (Hop i)) (f .order) (hop-listed (sizesOf s .streams) h)));
           }
@@ -142,22 +144,22 @@ module _ (s : List ℕ) where
           after (inl j) = absurd (broken (f .holds (Hop i) j))
           after (inr j) = j
 
-  only-fourteen : (accept gaugeLimits s ≡ accept formerLimits s) ⊎ (accept gaugeLimits s ≡ Refused 14)
-  only-fourteen = go (answered gaugeLimits s)
+  only-fourteen : (accept (limitsOf board) s ≡ accept (formerLimits board) s) ⊎ (accept (limitsOf board) s ≡ Refused 14)
+  only-fourteen = go (answered (limitsOf board) s)
     where
-      go : Answered gaugeLimits s → (accept gaugeLimits s ≡ accept formerLimits s) ⊎ (accept gaugeLimits s ≡ Refused 14)
+      go : Answered (limitsOf board) s → (accept (limitsOf board) s ≡ accept (formerLimits board) s) ⊎ (accept (limitsOf board) s ≡ Refused 14)
       go (meets m) = inl (both-accept widened m)
       go (fails k f) = by (compared (f .failed))
         where
-          by : Stays (f .failed) → (accept gaugeLimits s ≡ accept formerLimits s) ⊎ (accept gaugeLimits s ≡ Refused 14)
+          by : Stays (f .failed) → (accept (limitsOf board) s ≡ accept (formerLimits board) s) ⊎ (accept (limitsOf board) s ≡ Refused 14)
           by (stays e) = inl (both-refuse widened f (λ i a. f .fails (subst (λ (A : Type 0). A) (sym e) a)))
-          by (hop i e) = inr (refused-exactly gaugeLimits s k .1 f ∙ ap Refused (sym (f .number) ∙ ap numberOf e))
+          by (hop i e) = inr (refused-exactly (limitsOf board) s k .1 f ∙ ap Refused (sym (f .number) ∙ ap numberOf e))
 
 -- REQUEST 2.8
 pub five-places : FivePlacesAreEnough
-five-places s =
+five-places board s =
     record {
-      as-before = λ none. alike gaugeLimits formerLimits s (same-answer (widened s) (narrowed s none));
-      refused = refused s;
-      only-fourteen = only-fourteen s;
+      as-before = λ none. alike (limitsOf board) (formerLimits board) s (same-answer (widened board s) (narrowed board s none));
+      refused = refused board s;
+      only-fourteen = only-fourteen board s;
     }

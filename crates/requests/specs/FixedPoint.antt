@@ -13,9 +13,9 @@ use Rattle.meaning.specs.declared.Description.{Description}
 use Rattle.meaning.specs.Tests.{refusal}
 use Rattle.meaning.specs.Points.{Between}
 use Rattle.meaning.specs.Description.{sizesOf, lineAt, bodyLine, descriptionOf, linesOf}
-use Rattle.meaning.specs.Accept.{byteTests, refusalOf, answerOf, accept}
+use Rattle.meaning.specs.Accept.{refusalOf, answerOf, accept}
 use Rattle.meaning.specs.Conditions.{WordsFit}
-use Rattle.meaning.specs.FixedPoint.{HasSix, hasSix, testsAfter, formerTests, formerAccept, conditionsBefore, conditionsAfter, WasFour, FixedPoint}
+use Rattle.meaning.specs.FixedPoint.{testsBefore, HasSix, hasSix, testsAfter, formerTests, formerAccept, conditionsBefore, conditionsAfter, WasFour, FixedPoint}
 use Rattle.geometry.specs.Tests.{numbered}
 use Rattle.network.specs.Decide.{Says}
 use Rattle.guarantee.specs.StreamConditions.{says-line}
@@ -39,7 +39,7 @@ module _ (l : Limits) (s : List ℕ) where
 
   four : Dropped l s conditionsBefore (conditionsAfter (sizesOf s .streams)) (HasSix d) 4 (refusal (formerTests l s))
   unfolding refusalOf numbered
-  four = dropped l s conditionsBefore (conditionsAfter (sizesOf s .streams)) (byteTests s) (testsAfter l s) 4 (says-six d) refl tt (tries l s) refl
+  four = dropped l s conditionsBefore (conditionsAfter (sizesOf s .streams)) (testsBefore l s) (testsAfter l s) 4 (says-six d) refl tt (tries l s) refl
 
   as-before : (WasFour l s → ⊥) → accept l s ≡ formerAccept l s
   unfolding accept

@@ -1,12 +1,10 @@
 -- Request 2.5, "guards on body lines": descriptions of the older length are declined by 3, guards out of range by 4, and a line runs only if its index compares
 -- so. Assumes nothing.
-use mathlib.Core.Path.{_≡_, refl, sym, _∙_, ap, subst}
-use mathlib.Core.Bool.{Bool, cond}
+use mathlib.Core.Path.{_≡_, refl, sym, subst}
 use mathlib.Core.List.{List, [], _∷_, List·Memᴰ as In, List·Memᴰ·head as here, List·Memᴰ·tail as there}
 use Prim.Native.Nat.{ℕ, _+_, _*_, _-_, _^_, _<_}
 use native.Mathlib.Omega.{arith}
 use lib.ListN.{length, getD}
-use borrow.Author.Tests.{ne-eqb}
 use Rattle.integers.specs.Bytes.{wordAt}
 use Rattle.integers.specs.declared.V3.{V3}
 use Rattle.meaning.specs.declared.Limits.{Limits}
@@ -16,17 +14,15 @@ use Rattle.meaning.specs.declared.Acceptance.the-variants.{Refused}
 use Rattle.meaning.specs.Operations.{lastOperation}
 use Rattle.meaning.specs.Guards.{indexOf}
 use Rattle.meaning.specs.Description.{sizesOf, bodyLine, noLine, descriptionOf, linesOf}
-use Rattle.meaning.specs.Accept.{refusalOf, accept, Accepts}
-use Rattle.meaning.specs.Answers.{acceptNumber}
-use Rattle.meaning.specs.Calls.{orElse}
-use Rattle.meaning.specs.Conditions.{SizesFit, formerTotal, GuardFits, WordsFit, Meets, Condition, Condition.Board, Condition.Begins, Condition.Sizes-fit, Condition.Long, Condition.Words-fit, Asks}
-use Rattle.meaning.specs.Demand1.{Numbers}
+use Rattle.meaning.specs.Accept.{accept, Accepts}
+use Rattle.meaning.specs.Conditions.{Known, SizesFit, formerTotal, GuardFits, WordsFit, Meets, Condition, Condition.Board, Condition.Begins, Condition.Sizes-fit, Condition.Long, Condition.Words-fit, Asks}
 use Rattle.meaning.specs.FixedPoint.{conditionsAfter}
+use Rattle.meaning.specs.Alike.{DeclinedBy}
 use Rattle.meaning.specs.Leaves.{Compares, Compares.always, Runs}
-use Rattle.meaning.specs.GuardedLines.{HasWords, DeclinedBy, conditionsBefore, GuardedLines}
+use Rattle.meaning.specs.GuardedLines.{HasWords, conditionsBefore, GuardedLines}
 use Rattle.guarantee.specs.Acceptance.{accepted-not-refused, refused-exactly}
-use Rattle.guarantee.specs.Demand1.{demand-one}
 use Rattle.requests.specs.BodyLines.{Allowed, word-bits, line-at, allowed}
+use Rattle.requests.specs.Answered.{refused-declines}
 use Rattle.requests.specs.AnyGuard.{any-guard}
 use Rattle.requests.specs.Guards.{index-is}
 use Rattle.requests.specs.RunsLoops.{accepted-meets, runs-loops}
@@ -46,36 +42,12 @@ module _ (l : Limits) (s : List ℕ) where
 
   -- ---- refusals
 
-  -- what Accept declines every call declines
-  declined : (k : ℕ) → (k ≡ 0 → ⊥) → accept l s ≡ Refused k → DeclinedBy l s k
-  declined k n e =
-      record {
-        accept = e;
-        table = λ rows. by _ (m .table rows);
-        start = λ values M. by _ (m .start values M);
-        step = λ kind number stream M. by _ (m .step kind number stream M);
-        run = λ n M. by _ (m .run n M);
-        ready = λ words M. by _ (m .ready words M);
-        window = λ pipe side waiting received. by _ (m .window pipe side waiting received);
-        result = λ output M. by _ (m .result output M);
-        plain = λ values output. by _ (m .plain values output);
-      }
-    where
-      m : Numbers l s
-      m = demand-one l s .numbers
-
-      number : refusalOf l s ≡ k
-      number = sym (m .accept) ∙ ap acceptNumber e
-
-      by : {a : ℕ} (r : ℕ) → a ≡ orElse (refusalOf l s) r → a ≡ k
-      by r h = h ∙ ap (λ (c : ℕ). orElse c r) number ∙ ap (λ (b : Bool). cond b r k) (ne-eqb k 0 n)
-
-  older-length : SizesFit z → length s ≡ 4 * formerTotal z → DeclinedBy l s 3
-  older-length f e =
-      declined 3 (λ g. omega arith)
+  older-length : Known l → SizesFit z → length s ≡ 4 * formerTotal z → DeclinedBy l s 3
+  older-length known f e =
+      refused-declines l s 3 (λ g. omega arith)
       (refused-exactly l s 3 .1
       (record {
-        passed = Begins ∷ Sizes-fit ∷ [];
+        passed = Board ∷ Begins ∷ Sizes-fit ∷ [];
         failed = Long;
         rest = Words-fit ∷ conditionsAfter (z .streams);
         order = refl;
@@ -84,9 +56,10 @@ module _ (l : Limits) (s : List ℕ) where
         fails = λ now. omega (arith, f .lines .0);
       }))
     where
-      held : (c : Condition) → In c (Begins ∷ Sizes-fit ∷ []) → Asks l s c
-      held c (here p) = subst (Asks l s) (sym p) (omega arith)
-      held c (there (here p)) = subst (Asks l s) (sym p) f
+      held : (c : Condition) → In c (Board ∷ Begins ∷ Sizes-fit ∷ []) → Asks l s c
+      held c (here p) = subst (Asks l s) (sym p) known
+      held c (there (here p)) = subst (Asks l s) (sym p) (omega arith)
+      held c (there (there (here p))) = subst (Asks l s) (sym p) f
 
   covered : ((c : Condition) → In c conditionsBefore → Asks l s c) → (i : ℕ) → i < z .lines → (GuardFits s z i → ⊥) → accept l s ≡ Refused 4
   covered held i h n =

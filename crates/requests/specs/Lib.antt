@@ -16,3 +16,4 @@ pub mod FixedPoint
 pub mod GuardedLines
 pub mod CommonDivisors
 pub mod WalkByProcess
+pub mod BenchBoard

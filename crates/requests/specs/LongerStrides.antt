@@ -42,8 +42,8 @@ module _ (l : Limits) (s : List ℕ) where
   -- where 1 to 8 hold there is an increment
   increment-line : Held l s conditionsBefore → IsLine n (n .place) (increment n)
   increment-line h =
-      line-found n (n .place) (h Place-rank (there (there (there (there (there (there (here refl))))))))
-      (h Increment (there (there (there (there (there (there (there (here refl)))))))))
+      line-found n (n .place) (h Place-rank (there (there (there (there (there (there (there (here refl)))))))))
+      (h Increment (there (there (there (there (there (there (there (there (here refl))))))))))
 
   abbrev Was : Type 0
   Was = Compared l s conditionsBefore (Short (increment n) → ⊥) 9 (refusal (formerTests l s))

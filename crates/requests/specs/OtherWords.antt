@@ -25,7 +25,7 @@ use Rattle.meaning.specs.declared.Acceptance.the-variants.{Accepted, Refused}
 use Rattle.meaning.specs.Tests.{_if_, refusal}
 use Rattle.meaning.specs.Lists.{any, numbersFrom}
 use Rattle.meaning.specs.Description.{sizesOf, matrixWords, leftAt, rightAt, directionAt, stepAt, placeAt, mapAt, loadingAt, lineAt, wordsOf, inRange, vectorAt, unit3, matrixAt, nestOf, loadingOf, streamOf, bodyLine, noStream, descriptionOf, streamsOf, written, refused1, refused2, refused3, refused4}
-use Rattle.meaning.specs.Accept.{nestTests, testsFrom, refusalOf, figures, divisors, accept}
+use Rattle.meaning.specs.Accept.{refused33, nestTests, testsFrom, refusalOf, figures, divisors, accept}
 use Rattle.meaning.specs.Conditions.{SizesFit}
 use Rattle.network.specs.Cases.{Order, less, atLeast, order}
 use Rattle.network.specs.Lists.{same-numbers, same-every}
@@ -41,7 +41,7 @@ module _ (l : Limits) where
   answered u z d =
       let k =
       refusal
-      ((1 if refused1 u) ∷ (2 if refused2 z) ∷ (3 if refused3 u z) ∷ (4 if refused4 u z) ∷ (nestTests l (d .nest) ++ testsFrom l d 0 (streamsOf d))) in
+      ((33 if refused33 l) ∷ (1 if refused1 u) ∷ (2 if refused2 z) ∷ (3 if refused3 u z) ∷ (4 if refused4 u z) ∷ (nestTests l (d .nest) ++ testsFrom l d 0 (streamsOf d))) in
       cond (eqb k 0) (Accepted (figures d) (divisors d)) (Refused k)
 
   accept-is : (u : List ℕ) → accept l u ≡ answered u (sizesOf u) (decoded u (sizesOf u))
@@ -49,13 +49,14 @@ module _ (l : Limits) where
   accept-is u = refl
 
   -- sizes that do not fit are refused before anything is decoded
-  by-sizes : (u : List ℕ) (z : Sizes) (d : Description) → refused2 z ≡ true → answered u z d ≡ Refused (cond (refused1 u) 1 2)
+  by-sizes : (u : List ℕ) (z : Sizes) (d : Description) → refused2 z ≡ true → answered u z d ≡ Refused (cond (refused33 l) 33 (cond (refused1 u) 1 2))
   unfolding refusal
-  by-sizes u z d e = rw e (go (refused1 u))
+  by-sizes u z d e = rw e (go (refused33 l) (refused1 u))
     where
-      go : (b : Bool) → cond (eqb (cond b 1 2) 0) (Accepted (figures d) (divisors d)) (Refused (cond b 1 2)) ≡ Refused (cond b 1 2)
-      go true = refl
-      go false = refl
+      go : (a b : Bool) → let k : ℕ = cond a 33 (cond b 1 2) in cond (eqb k 0) (Accepted (figures d) (divisors d)) (Refused k) ≡ Refused k
+      go true b = refl
+      go false true = refl
+      go false false = refl
 
   -- descriptions with the same nest and streams, which write the same streams
   module _ (d d' : Description) (n : d .nest ≡ d' .nest) (w : (i : ℕ) → written d i ≡ written d' i) where
@@ -189,7 +190,7 @@ module _ {s t : List ℕ} (o : OtherWords s t) where
 
       go : (b : Bool) → refused2 z ≡ b → Refuses (SizesFit z) b → accept l s ≡ accept l t
       go true e (broken f) =
-          accept-is l s ∙ by-sizes l s z (decoded s z) e ∙ ap (λ (n : ℕ). Refused (cond (ltb n 12) 1 2)) (o .long)
+          accept-is l s ∙ by-sizes l s z (decoded s z) e ∙ ap (λ (n : ℕ). Refused (cond (refused33 l) 33 (cond (ltb n 12) 1 2))) (o .long)
           ∙ sym (by-sizes l t z (decoded t z) e) ∙ sym other
       go false e (met h) =
           accept-is l s

@@ -14,7 +14,7 @@ use Rattle.meaning.specs.Accept.{refusalOf, answerOf, accept, Accepts}
 use Rattle.meaning.specs.Rules.{Memory}
 use Rattle.meaning.specs.Calls.{lengthOf, start, result, Written, plainRun}
 use Rattle.meaning.specs.Conditions.{Meets}
-use Rattle.meaning.specs.Demand3.{Call, memoryAfter, grantedBy, allReceived}
+use Rattle.meaning.specs.Demand3.{Told, memoryAfter, grantedBy, allReceived}
 use Rattle.meaning.specs.Leaves.{LoopsLeave, Words, RunsLoops}
 use Rattle.network.specs.Starts.{proper}
 use Rattle.guarantee.specs.Acceptance.{accepted-not-refused, accepted-exactly}
@@ -43,12 +43,12 @@ module _ (l : Limits) (s : List ℕ) where
         λ g. loops .1 (ap (λ (o : Written l s). o .output) (sym g ∙ done)),
       )
 
-  network : (values : List ℕ) (M : Memory) → start l s values M .answer ≡ Done → (cs : List Call)
-      → allReceived d (grantedBy l s (start l s values M .memory) cs) ≡ true → (output : List ℕ) → length output ≡ lengthOf d
-      → result l s output (memoryAfter l s (start l s values M .memory) cs) ≡ plainRun l s values output
+  network : (values : List ℕ) (M : Memory) → start l s values M .answer ≡ Done → (cs : List Told)
+      → allReceived d (grantedBy s (start l s values M .memory) cs) ≡ true → (output : List ℕ) → length output ≡ lengthOf d
+      → result l s output (memoryAfter s (start l s values M .memory) cs) ≡ plainRun l s values output
   network values M e cs out output h =
       let p = proper l s values M e in
-      guarantee l s values M e cs .late out output h ∙ sym (plain-done l s (p .accepted) values output (p .values-length) h)
+      guarantee l s values M e .after cs .late out output h ∙ sym (plain-done l s (p .accepted) values output (p .values-length) h)
 
   pub runs-loops : RunsLoops l s
   runs-loops = record { plain = plain; network = network }

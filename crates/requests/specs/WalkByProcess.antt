@@ -1,6 +1,7 @@
 -- Request 2.4, "walk by process": a whole walk comes to every instance exactly once and to nothing else, in that order, and Accept answers every description as
 -- before. Assumes nothing.
 use mathlib.Core.Path.{_≡_, refl, sym, _∙_, ap, ap₂}
+use mathlib.Core.Logic.{_⊎_, inl, inr}
 use mathlib.Core.Bool.{Bool, true, false, not, cond}
 use mathlib.Core.List.{List, [], _∷_, _++_}
 use Prim.Native.Nat.{ℕ, suc, _≤_}
@@ -16,7 +17,7 @@ use Rattle.meaning.specs.Lists.{any, every}
 use Rattle.meaning.specs.Tests.{Test, _if_, refusal}
 use Rattle.meaning.specs.Streams.{elements, touches}
 use Rattle.meaning.specs.Description.{descriptionOf, streamsOf, written}
-use Rattle.meaning.specs.Accept.{refused17, streamTests, testsFrom, refusalOf, answerOf, accept}
+use Rattle.meaning.specs.Accept.{refused33, refused17, streamTests, nestTests, byteTests, testsFrom, refusalOf, answerOf, accept}
 use Rattle.meaning.specs.Answers.{acceptNumber}
 use Rattle.meaning.specs.Walk.{walkTests, walkRefusal, untouchedOnWalk, walkingFrom, walkingAccept, WalkByProcess}
 use Rattle.geometry.specs.Tests.{one-applies}
@@ -57,21 +58,32 @@ module _ (l : Limits) (s : List ℕ) where
   abbrev d : Description
   d = descriptionOf s
 
-  walk-most : walkRefusal l s ≤ 10
-  unfolding walkRefusal every
-  walk-most = refusal-most 10 (walkTests l s) tt
+  walk-most : (walkRefusal l s ≡ 33) ⊎ (walkRefusal l s ≤ 10)
+  unfolding walkRefusal every refusal
+  walk-most = go (refused33 l)
+    where
+      after : List Test
+      after = byteTests s ++ nestTests l (d .nest)
+
+      go : (b : Bool) → (cond b 33 (refusal after) ≡ 33) ⊎ (cond b 33 (refusal after) ≤ 10)
+      go true = inl refl
+      go false = inr (refusal-most 10 after tt)
 
   -- one of the refusals 1 to 10 is Accept's, whatever comes after them
   refused : (walkRefusal l s ≡ 0 → ⊥) → walkRefusal l s ≡ acceptNumber (accept l s)
   unfolding walkRefusal refusalOf
   refused f = one-applies (walkTests l s) (testsFrom l d 0 (streamsOf d)) f ∙ sym (demand-one l s .numbers .accept)
 
-  by-stream : 11 ≤ acceptNumber (accept l s) → walkRefusal l s ≡ 0
-  by-stream h = go (ℕ-discrete (walkRefusal l s) 0)
+  by-stream : 11 ≤ acceptNumber (accept l s) → acceptNumber (accept l s) ≤ 17 → walkRefusal l s ≡ 0
+  by-stream h k = go (ℕ-discrete (walkRefusal l s) 0)
     where
+      none : (walkRefusal l s ≡ 0 → ⊥) → (walkRefusal l s ≡ 33) ⊎ (walkRefusal l s ≤ 10) → ⊥
+      none f (inl e) = omega (arith, refused f)
+      none f (inr e) = omega (arith, refused f)
+
       go : Dec (walkRefusal l s ≡ 0) → walkRefusal l s ≡ 0
       go (yes e) = e
-      go (no f) = absurd (omega (arith, refused f, walk-most))
+      go (no f) = absurd (none f walk-most)
 
   as-before : walkingAccept l s ≡ accept l s
   unfolding walkRefusal refusalOf accept
