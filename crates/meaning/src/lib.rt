@@ -34,6 +34,7 @@
 //   GuardedRuns       runs under guards, plainly and in two orders
 //   Slanted           divisors above 1, and a run of a slanted grid
 //   Walks             walks beside the written order
+//   Boards            what each board holds, another board word, and a run whose calls are told different boards
 //
 // Two loops are three, the third running from 0 to 0: its direction is 1, its step coefficient 0; place and every index map get a second row
 // (0, 0, 1), and a loading vector a second component 0. Then one set of definitions serves both.
