@@ -32,7 +32,7 @@ use Rattle.decode.specs.Refusals.{firstTests, passed}
 use Rattle.decode.specs.Ranged.{Decoded, decoded}
 use Rattle.refusals.specs.InRange.{InRange, in-range}
 use Rattle.refusals.specs.Small.{small-is}
-use Rattle.refusals.specs.Stages.{layoutTests, walk-tests, few, few-processes, all-tests}
+use Rattle.refusals.specs.Stages.{layoutTests, earlyTests, walk-tests, few, few-processes, all-tests}
 
 -- ---- one stream
 
@@ -104,13 +104,17 @@ each-passes l d i (suc k) (s ∷ ss) e h =
     subst (λ (j : ℕ). refusal (streamTests l (d .nest) (written d j) (getD ss k noStream)) ≡ 0) z
     (each-passes l d (suc i) k ss (both-pass (streamTests l (d .nest) (written d i) s) (testsFrom l d (suc i) ss) tt e .1) (omega arith))
 
+-- what 33 and 1 to 5 leave
+pub early-decoded : (l : Limits) (s : List ℕ) → refusal (earlyTests l s) ≡ 0 → Decoded s
+early-decoded l s e = decoded s (passed 33 (refused33 l) (firstTests s) (λ g. omega arith) e .1)
+
 -- what 33 and 1 to 10 leave
 pub walk-within : (l : Limits) (s : List ℕ) → walkRefusal l s ≡ 0 → Decoded s × NestWithin l (descriptionOf s .nest)
 unfolding numbered
 walk-within l s e =
     let n = descriptionOf s .nest in
-    let p = both-pass (firstTests s) (layoutTests l n) tt (passed 33 (refused33 l) _ (λ g. omega arith) (walk-tests l s ∙ e) .1) in
-    (decoded s (p .0), record { instances = few l n (p .1); processes = few-processes l n (p .1) })
+    let p = both-pass (earlyTests l s) (layoutTests l n) tt (walk-tests l s ∙ e) in
+    (early-decoded l s (p .0), record { instances = few l n (p .1); processes = few-processes l n (p .1) })
 
 -- an accepted description is in range and within the limits
 pub accepted-within : (l : Limits) (s : List ℕ) → refusalOf l s ≡ 0 → Decoded s × DescriptionWithin l (descriptionOf s)

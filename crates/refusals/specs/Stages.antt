@@ -1,7 +1,7 @@
 -- The refusals in stages, each a test or two and the stage after them; lists of tests one after the other; stream by stream. Assumes
 -- nothing.
-use mathlib.Core.Path.{_≡_, refl, sym, _∙_}
-use mathlib.Core.Bool.{Bool, true, false}
+use mathlib.Core.Path.{_≡_, refl, sym, _∙_, ap₂}
+use mathlib.Core.Bool.{Bool, true, false, cond}
 use mathlib.Core.List.{List, [], _∷_, _++_}
 use Prim.Native.Nat.{ℕ, _+_, _≤_, _<_}
 use native.Mathlib.Numerals.{add-one}
@@ -19,6 +19,7 @@ use Rattle.meaning.specs.Loops.{instances}
 use Rattle.meaning.specs.Space.{processes}
 use Rattle.meaning.specs.Description.{descriptionOf, streamsOf, noStream, written}
 use Rattle.meaning.specs.Accept.{refused33, refused6, refused7, refused8, refused10, refused13, refused14, refused15, refused16, refused17, streamTests, testsFrom, refusalOf}
+use Rattle.meaning.specs.Calls.{orElse}
 use Rattle.meaning.specs.Walk.{walkTests, walkRefusal}
 use Rattle.geometry.specs.Tests.{numbered, none-applies, one-applies}
 use Rattle.decode.specs.Refusals.{firstTests, refuses, passes, passed}
@@ -36,8 +37,21 @@ orderTests n w s = (15 if refused15 w n s) ∷ (16 if refused16 n s) ∷ (17 if 
 abbrev pub moveTests : Limits → Nest → Bool → Stream → List Test
 moveTests l n w s = (13 if refused13 n s) ∷ (14 if refused14 l n s) ∷ orderTests n w s
 
--- 33, and 1 to 10, after those of the bytes
-pub walk-tests : (l : Limits) (s : List ℕ) → refusal ((33 if refused33 l) ∷ (firstTests s ++ layoutTests l (descriptionOf s .nest))) ≡ walkRefusal l s
+-- 33 and 1 to 5: the board's refusal, or else that of the words
+abbrev pub earlyTests : Limits → List ℕ → List Test
+earlyTests l s = (33 if refused33 l) ∷ firstTests s
+
+pub early : (l : Limits) (s : List ℕ) {r b w : ℕ} → r ≡ orElse b w → b ≡ refusal ((33 if refused33 l) ∷ []) → w ≡ refusal (firstTests s)
+    → r ≡ refusal (earlyTests l s)
+unfolding refusal
+early l s e f g = e ∙ ap₂ orElse f g ∙ go (refused33 l)
+  where
+    go : (b : Bool) → orElse (cond b 33 0) (refusal (firstTests s)) ≡ cond b 33 (refusal (firstTests s))
+    go true = refl
+    go false = refl
+
+-- 33 and 1 to 10, after those
+pub walk-tests : (l : Limits) (s : List ℕ) → refusal (earlyTests l s ++ layoutTests l (descriptionOf s .nest)) ≡ walkRefusal l s
 unfolding descriptionOf walkRefusal
 walk-tests l s = refl
 

@@ -1,10 +1,12 @@
 // Whether a description is accepted, and by which number it is refused: 33 of request 2.9 and document 01's refusals 1 to 17, the first that applies. Between 10 and 11 the words of the
 // processes and of the walk are filled, once for all streams; those of the processes are handed on.
 ghost use mathlib.Core.Path.{_≡_};
-ghost use Rattle.meaning.specs.Tests.{refusal};
+ghost use mathlib.Core.List.{[], _∷_};
+ghost use Rattle.meaning.specs.Tests.{_if_, refusal};
 ghost use Rattle.meaning.specs.Limits.{limitsOf, gaugeLimits, UpTo};
 ghost use Rattle.meaning.specs.Description.{descriptionOf, streamsOf};
-ghost use Rattle.meaning.specs.Accept.{testsFrom, refusalOf};
+ghost use Rattle.meaning.specs.Accept.{refused33, testsFrom, refusalOf};
+ghost use Rattle.meaning.specs.Calls.{orElse};
 ghost use Rattle.meaning.specs.Walk.{walkRefusal};
 ghost use Rattle.layout.specs.Ends.{Ends};
 ghost use Rattle.walk.specs.Walked.{Along, Walkable};
@@ -15,14 +17,27 @@ use meaning::Nest;
 
 // ---- 33 and 1 to 10
 
+// Refusal 33: another board word than 0 and 1.
+fn board_refusal(limits: Limits) -> u32
+    ensures { λ r. ⌜ r ≡ refusal ((33 if refused33 limits) ∷ []) ⌝ }
+{
+    if 1 < limits.board { 33 } else { 0 }
+}
+
+// The first of two refusals.
+fn first_of(first: u32, second: u32) -> u32
+    ensures { λ r. ⌜ r ≡ orElse first second ⌝ }
+{
+    if first == 0 { second } else { first }
+}
+
 // The first of the refusals 33 and 1 to 10 that applies, 0 if none does.
 fn walk_refusal(s: &[u8], limits: Limits) -> u32
     ensures { λ r. ⌜ r ≡ walkRefusal limits (now (s .entry)) ⌝ }
 {
-    if 1 < limits.board {
-        return 33;
-    }
-    let r = ranges::refusal(s);
+    let board = board_refusal(limits);
+    let words = ranges::refusal(s);
+    let r = first_of(board, words);
     if r == 0 {
         let n = decode::description(s).nest;
         nests::nest_refusal(n, limits)
