@@ -1,8 +1,10 @@
 //! Whether the library answers what the second implementation answers, and leaves the same in every lent list.
 
+use reference::board::{BENCH, GAUGE};
 use reference::calls::{Accepted, Calls, Row};
 use reference::compare;
 use reference::random::Random;
+use reference::random_board::{self, OTHERS};
 use reference::random_description;
 use reference::random_divisor;
 use reference::random_stride;
@@ -15,17 +17,21 @@ pub const MARK: u32 = 7;
 
 /// The comparison's descriptions, and more than as many again that come from the seed.
 pub fn descriptions(seed: u64) -> Vec<Vec<u8>> {
-    let mut descriptions = compare::descriptions();
+    let records = compare::records().into_iter();
+    let mut descriptions: Vec<Vec<u8>> = records.map(|record| record.description).collect();
     let mut random = Random::new(seed);
-    for number in random_description::given().filter(|&number| number != 10) {
-        for _ in 0..20 {
-            descriptions.push(random_description::refused(&mut random, number));
+    for number in random_description::given() {
+        // Large arrays take long to make.
+        let count = if number == 10 { 4 } else { 20 };
+        for _ in 0..count {
+            let board = random_board::board(&mut random);
+            descriptions.push(random_description::refused(&mut random, board, number));
         }
     }
     for number in 11..=17 {
         for _ in 0..20 {
             let strided = random_stride::strided;
-            let refused = random_description::refused_from(&mut random, number, strided);
+            let refused = random_description::refused_from(&mut random, GAUGE, number, strided);
             descriptions.push(refused);
         }
     }
@@ -42,89 +48,120 @@ pub fn descriptions(seed: u64) -> Vec<Vec<u8>> {
         descriptions.push(description.bytes());
         descriptions.push(random_divisor::dependent(&mut random).bytes());
     }
-    for _ in 0..10 {
-        descriptions.push(random_description::large(&mut random).bytes());
+    for board in [GAUGE, BENCH] {
+        for _ in 0..10 {
+            descriptions.push(random_description::large(&mut random, board).bytes());
+        }
     }
     descriptions
 }
 
-/// Holds every call on a description against the second implementation.
-pub fn check(number: u32, description: &[u8]) {
-    let calls = Calls::on(description);
-    let accepted = calls.accept();
-    check_accept(description, accepted);
-    // A description that is declined counts as one process and one element.
-    let processes = accepted.map_or(1, |accepted| accepted.processes);
-    let elements = accepted.map_or(1, |accepted| accepted.elements);
-    let words = ROW_WORDS * processes;
-    for length in [0, words - 1, words, words + ROW_WORDS + 1, 1100 * ROW_WORDS] {
-        check_table(description, &calls, length);
+/// Holds every call on a description against the second implementation, on both boards and on a word that names none.
+pub fn check(number: usize, description: &[u8]) {
+    for board in [GAUGE, BENCH, OTHERS[number % OTHERS.len()]] {
+        Told::new(board, description).check(number as u32);
     }
-    let state = accepted.map_or(1, |accepted| accepted.words);
-    let right = [elements, elements, elements, state];
-    check_start(description, &calls, right);
-    for wrong in 0..right.len() {
-        for other in wrong..right.len() {
-            for more in [0, 2] {
-                let mut lengths = right;
-                lengths[wrong] = right[wrong] + more - 1;
-                lengths[other] = right[other] + more - 1;
-                check_start(description, &calls, lengths);
+}
+
+/// A description and a board word, with the second implementation's calls on them.
+pub struct Told<'a> {
+    pub board: u32,
+    pub description: &'a [u8],
+    pub calls: Calls,
+}
+
+impl Told<'_> {
+    pub fn new(board: u32, description: &[u8]) -> Told<'_> {
+        let calls = Calls::on(board, description);
+        Told {
+            board,
+            description,
+            calls,
+        }
+    }
+
+    /// Holds Accept, Table, Start and Plain run on values that come from a number against each other.
+    fn check(&self, number: u32) {
+        let accepted = self.calls.accept();
+        self.check_accept(accepted);
+        // A description that is declined counts as one process and one element.
+        let processes = accepted.map_or(1, |accepted| accepted.processes);
+        let elements = accepted.map_or(1, |accepted| accepted.elements);
+        let words = ROW_WORDS * processes;
+        for length in [0, words - 1, words, words + ROW_WORDS + 1, 1100 * ROW_WORDS] {
+            self.check_table(length);
+        }
+        let state = accepted.map_or(1, |accepted| accepted.words);
+        self.check_starts([elements, elements, elements, state]);
+        for given in [elements - 1, elements, elements + 1] {
+            for lent in [elements - 1, elements, elements + 1] {
+                self.check_plain_run(&compare::values(number, given), lent);
             }
         }
     }
-    for given in [elements - 1, elements, elements + 1] {
-        for lent in [elements - 1, elements, elements + 1] {
-            check_plain_run(description, &calls, &compare::values(number, given), lent);
+
+    fn check_accept(&self, expected: Result<Accepted, Refusal>) {
+        let mut figures = [MARK; FIGURES];
+        let number = library::accept(self.board, self.description, &mut figures);
+        let left = expected.map_or([MARK; FIGURES], |accepted| figures_of(&accepted));
+        assert_eq!((number, figures), (number_of(expected), left));
+    }
+
+    fn check_table(&self, length: usize) {
+        let mut rows = vec![Row::default(); length / ROW_WORDS];
+        let expected = self.calls.table(&mut rows);
+        let mut left = vec![MARK; length];
+        if let (Ok(()), Ok(accepted)) = (expected, self.calls.accept()) {
+            for (words, row) in left
+                .chunks_exact_mut(ROW_WORDS)
+                .zip(&rows[..accepted.processes])
+            {
+                words.copy_from_slice(&row_words(row));
+            }
+        }
+        let mut words = vec![MARK; length];
+        let number = library::table(self.board, self.description, &mut words);
+        assert_eq!((number, words), (number_of(expected), left));
+    }
+
+    /// Start on lists of the right lengths, and of one or two wrong ones.
+    fn check_starts(&self, right: [usize; 4]) {
+        self.check_start(right);
+        for wrong in 0..right.len() {
+            for other in wrong..right.len() {
+                for more in [0, 2] {
+                    let mut lengths = right;
+                    lengths[wrong] = right[wrong] + more - 1;
+                    lengths[other] = right[other] + more - 1;
+                    self.check_start(lengths);
+                }
+            }
         }
     }
-}
 
-fn check_accept(description: &[u8], expected: Result<Accepted, Refusal>) {
-    let mut figures = [MARK; FIGURES];
-    let number = library::accept(description, &mut figures);
-    let left = expected.map_or([MARK; FIGURES], |accepted| figures_of(&accepted));
-    assert_eq!((number, figures), (number_of(expected), left));
-}
-
-fn check_table(description: &[u8], calls: &Calls, length: usize) {
-    let mut rows = vec![Row::default(); length / ROW_WORDS];
-    let expected = calls.table(&mut rows);
-    let mut left = vec![MARK; length];
-    if let (Ok(()), Ok(accepted)) = (expected, calls.accept()) {
-        for (words, row) in left
-            .chunks_exact_mut(ROW_WORDS)
-            .zip(&rows[..accepted.processes])
-        {
-            words.copy_from_slice(&row_words(row));
-        }
+    /// Start on values, waiting, received and state of so many words.
+    fn check_start(&self, lengths: [usize; 4]) {
+        let [values, waiting, received, state] = lengths;
+        let values = compare::values(1, values);
+        let marked = [waiting, received, state].map(|length| vec![MARK; length]);
+        let mut left = marked.clone();
+        let [waiting, received, state] = &mut left;
+        let expected = self.calls.start(&values, waiting, received, state);
+        let mut lists = marked;
+        let [waiting, received, state] = &mut lists;
+        let lent: [&mut [u32]; 3] = [waiting, received, state];
+        let number = library::start(self.board, self.description, &values, lent);
+        assert_eq!(number, number_of(expected));
+        assert!(lists == left);
     }
-    let mut words = vec![MARK; length];
-    let number = library::table(description, &mut words);
-    assert_eq!((number, words), (number_of(expected), left));
-}
 
-/// Start on values, waiting, received and state of so many words.
-fn check_start(description: &[u8], calls: &Calls, lengths: [usize; 4]) {
-    let [values, waiting, received, state] = lengths;
-    let values = compare::values(1, values);
-    let marked = [waiting, received, state].map(|length| vec![MARK; length]);
-    let mut left = marked.clone();
-    let [waiting, received, state] = &mut left;
-    let expected = calls.start(&values, waiting, received, state);
-    let mut lists = marked;
-    let [waiting, received, state] = &mut lists;
-    let number = library::start(description, &values, [waiting, received, state]);
-    assert_eq!(number, number_of(expected));
-    assert!(lists == left);
-}
-
-fn check_plain_run(description: &[u8], calls: &Calls, values: &[u32], length: usize) {
-    let mut left = vec![MARK; length];
-    let expected = calls.plain_run(values, &mut left);
-    let mut output = vec![MARK; length];
-    let number = library::plain_run(description, values, &mut output);
-    assert_eq!((number, output), (number_of(expected), left));
+    fn check_plain_run(&self, values: &[u32], length: usize) {
+        let mut left = vec![MARK; length];
+        let expected = self.calls.plain_run(values, &mut left);
+        let mut output = vec![MARK; length];
+        let number = library::plain_run(self.board, self.description, values, &mut output);
+        assert_eq!((number, output), (number_of(expected), left));
+    }
 }
 
 /// The number by which a call declines, 0 if it does not.

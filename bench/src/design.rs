@@ -1,6 +1,7 @@
 //! A plain Rust Run of the library's design, whose time is that of the design alone: rows by seat and pipe, ready steps as flags by rank, and after a
 //! step only the steps near it tested anew.
 
+use reference::board::GAUGE;
 use reference::body::Line;
 use reference::calls::{Calls, Lent};
 use reference::geometry::Process;
@@ -334,9 +335,9 @@ pub struct Design {
 }
 
 impl Design {
-    /// The tables of an accepted description.
+    /// The tables of a description that the gauge accepts; on the bench they are the same.
     pub fn of(description: &[u8]) -> Design {
-        let calls = Calls::on(description);
+        let calls = Calls::on(GAUGE, description);
         let network = calls.network().expect("the description is accepted");
         let array = &network.array;
         let (processes, streams) = (array.processes.len(), array.streams.len());

@@ -10,14 +10,16 @@ pub const FIGURES: usize = 13;
 
 // A slice is a pointer and a length, one after the other.
 extern "C" {
-    fn beqlanosh_accept(bytes: *const u8, length: usize, figures: *mut u32) -> u32;
+    fn beqlanosh_accept(board: u32, bytes: *const u8, length: usize, figures: *mut u32) -> u32;
     fn beqlanosh_table(
+        board: u32,
         bytes: *const u8,
         length: usize,
         words: *mut u32,
         words_length: usize,
     ) -> u32;
     fn beqlanosh_plain_run(
+        board: u32,
         bytes: *const u8,
         length: usize,
         values: *const u32,
@@ -26,6 +28,7 @@ extern "C" {
         output_length: usize,
     ) -> u32;
     fn beqlanosh_start(
+        board: u32,
         bytes: *const u8,
         length: usize,
         values: *const u32,
@@ -38,6 +41,7 @@ extern "C" {
         state_length: usize,
     ) -> u32;
     fn beqlanosh_step(
+        board: u32,
         bytes: *const u8,
         length: usize,
         kind: u32,
@@ -51,6 +55,7 @@ extern "C" {
         state_length: usize,
     ) -> u32;
     fn beqlanosh_run(
+        board: u32,
         bytes: *const u8,
         length: usize,
         steps: u32,
@@ -63,6 +68,7 @@ extern "C" {
         answer: *mut u32,
     ) -> u32;
     fn beqlanosh_ready(
+        board: u32,
         bytes: *const u8,
         length: usize,
         words: *mut u64,
@@ -76,6 +82,7 @@ extern "C" {
         answer: *mut u32,
     ) -> u32;
     fn beqlanosh_window(
+        board: u32,
         bytes: *const u8,
         length: usize,
         pipe: u32,
@@ -87,6 +94,7 @@ extern "C" {
         answer: *mut u32,
     ) -> u32;
     fn beqlanosh_result(
+        board: u32,
         bytes: *const u8,
         length: usize,
         output: *mut u32,
@@ -100,20 +108,29 @@ extern "C" {
     ) -> u32;
 }
 
-pub fn accept(bytes: &[u8], figures: &mut [u32; FIGURES]) -> u32 {
+pub fn accept(board: u32, bytes: &[u8], figures: &mut [u32; FIGURES]) -> u32 {
     // SAFETY: each pointer comes with its length from a slice or an array that is lent for the call.
-    unsafe { beqlanosh_accept(bytes.as_ptr(), bytes.len(), figures.as_mut_ptr()) }
+    unsafe { beqlanosh_accept(board, bytes.as_ptr(), bytes.len(), figures.as_mut_ptr()) }
 }
 
-pub fn table(bytes: &[u8], words: &mut [u32]) -> u32 {
+pub fn table(board: u32, bytes: &[u8], words: &mut [u32]) -> u32 {
     // SAFETY: as above.
-    unsafe { beqlanosh_table(bytes.as_ptr(), bytes.len(), words.as_mut_ptr(), words.len()) }
+    unsafe {
+        beqlanosh_table(
+            board,
+            bytes.as_ptr(),
+            bytes.len(),
+            words.as_mut_ptr(),
+            words.len(),
+        )
+    }
 }
 
-pub fn plain_run(bytes: &[u8], values: &[u32], output: &mut [u32]) -> u32 {
+pub fn plain_run(board: u32, bytes: &[u8], values: &[u32], output: &mut [u32]) -> u32 {
     // SAFETY: as above.
     unsafe {
         beqlanosh_plain_run(
+            board,
             bytes.as_ptr(),
             bytes.len(),
             values.as_ptr(),
@@ -124,10 +141,16 @@ pub fn plain_run(bytes: &[u8], values: &[u32], output: &mut [u32]) -> u32 {
     }
 }
 
-pub fn start(bytes: &[u8], values: &[u32], [waiting, received, state]: [&mut [u32]; 3]) -> u32 {
+pub fn start(
+    board: u32,
+    bytes: &[u8],
+    values: &[u32],
+    [waiting, received, state]: [&mut [u32]; 3],
+) -> u32 {
     // SAFETY: as above.
     unsafe {
         beqlanosh_start(
+            board,
             bytes.as_ptr(),
             bytes.len(),
             values.as_ptr(),
@@ -142,10 +165,11 @@ pub fn start(bytes: &[u8], values: &[u32], [waiting, received, state]: [&mut [u3
     }
 }
 
-pub fn step(bytes: &[u8], [kind, number, stream]: [u32; 3], lent: Lent) -> u32 {
+pub fn step(board: u32, bytes: &[u8], [kind, number, stream]: [u32; 3], lent: Lent) -> u32 {
     // SAFETY: as above.
     unsafe {
         beqlanosh_step(
+            board,
             bytes.as_ptr(),
             bytes.len(),
             kind,
@@ -161,10 +185,11 @@ pub fn step(bytes: &[u8], [kind, number, stream]: [u32; 3], lent: Lent) -> u32 {
     }
 }
 
-pub fn run(bytes: &[u8], steps: u32, lent: Lent, answer: &mut [u32; 2]) -> u32 {
+pub fn run(board: u32, bytes: &[u8], steps: u32, lent: Lent, answer: &mut [u32; 2]) -> u32 {
     // SAFETY: as above.
     unsafe {
         beqlanosh_run(
+            board,
             bytes.as_ptr(),
             bytes.len(),
             steps,
@@ -180,6 +205,7 @@ pub fn run(bytes: &[u8], steps: u32, lent: Lent, answer: &mut [u32; 2]) -> u32 {
 }
 
 pub fn ready(
+    board: u32,
     bytes: &[u8],
     words: &mut [u64],
     [waiting, received, state]: [&[u32]; 3],
@@ -188,6 +214,7 @@ pub fn ready(
     // SAFETY: as above.
     unsafe {
         beqlanosh_ready(
+            board,
             bytes.as_ptr(),
             bytes.len(),
             words.as_mut_ptr(),
@@ -204,6 +231,7 @@ pub fn ready(
 }
 
 pub fn window(
+    board: u32,
     bytes: &[u8],
     [pipe, side]: [u32; 2],
     waiting: &[u32],
@@ -213,6 +241,7 @@ pub fn window(
     // SAFETY: as above.
     unsafe {
         beqlanosh_window(
+            board,
             bytes.as_ptr(),
             bytes.len(),
             pipe,
@@ -226,10 +255,16 @@ pub fn window(
     }
 }
 
-pub fn result(bytes: &[u8], output: &mut [u32], [waiting, received, state]: [&[u32]; 3]) -> u32 {
+pub fn result(
+    board: u32,
+    bytes: &[u8],
+    output: &mut [u32],
+    [waiting, received, state]: [&[u32]; 3],
+) -> u32 {
     // SAFETY: as above.
     unsafe {
         beqlanosh_result(
+            board,
             bytes.as_ptr(),
             bytes.len(),
             output.as_mut_ptr(),

@@ -1,10 +1,13 @@
-//! Plays random scripts, call by call, on the library and on the second implementation.
+//! Plays random scripts, call by call, on the library and on the second implementation. Some of a script's calls are told another board than its own.
 
-use reference::calls::{Calls, Lent, READY_WORDS};
+use reference::board::{BENCH, GAUGE};
+use reference::calls::{Lent, READY_WORDS};
+use reference::random::Random;
+use reference::random_board::OTHERS;
 use reference::random_script;
 use reference::replay::{Call, Script};
 
-use crate::answers::{number_of, MARK};
+use crate::answers::{number_of, Told, MARK};
 use crate::library;
 
 /// How many scripts are played.
@@ -16,17 +19,19 @@ const LONGEST: [usize; 5] = [32_768, 32_768, 140_000, 32, 32_768];
 /// Plays the scripts of a seed; how many there are, and how many calls were held against each other.
 pub fn check(seed: u64) -> (usize, usize) {
     let scripts = random_script::scripts(seed, SCRIPTS);
+    let mut random = Random::new(seed);
     let played: Vec<usize> = scripts
         .filter_map(|bytes| Script::read(&bytes))
-        .map(|script| play(&script))
+        .map(|script| play(&script, &mut random))
         .collect();
     (played.len(), played.iter().sum())
 }
 
 /// The lists of a script, and how many words of each are lent.
 struct Lists<'a> {
-    description: &'a [u8],
-    calls: Calls,
+    /// The script's own board word, another board's, and one that names none; and which of them the next call is told.
+    told: [Told<'a>; 3],
+    now: usize,
     waiting: Vec<u32>,
     received: Vec<u32>,
     state: Vec<u32>,
@@ -35,16 +40,17 @@ struct Lists<'a> {
     lengths: [usize; 5],
 }
 
-/// Plays a script; how many calls it has.
-fn play(script: &Script) -> usize {
-    let calls = Calls::on(&script.description);
-    let (elements, words) = calls
-        .accept()
-        .map_or((0, 0), |accepted| (accepted.elements, accepted.words));
+/// Plays a script, of which every fifth call or so is told another word; how many calls it has.
+fn play(script: &Script, random: &mut Random) -> usize {
+    let other = if script.board == GAUGE { BENCH } else { GAUGE };
+    let words = [script.board, other, random.pick(&OTHERS)];
+    let told = words.map(|board| Told::new(board, &script.description));
+    let accepted = told[0].calls.accept();
+    let (elements, words) = accepted.map_or((0, 0), |accepted| (accepted.elements, accepted.words));
     let [waiting, received, state, ready, output] = LONGEST;
     let mut lists = Lists {
-        description: &script.description,
-        calls,
+        told,
+        now: 0,
         waiting: vec![MARK; waiting],
         received: vec![MARK; received],
         state: vec![MARK; state],
@@ -53,7 +59,10 @@ fn play(script: &Script) -> usize {
         lengths: [elements, elements, words, READY_WORDS, elements],
     };
     lists.start(&script.values);
-    let played = script.calls.iter().map_while(|&call| lists.call(call));
+    let played = script.calls.iter().map_while(|&call| {
+        lists.now = random.pick(&[0, 0, 0, 0, 0, 0, 0, 0, 1, 2]);
+        lists.call(call)
+    });
     1 + played.filter(|&compared| compared).count()
 }
 
@@ -79,11 +88,13 @@ impl Lists<'_> {
         let mut waiting = self.waiting[..w].to_vec();
         let mut received = self.received[..r].to_vec();
         let mut state = self.state[..s].to_vec();
-        let expected = self
+        let told = &self.told[self.now];
+        let expected = told
             .calls
             .start(values, &mut waiting, &mut received, &mut state);
         let number = library::start(
-            self.description,
+            told.board,
+            told.description,
             values,
             [
                 &mut self.waiting[..w],
@@ -99,21 +110,22 @@ impl Lists<'_> {
     fn step(&mut self, words: [u32; 3]) {
         let [kind, number, stream] = words;
         self.moved(
-            |calls, lent| (number_of(calls.step(lent, kind, number, stream)), ()),
-            |description, lent| (library::step(description, words, lent), ()),
+            |told, lent| (number_of(told.calls.step(lent, kind, number, stream)), ()),
+            |told, lent| (library::step(told.board, told.description, words, lent), ()),
         );
     }
 
     fn run(&mut self, steps: u32) {
         self.moved(
-            |calls, lent| {
-                let ran = calls.run(lent, u64::from(steps));
+            |told, lent| {
+                let ran = told.calls.run(lent, u64::from(steps));
                 let answer = ran.map_or([MARK; 2], |ran| [ran.done as u32, u32::from(ran.ready)]);
                 (number_of(ran), answer)
             },
-            |description, lent| {
+            |told, lent| {
                 let mut answer = [MARK; 2];
-                (library::run(description, steps, lent, &mut answer), answer)
+                let number = library::run(told.board, told.description, steps, lent, &mut answer);
+                (number, answer)
             },
         );
     }
@@ -121,15 +133,16 @@ impl Lists<'_> {
     /// Holds two calls that may change received and state against each other.
     fn moved<T: PartialEq + std::fmt::Debug>(
         &mut self,
-        theirs: impl FnOnce(&Calls, Lent) -> T,
-        ours: impl FnOnce(&[u8], Lent) -> T,
+        theirs: impl FnOnce(&Told, Lent) -> T,
+        ours: impl FnOnce(&Told, Lent) -> T,
     ) {
         let [w, r, s, ..] = self.lengths;
         let mut received = self.received[..r].to_vec();
         let mut state = self.state[..s].to_vec();
         let waiting = &self.waiting[..w];
+        let told = &self.told[self.now];
         let expected = theirs(
-            &self.calls,
+            told,
             Lent {
                 waiting,
                 received: &mut received,
@@ -137,7 +150,7 @@ impl Lists<'_> {
             },
         );
         let answer = ours(
-            self.description,
+            told,
             Lent {
                 waiting,
                 received: &mut self.received[..r],
@@ -153,11 +166,12 @@ impl Lists<'_> {
         let memory = [&self.waiting[..w], &self.received[..r], &self.state[..s]];
         let [waiting, received, state] = memory;
         let mut words = self.ready[..ready].to_vec();
-        let expected = self.calls.ready(waiting, received, state, &mut words);
+        let told = &self.told[self.now];
+        let expected = told.calls.ready(waiting, received, state, &mut words);
         let left = expected.map_or([MARK; 2], |ready| [ready.count as u32, ready.lowest as u32]);
         let mut answer = [MARK; 2];
         let lent = &mut self.ready[..ready];
-        let number = library::ready(self.description, lent, memory, &mut answer);
+        let number = library::ready(told.board, told.description, lent, memory, &mut answer);
         assert_eq!((number, answer), (number_of(expected), left));
         assert!(self.ready[..ready] == words);
     }
@@ -166,9 +180,17 @@ impl Lists<'_> {
         let [pipe, side] = words;
         let [w, r, ..] = self.lengths;
         let (waiting, received) = (&self.waiting[..w], &self.received[..r]);
-        let expected = self.calls.window(waiting, received, pipe, side);
+        let told = &self.told[self.now];
+        let expected = told.calls.window(waiting, received, pipe, side);
         let mut answer = [MARK; 2];
-        let number = library::window(self.description, words, waiting, received, &mut answer);
+        let number = library::window(
+            told.board,
+            told.description,
+            words,
+            waiting,
+            received,
+            &mut answer,
+        );
         assert_eq!(number, number_of(expected));
         match expected {
             // The same words, not only words that are equal.
@@ -186,8 +208,10 @@ impl Lists<'_> {
         let memory = [&self.waiting[..w], &self.received[..r], &self.state[..s]];
         let [waiting, received, state] = memory;
         let mut left = self.output[..output].to_vec();
-        let expected = self.calls.result(waiting, received, state, &mut left);
-        let number = library::result(self.description, &mut self.output[..output], memory);
+        let told = &self.told[self.now];
+        let expected = told.calls.result(waiting, received, state, &mut left);
+        let lent = &mut self.output[..output];
+        let number = library::result(told.board, told.description, lent, memory);
         assert_eq!(number, number_of(expected));
         assert!(self.output[..output] == left);
     }

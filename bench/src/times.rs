@@ -3,6 +3,7 @@
 use std::hint::black_box;
 use std::time::{Duration, Instant};
 
+use reference::board::{BENCH, GAUGE};
 use reference::calls::{Calls, Lent, Row, READY_WORDS};
 use reference::compare;
 use reference::description::Description;
@@ -18,11 +19,8 @@ const LONG: Duration = Duration::from_millis(400);
 /// and request 2.2's as large as they may be, 1,024 processes with four instances each, with three streams and with six, and six streams with boxes of 4,096
 /// elements (request 2.4).
 pub fn arrays() -> Vec<(&'static str, Description)> {
-    let [wide, twice] = [designs::matrix_straight, designs::matrix_twice].map(|design| {
-        let mut wide = design(31);
-        wide.right[2] = 3;
-        wide
-    });
+    let mut twice = designs::matrix_twice(31);
+    twice.right[2] = 3;
     vec![
         ("polynomial one 64", designs::polynomial_one(63)),
         ("fixed point one 64", designs::fixed_one(63)),
@@ -32,33 +30,59 @@ pub fn arrays() -> Vec<(&'static str, Description)> {
         ("cleared matrix 16", designs::cleared_matrix(15)),
         ("matrix moving 16", designs::matrix_moving(15)),
         ("matrix slanted 16", designs::matrix_slanted(15)),
-        ("matrix straight 32x32x4", wide),
+        ("matrix straight 32x32x4", designs::grid(32, 32, 4)),
         ("matrix twice 32x32x4", twice),
         ("sheet 64x64x1", designs::sheet(63)),
         ("decimating 64", designs::decimating(63, 63)),
     ]
 }
 
-/// A line for each call: the least time of the library, that of the second implementation, and their ratio.
-pub fn print(name: &str, design: &Description) {
+/// The bench's largest array: as many processes and as many instances as it holds (request 2.9).
+pub fn largest_on_the_bench() -> (&'static str, Description) {
+    ("matrix straight 16x16x4", designs::grid(16, 16, 4))
+}
+
+/// Accept, and a run to the end by the step, on the bench and beside it on the gauge: the least times of the library.
+pub fn print_beside_the_gauge(name: &str, design: &Description) {
     let bytes = design.bytes();
-    let accepted = Calls::on(&bytes)
+    let calls = Calls::on(BENCH, &bytes);
+    let accepted = calls.accept().expect("the bench accepts its largest array");
+    let accept = |board: u32| library::accept(board, black_box(&bytes), &mut [0; FIGURES]);
+    line(name, "accept, gauge", || accept(BENCH), || accept(GAUGE));
+    let values = compare::values(1, accepted.elements);
+    let (waiting, [started, _, ended]) = stages(&calls, &values);
+    let run = |board: u32, stage: &mut Stage| {
+        stage.clone_from(&started);
+        let lent = stage.lent(&waiting);
+        library::run(board, black_box(&bytes), u32::MAX, lent, &mut [0; 2])
+    };
+    let (mut ours, mut theirs) = (started.clone(), started.clone());
+    let times = least_times(|| run(BENCH, &mut ours), || run(GAUGE, &mut theirs));
+    assert!(ours == ended && theirs == ended);
+    let [bench, gauge] = times.map(|time| time / accepted.steps as u32);
+    print_line(name, "run, gauge", bench, gauge);
+}
+
+/// A line for each call on a board: the least time of the library, that of the second implementation, and their ratio.
+pub fn print(board: u32, name: &str, design: &Description) {
+    let bytes = design.bytes();
+    let accepted = Calls::on(board, &bytes)
         .accept()
         .expect("the largest arrays are accepted");
     let mut figures = [0; FIGURES];
     line(
         name,
         "accept",
-        || library::accept(black_box(&bytes), &mut figures),
-        || Calls::on(black_box(&bytes)).accept(),
+        || library::accept(board, black_box(&bytes), &mut figures),
+        || Calls::on(board, black_box(&bytes)).accept(),
     );
     let mut words = vec![0; ROW_WORDS * accepted.processes];
     let mut rows = vec![Row::default(); accepted.processes];
     line(
         name,
         "table",
-        || library::table(black_box(&bytes), &mut words),
-        || Calls::on(black_box(&bytes)).table(&mut rows),
+        || library::table(board, black_box(&bytes), &mut words),
+        || Calls::on(board, black_box(&bytes)).table(&mut rows),
     );
     let values = compare::values(1, accepted.elements);
     let mut ours = vec![0; accepted.elements];
@@ -66,10 +90,10 @@ pub fn print(name: &str, design: &Description) {
     line(
         name,
         "plain run",
-        || library::plain_run(black_box(&bytes), &values, &mut ours),
-        || Calls::on(black_box(&bytes)).plain_run(&values, &mut theirs),
+        || library::plain_run(board, black_box(&bytes), &values, &mut ours),
+        || Calls::on(board, black_box(&bytes)).plain_run(&values, &mut theirs),
     );
-    print_on_states(name, &bytes, &values);
+    print_on_states(board, name, &bytes, &values);
 }
 
 /// Received values and a state.
@@ -132,8 +156,8 @@ fn pass_by_pass(calls: &Calls, waiting: &[u32], stage: &mut Stage, steps: u64) {
 }
 
 /// The calls on a state: Start; the first Send, from the start; Ready halfway; the last pipe's part; Result at the end; Run.
-fn print_on_states(name: &str, bytes: &[u8], values: &[u32]) {
-    let calls = Calls::on(bytes);
+fn print_on_states(board: u32, name: &str, bytes: &[u8], values: &[u32]) {
+    let calls = Calls::on(board, bytes);
     let (waiting, [started, halfway, ended]) = stages(&calls, values);
     let (mut our_waiting, mut their_waiting) = (waiting.clone(), waiting.clone());
     let (mut ours, mut theirs) = (started.clone(), started.clone());
@@ -142,11 +166,11 @@ fn print_on_states(name: &str, bytes: &[u8], values: &[u32]) {
         "start",
         || {
             let lists: [&mut [u32]; 3] = [&mut our_waiting, &mut ours.received, &mut ours.state];
-            library::start(black_box(bytes), values, lists)
+            library::start(board, black_box(bytes), values, lists)
         },
         || {
             let (received, state) = (&mut theirs.received, &mut theirs.state);
-            Calls::on(black_box(bytes)).start(values, &mut their_waiting, received, state)
+            Calls::on(board, black_box(bytes)).start(values, &mut their_waiting, received, state)
         },
     );
     let mut sent = started.clone();
@@ -166,11 +190,11 @@ fn print_on_states(name: &str, bytes: &[u8], values: &[u32]) {
         "step",
         || {
             again(&mut ours);
-            library::step(black_box(bytes), [0, 0, 0], ours.lent(&waiting))
+            library::step(board, black_box(bytes), [0, 0, 0], ours.lent(&waiting))
         },
         || {
             again(&mut theirs);
-            Calls::on(black_box(bytes)).step(theirs.lent(&waiting), 0, 0, 0)
+            Calls::on(board, black_box(bytes)).step(theirs.lent(&waiting), 0, 0, 0)
         },
     );
     let mut answer = [0; 2];
@@ -180,11 +204,11 @@ fn print_on_states(name: &str, bytes: &[u8], values: &[u32]) {
         "ready",
         || {
             let memory = halfway.memory(&waiting);
-            library::ready(black_box(bytes), &mut our_words, memory, &mut answer)
+            library::ready(board, black_box(bytes), &mut our_words, memory, &mut answer)
         },
         || {
             let [waiting, received, state] = halfway.memory(&waiting);
-            Calls::on(black_box(bytes)).ready(waiting, received, state, &mut their_words)
+            Calls::on(board, black_box(bytes)).ready(waiting, received, state, &mut their_words)
         },
     );
     let last = calls.accept().map_or(0, |accepted| accepted.pipes - 1) as u32;
@@ -192,9 +216,18 @@ fn print_on_states(name: &str, bytes: &[u8], values: &[u32]) {
     line(
         name,
         "window",
-        || library::window(black_box(bytes), [last, 1], &waiting, received, &mut answer),
         || {
-            let calls = Calls::on(black_box(bytes));
+            library::window(
+                board,
+                black_box(bytes),
+                [last, 1],
+                &waiting,
+                received,
+                &mut answer,
+            )
+        },
+        || {
+            let calls = Calls::on(board, black_box(bytes));
             calls.window(&waiting, received, last, 1).map(<[u32]>::len)
         },
     );
@@ -202,30 +235,37 @@ fn print_on_states(name: &str, bytes: &[u8], values: &[u32]) {
     line(
         name,
         "result",
-        || library::result(black_box(bytes), &mut our_output, ended.memory(&waiting)),
+        || {
+            library::result(
+                board,
+                black_box(bytes),
+                &mut our_output,
+                ended.memory(&waiting),
+            )
+        },
         || {
             let [waiting, received, state] = ended.memory(&waiting);
-            Calls::on(black_box(bytes)).result(waiting, received, state, &mut their_output)
+            Calls::on(board, black_box(bytes)).result(waiting, received, state, &mut their_output)
         },
     );
     line(
         name,
         "run 0",
-        || library::run(black_box(bytes), 0, ours.lent(&waiting), &mut answer),
-        || Calls::on(black_box(bytes)).run(theirs.lent(&waiting), 0),
+        || library::run(board, black_box(bytes), 0, ours.lent(&waiting), &mut answer),
+        || Calls::on(board, black_box(bytes)).run(theirs.lent(&waiting), 0),
     );
-    print_run(name, bytes, &waiting, &started, &ended);
+    print_run(board, name, bytes, &waiting, [&started, &ended]);
 }
 
 /// A run to the end, by the step: with the tables that a call makes, and without them, which is a run to the end less a run of no step, beside the second
 /// implementation, which looks for each step from the first and runs once, and beside the loop of a plain Rust program of the same design.
-fn print_run(name: &str, bytes: &[u8], waiting: &[u32], started: &Stage, ended: &Stage) {
-    let steps = Calls::on(bytes)
+fn print_run(board: u32, name: &str, bytes: &[u8], waiting: &[u32], [started, ended]: [&Stage; 2]) {
+    let steps = Calls::on(board, bytes)
         .accept()
         .map_or(0, |accepted| accepted.steps) as u32;
-    let [least, tables, design] = run_times(bytes, steps, waiting, started, ended);
+    let [least, tables, design] = run_times(board, bytes, steps, waiting, [started, ended]);
     let mut stage = started.clone();
-    let mut run = || Calls::on(black_box(bytes)).run(stage.lent(waiting), u64::MAX);
+    let mut run = || Calls::on(board, black_box(bytes)).run(stage.lent(waiting), u64::MAX);
     let other = time(&mut run);
     assert!(stage == *ended);
     let without = (least - tables) / steps;
@@ -236,11 +276,11 @@ fn print_run(name: &str, bytes: &[u8], waiting: &[u32], started: &Stage, ended: 
 
 /// The least times of the library's run to the end, of its run of no step, and of the plain Rust program's loop, which take turns.
 fn run_times(
+    board: u32,
     bytes: &[u8],
     steps: u32,
     waiting: &[u32],
-    started: &Stage,
-    ended: &Stage,
+    [started, ended]: [&Stage; 2],
 ) -> [Duration; 3] {
     let design = Design::of(bytes);
     let (mut least, mut tables, mut other) = (Duration::MAX, Duration::MAX, Duration::MAX);
@@ -248,9 +288,18 @@ fn run_times(
     while start.elapsed() < 2 * LONG {
         let mut stage = started.clone();
         let mut answer = [0; 2];
-        let mut none = || library::run(black_box(bytes), 0, stage.lent(waiting), &mut answer);
+        let mut none =
+            || library::run(board, black_box(bytes), 0, stage.lent(waiting), &mut answer);
         tables = tables.min(time(&mut none));
-        let mut run = || library::run(black_box(bytes), u32::MAX, stage.lent(waiting), &mut answer);
+        let mut run = || {
+            library::run(
+                board,
+                black_box(bytes),
+                u32::MAX,
+                stage.lent(waiting),
+                &mut answer,
+            )
+        };
         least = least.min(time(&mut run));
         assert_eq!(answer, [steps, 0]);
         assert!(stage == *ended);
@@ -265,25 +314,28 @@ fn run_times(
     [least, tables, other]
 }
 
+fn line<A, B>(name: &str, call: &str, library: impl FnMut() -> A, other: impl FnMut() -> B) {
+    let [least, least_other] = least_times(library, other);
+    print_line(name, call, least, least_other);
+}
+
 /// The two take turns, so that a busy machine slows both.
-fn line<A, B>(
-    name: &str,
-    call: &str,
+fn least_times<A, B>(
     mut library: impl FnMut() -> A,
     mut other: impl FnMut() -> B,
-) {
+) -> [Duration; 2] {
     let start = Instant::now();
     let (mut least, mut least_other) = (Duration::MAX, Duration::MAX);
     while start.elapsed() < 2 * LONG {
         least = least.min(time(&mut library));
         least_other = least_other.min(time(&mut other));
     }
-    print_line(name, call, least, least_other);
+    [least, least_other]
 }
 
 fn print_line(name: &str, call: &str, library: Duration, other: Duration) {
     let ratio = library.as_secs_f64() / other.as_secs_f64();
-    println!("{name:24} {call:12} {library:>12.1?} {other:>12.1?} {ratio:8.3}");
+    println!("{name:24} {call:14} {library:>12.1?} {other:>12.1?} {ratio:8.3}");
 }
 
 fn time<T>(call: &mut impl FnMut() -> T) -> Duration {

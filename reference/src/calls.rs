@@ -1,12 +1,13 @@
 //! The nine calls and what they decline. A declined call changes no lent word.
 
+use crate::board::Limits;
 use crate::body::plain_run;
 use crate::description::Description;
-use crate::geometry::{Array, Limits};
+use crate::geometry::Array;
 use crate::network::{Network, Step};
 use crate::{demand, Refusal};
 
-/// The calls on one description.
+/// The calls that are lent one description and told one board word.
 #[derive(Clone, Debug)]
 pub struct Calls {
     accepted: Result<Network, Refusal>,
@@ -84,9 +85,14 @@ pub struct ReadyProcesses {
 pub const READY_WORDS: usize = 16;
 
 impl Calls {
-    /// Looks at a description under document 01's limits.
-    pub fn on(description: &[u8]) -> Calls {
-        Calls::within(description, &Limits::NAMED)
+    /// Looks at a description for the board that a word names.
+    pub fn on(board: u32, description: &[u8]) -> Calls {
+        match Limits::of(board) {
+            Ok(limits) => Calls::within(description, &limits),
+            Err(refusal) => Calls {
+                accepted: Err(refusal),
+            },
+        }
     }
 
     /// Looks at a description under some limits.
@@ -102,7 +108,7 @@ impl Calls {
         self.accepted.as_ref().map_err(|&refusal| refusal)
     }
 
-    /// Accept: 1 to 17.
+    /// Accept: 33, then 1 to 17.
     pub fn accept(&self) -> Result<Accepted, Refusal> {
         let network = self.network()?;
         let array = &network.array;

@@ -2,12 +2,15 @@
 
 use std::fmt::Display;
 
+use crate::board::{BENCH, GAUGE};
+use crate::board_cases::board_cases;
 use crate::calls::{Calls, Row};
 use crate::description::{bytes_of, Description, LINE_WORDS};
 use crate::designs;
 use crate::divisor_cases::divisor_cases;
 use crate::guard_words::{guard_words, older_lengths};
 use crate::random::Random;
+use crate::random_board::{self, OTHERS};
 use crate::random_description::{self, given};
 use crate::random_divisor;
 use crate::random_stride;
@@ -36,29 +39,43 @@ const MARK: u32 = 7;
 /// The most elements of an array whose walk, rows and final values are printed whole.
 const SMALL: usize = 12;
 
-/// The descriptions, each behind a word with its number of bytes.
-pub fn input(descriptions: &[Vec<u8>]) -> Vec<u8> {
+/// A description and the board word that its calls are told.
+#[derive(Clone, Debug)]
+pub struct Record {
+    pub board: u32,
+    pub description: Vec<u8>,
+}
+
+/// Descriptions that are told one board word.
+pub fn on(board: u32, descriptions: impl IntoIterator<Item = Vec<u8>>) -> Vec<Record> {
+    let record = |description| Record { board, description };
+    descriptions.into_iter().map(record).collect()
+}
+
+/// The descriptions, each behind a word with its number of bytes and its board word.
+pub fn input(records: &[Record]) -> Vec<u8> {
     let mut bytes = Vec::new();
-    for description in descriptions {
-        bytes.extend(bytes_of(&[description.len() as i32]));
+    for Record { board, description } in records {
+        bytes.extend((description.len() as u32).to_le_bytes());
+        bytes.extend(board.to_le_bytes());
         bytes.extend(description);
     }
     bytes
 }
 
 /// What is printed for the descriptions.
-pub fn text(descriptions: &[Vec<u8>]) -> String {
-    let numbered = descriptions.iter().enumerate();
+pub fn text(records: &[Record]) -> String {
+    let numbered = records.iter().enumerate();
     numbered
-        .map(|(number, description)| description_text(number as u32, description))
+        .map(|(number, record)| record_text(number as u32, record))
         .collect()
 }
 
 /// Accept's thirteen values or its refusal, a line for the walk, one for Table and one for Plain run: for each its number, 0 if it did not decline, and the
 /// sum of its list. The walk, the rows and the final values of a small array stand below. A description that is declined counts as one process and one
 /// element.
-fn description_text(number: u32, description: &[u8]) -> String {
-    let calls = Calls::on(description);
+fn record_text(number: u32, record: &Record) -> String {
+    let calls = Calls::on(record.board, &record.description);
     let accepted = calls.accept();
     let (processes, elements) = accepted.map_or((1, 1), |found| (found.processes, found.elements));
     let small = accepted.is_ok() && elements <= SMALL;
@@ -66,15 +83,15 @@ fn description_text(number: u32, description: &[u8]) -> String {
         |refusal| refusal.to_string(),
         |found| found.values().map(|value| value.to_string()).join(" "),
     );
-    let walk = walk_text(description, small);
+    let walk = walk_text(record, small);
     let table = table_text(&calls, processes, small);
     let plain = plain_text(&calls, number, elements, small);
     format!("{first}\n{walk}{table}{plain}")
 }
 
-/// The walk: its number is one of 1 to 10, and its list the coordinates of the instances, which is empty if it is declined.
-fn walk_text(description: &[u8], small: bool) -> String {
-    let walk = walk_on(description);
+/// The walk: its number is 33 or one of 1 to 10, and its list the coordinates of the instances, which is empty if it is declined.
+fn walk_text(record: &Record, small: bool) -> String {
+    let walk = walk_on(record.board, &record.description);
     let answer = walk.as_ref().map(|_| ()).map_err(|&refusal| refusal);
     let numbers: Vec<i32> = walk.iter().flatten().flat_map(coordinates).collect();
     let words: Vec<u32> = numbers.iter().map(|&number| number as u32).collect();
@@ -203,47 +220,103 @@ fn row_words(row: &Row) -> Vec<u32> {
     numbers.into_iter().map(|number| number as u32).collect()
 }
 
-/// About 4,200 descriptions: the report's designs, document 01's cases, decimating filters, fixed point products, cleared accumulators, arrays at the
-/// limits, words of lines at the ends of their ranges, descriptions of the older length, every refusal, accepted ones, such with a longer stride, such
-/// with a word changed, and such that show common divisors or the walk.
-pub fn descriptions() -> Vec<Vec<u8>> {
-    let mut designs = report_designs();
-    designs.extend(worked_cases());
-    designs.extend(strides());
-    designs.extend(fixed_point());
-    designs.extend(cleared());
-    designs.extend(limit_designs());
-    let mut descriptions: Vec<Vec<u8>> = designs.iter().map(Description::bytes).collect();
+/// Some 4,400 descriptions: designs and cases on the gauge, random ones, of which three in ten are told the bench and a few no board, and such that
+/// show the boards, on both and on none.
+pub fn records() -> Vec<Record> {
+    let mut records = on(GAUGE, fixed_descriptions());
+    records.extend(random_records(&mut Random::new(3)));
+    for board in [GAUGE, BENCH] {
+        records.extend(on(board, board_cases().iter().map(Description::bytes)));
+        records.extend(on(board, [Vec::new()]));
+    }
+    records.extend(on(BENCH, limit_designs().iter().map(Description::bytes)));
+    for board in OTHERS {
+        records.extend(on(board, without_board()));
+    }
+    records
+}
+
+/// The report's designs, document 01's cases, decimating filters, fixed point products, cleared accumulators, arrays at the limits, words of lines at the
+/// ends of their ranges, descriptions of the older length, and such that show common divisors or the walk.
+fn fixed_descriptions() -> Vec<Vec<u8>> {
+    let designs = [
+        report_designs(),
+        worked_cases(),
+        strides(),
+        fixed_point(),
+        cleared(),
+        limit_designs(),
+        divisor_cases(),
+        walk_cases(),
+    ];
+    let mut descriptions: Vec<Vec<u8>> = designs.iter().flatten().map(Description::bytes).collect();
     descriptions.push(operation_seven());
     descriptions.extend(guard_words());
     descriptions.extend(older_lengths());
-    let mut random = Random::new(3);
-    for number in given() {
-        // Large arrays take long to make, and most of those that are tried are declined by 6.
-        let count = if number == 10 { 5 } else { 50 };
-        for _ in 0..count {
-            descriptions.push(random_description::refused(&mut random, number));
-        }
-    }
-    for _ in 0..1550 {
-        descriptions.push(random_description::accepted(&mut random).bytes());
-    }
-    for _ in 0..STRIDED {
-        descriptions.push(random_stride::strided(&mut random).bytes());
-    }
-    for _ in 0..600 {
-        descriptions.push(random_description::changed(&mut random));
-    }
-    descriptions.extend(divisor_cases().iter().map(Description::bytes));
-    descriptions.extend(random_divisors(&mut random));
-    descriptions.extend(walk_cases().iter().map(Description::bytes));
-    descriptions.extend(random_strides_refused(&mut random));
     descriptions
 }
 
-/// Random descriptions with a divisor above 1, and such that were spoiled.
-fn random_divisors(random: &mut Random) -> Vec<Vec<u8>> {
+/// Nothing, a few bytes, a description that every board accepts, one that 7 declines, and one that 6 does on the bench.
+fn without_board() -> Vec<Vec<u8>> {
+    let mut dependent = designs::polynomial_one(2);
+    dependent.place = vec![vec![0, 0]];
+    vec![
+        Vec::new(),
+        vec![1; 11],
+        designs::polynomial_two(2).bytes(),
+        dependent.bytes(),
+        designs::polynomial_one(63).bytes(),
+    ]
+}
+
+/// Every refusal, accepted descriptions, such with a longer stride or a divisor above 1, and such with a word changed.
+fn random_records(random: &mut Random) -> Vec<Record> {
+    let mut records = Vec::new();
+    for number in given() {
+        // Large arrays take long to make, and most of those that are tried are declined by 6.
+        let count = if number == 10 { 10 } else { 50 };
+        for _ in 0..count {
+            records.push(refused(random, number, random_description::accepted));
+        }
+    }
+    for number in 11..=17 {
+        for _ in 0..STRIDED_AND_REFUSED {
+            records.push(refused(random, number, random_stride::strided));
+        }
+    }
+    for description in random_descriptions(random) {
+        let board = random_board::board(random);
+        records.extend(on(random_board::or_none(random, board), [description]));
+    }
+    records
+}
+
+/// A description that is declined by a number on the board that it is told, if that names one.
+fn refused(
+    random: &mut Random,
+    number: u32,
+    source: impl Fn(&mut Random) -> Description,
+) -> Record {
+    let board = random_board::board(random);
+    let description = random_description::refused_from(random, board, number, source);
+    Record {
+        board: random_board::or_none(random, board),
+        description,
+    }
+}
+
+/// Random descriptions, whatever Accept says of them.
+fn random_descriptions(random: &mut Random) -> Vec<Vec<u8>> {
     let mut descriptions = Vec::new();
+    for _ in 0..1550 {
+        descriptions.push(random_description::accepted(random).bytes());
+    }
+    for _ in 0..STRIDED {
+        descriptions.push(random_stride::strided(random).bytes());
+    }
+    for _ in 0..600 {
+        descriptions.push(random_description::changed(random));
+    }
     for _ in 0..DIVIDED {
         descriptions.push(random_divisor::divided(random).bytes());
     }
@@ -253,18 +326,6 @@ fn random_divisors(random: &mut Random) -> Vec<Vec<u8>> {
     for _ in 0..DIVIDED_AND_CHANGED {
         let description = random_divisor::divided(random);
         descriptions.push(random_description::word_changed(random, &description));
-    }
-    descriptions
-}
-
-/// Random descriptions with a longer stride that are declined by 11 to 17, and so have a walk.
-fn random_strides_refused(random: &mut Random) -> Vec<Vec<u8>> {
-    let mut descriptions = Vec::new();
-    for number in 11..=17 {
-        for _ in 0..STRIDED_AND_REFUSED {
-            let strided = random_stride::strided;
-            descriptions.push(random_description::refused_from(random, number, strided));
-        }
     }
     descriptions
 }
@@ -306,8 +367,8 @@ fn worked_cases() -> Vec<Description> {
         one(7),
         one(8),
         designs::polynomial_one(0),
-        grid(32, 32, 1),
-        grid(33, 32, 1),
+        designs::grid(32, 32, 1),
+        designs::grid(33, 32, 1),
     ]
 }
 
@@ -363,14 +424,7 @@ fn limit_designs() -> Vec<Description> {
         designs::matrix_straight(16),
         designs::matrix_moving(15),
         designs::matrix_slanted(11),
-        grid(32, 32, 4),
-        grid(32, 32, 5),
+        designs::grid(32, 32, 4),
+        designs::grid(32, 32, 5),
     ]
-}
-
-/// The matrix product with place (i, j) on so many processes, each with so many instances.
-fn grid(rows: i32, columns: i32, instances: i32) -> Description {
-    let mut grid = designs::matrix_straight(0);
-    grid.right = vec![rows - 1, columns - 1, instances - 1];
-    grid
 }

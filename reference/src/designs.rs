@@ -167,6 +167,14 @@ pub fn matrix_straight(n: i32) -> Description {
     matrix(n, [[1, 0, 0], [0, 1, 0]], [1, 0])
 }
 
+/// The matrix product with place (i,j) on so many processes, each with so many instances.
+pub fn grid(rows: i32, columns: i32, instances: i32) -> Description {
+    Description {
+        right: vec![rows - 1, columns - 1, instances - 1],
+        ..matrix_straight(0)
+    }
+}
+
 /// Matrix product with place (i−k, j−k).
 pub fn matrix_moving(n: i32) -> Description {
     matrix(n, [[1, 0, -1], [0, 1, -1]], [0, 0])

@@ -4,6 +4,7 @@ use std::fs;
 use std::io;
 use std::path::Path;
 
+use crate::board::{BENCH, GAUGE};
 use crate::calls::Calls;
 use crate::compare;
 use crate::description::{bytes_of, Description};
@@ -163,7 +164,7 @@ fn print_table_case() -> Case {
     let stdin = designs::polynomial_two(2).bytes();
     Case {
         name: "print_table",
-        stdout: table_text(&stdin).into_bytes(),
+        stdout: table_text(GAUGE, &stdin).into_bytes(),
         stdin,
     }
 }
@@ -173,26 +174,26 @@ fn print_walk_case() -> Case {
     let stdin = designs::matrix_slanted(2).bytes();
     Case {
         name: "print_walk",
-        stdout: walk_text(&stdin).into_bytes(),
+        stdout: walk_text(GAUGE, &stdin).into_bytes(),
         stdin,
     }
 }
 
 /// The comparison of Accept, the walk, Table and Plain run.
 fn compare_case() -> Case {
-    let descriptions = compare::descriptions();
+    let records = compare::records();
     Case {
         name: "compare",
-        stdin: compare::input(&descriptions),
-        stdout: compare::text(&descriptions).into_bytes(),
+        stdin: compare::input(&records),
+        stdout: compare::text(&records).into_bytes(),
     }
 }
 
 /// How many random scripts are replayed.
 const SCRIPTS: usize = 1000;
 
-/// The replay of the examples, run to their end, of the example scripts, of designs of requests 2.5 and 2.7 in two orders, and of random scripts, in one
-/// bundle.
+/// The replay of the examples, run to their end, of the example scripts, of designs of requests 2.5 and 2.7 in two orders, of the examples and designs of
+/// request 2.9 on its boards, and of random scripts, in one bundle.
 fn replay_case() -> Case {
     let stdin = bundle(&replay_scripts());
     Case {
@@ -206,11 +207,12 @@ fn replay_case() -> Case {
 pub fn replay_scripts() -> Vec<Vec<u8>> {
     let ends = examples()
         .into_iter()
-        .map(|it| run_to_the_end(&it.description));
+        .map(|it| run_to_the_end(GAUGE, &it.description));
     let named = example_scripts().into_iter().map(|it| it.script.bytes());
     let pairs = ordered().into_iter().flat_map(|it| in_two_orders(&it));
     ends.chain(named)
         .chain(pairs)
+        .chain(on_boards())
         .chain(scripts(1, SCRIPTS))
         .collect()
 }
@@ -230,26 +232,40 @@ fn ordered() -> [Description; 6] {
 /// A script that runs a description to its end, and one that does it by the highest ready step.
 fn in_two_orders(description: &Description) -> [Vec<u8>; 2] {
     [
-        run_to_the_end(description),
-        to_the_end_by(description, highest_first(description)),
+        run_to_the_end(GAUGE, description),
+        to_the_end_by(GAUGE, description, highest_first(description)),
     ]
 }
 
-/// A script that runs a description to its end, in two pieces.
-fn run_to_the_end(description: &Description) -> Vec<u8> {
-    let calls = vec![[1, 100, 0, 0], [2, 0, 0, 0], [1, u32::MAX, 0, 0]];
-    to_the_end_by(description, calls)
+/// Scripts that run the examples to their end on the bench, where it holds them, the bench's largest arrays on both boards, and one on no board.
+fn on_boards() -> Vec<Vec<u8>> {
+    let on_the_bench = examples()
+        .into_iter()
+        .map(|it| run_to_the_end(BENCH, &it.description));
+    let designs = [designs::polynomial_one(31), designs::grid(16, 16, 4)];
+    let on_both = designs
+        .iter()
+        .flat_map(|it| [GAUGE, BENCH].map(|board| run_to_the_end(board, it)));
+    let on_none = run_to_the_end(2, &designs::polynomial_two(2));
+    on_the_bench.chain(on_both).chain([on_none]).collect()
 }
 
-/// A script that comes to a description's end by some calls and asks for all that came out.
-fn to_the_end_by(description: &Description, mut calls: Vec<Call>) -> Vec<u8> {
+/// A script that runs a description to its end on a board, in two pieces.
+fn run_to_the_end(board: u32, description: &Description) -> Vec<u8> {
+    let calls = vec![[1, 100, 0, 0], [2, 0, 0, 0], [1, u32::MAX, 0, 0]];
+    to_the_end_by(board, description, calls)
+}
+
+/// A script that comes to a description's end on a board by some calls and asks for all that came out. Its values are as many as the gauge takes.
+fn to_the_end_by(board: u32, description: &Description, mut calls: Vec<Call>) -> Vec<u8> {
     let description = description.bytes();
-    let elements = Calls::on(&description)
+    let elements = Calls::on(GAUGE, &description)
         .accept()
         .map_or(0, |found| found.elements);
     calls.extend([[2, 0, 0, 0], [3, 0, 1, 0], [4, 0, 0, 0], [6, 0, 0, 0]]);
     Script {
         description,
+        board,
         values: Random::new(elements as u64).values(elements),
         calls,
     }
@@ -258,7 +274,7 @@ fn to_the_end_by(description: &Description, mut calls: Vec<Call>) -> Vec<u8> {
 
 /// The steps of a whole run, always the highest ready; none if the description is refused. Which are ready does not depend on the values.
 fn highest_first(description: &Description) -> Vec<Call> {
-    let calls = Calls::on(&description.bytes());
+    let calls = Calls::on(GAUGE, &description.bytes());
     let Ok(network) = calls.network() else {
         return Vec::new();
     };

@@ -1,29 +1,13 @@
 //! Words of the trade: instances, increment, processes, and the lines, moves, hops and elements of
 //! streams. Refusals 6 to 17.
 
+use crate::board::Limits;
 use crate::description::{Description, Matrix};
 use crate::divisor::Shortened;
 use crate::pipes::{pipes, stations, Pipe, Station};
 use crate::vectors::{dot, is_zero, number_in, shortest, times, within_one, Bounds, Point};
 use crate::walk::walk;
 use crate::{demand, Refusal};
-
-/// The limits of refusals 6, 10 and 14.
-#[derive(Clone, Copy, Debug)]
-pub struct Limits {
-    pub instances: i64,
-    pub processes: i64,
-    pub hop: i32,
-}
-
-impl Limits {
-    /// The limits that document 01 names, and request 2.8's for the hop.
-    pub const NAMED: Limits = Limits {
-        instances: 4096,
-        processes: 1024,
-        hop: 5,
-    };
-}
 
 /// Loops with their layout in time and place, whatever their streams are.
 #[derive(Clone, Debug)]
@@ -80,9 +64,10 @@ pub struct Stream {
 }
 
 impl Nest {
-    /// Reads a description under document 01's limits; declines by 1 to 10.
-    pub fn on(description: &[u8]) -> Result<Nest, Refusal> {
-        Nest::of(&Description::read(description)?, &Limits::NAMED)
+    /// Reads a description for the board that a word names; declines by 33, then by 1 to 10.
+    pub fn on(board: u32, description: &[u8]) -> Result<Nest, Refusal> {
+        let limits = Limits::of(board)?;
+        Nest::of(&Description::read(description)?, &limits)
     }
 
     /// Works out the nest of a description; declines by 6 to 10.

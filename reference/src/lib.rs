@@ -1,5 +1,7 @@
 //! The second implementation of documents 01 and 02, written from their words as plainly as possible.
 
+pub mod board;
+pub mod board_cases;
 pub mod body;
 pub mod calls;
 pub mod compare;
@@ -14,6 +16,7 @@ pub mod guard_words;
 pub mod network;
 pub mod pipes;
 pub mod random;
+pub mod random_board;
 pub mod random_description;
 pub mod random_divisor;
 pub mod random_script;

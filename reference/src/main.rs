@@ -6,13 +6,15 @@ use std::io::{self, Read, Write};
 use std::path::Path;
 use std::process::ExitCode;
 
+use reference::board::GAUGE;
 use reference::expected::write_files;
 use reference::random_script::scripts;
 use reference::replay::{bundle, replay};
 use reference::table::table_text;
 use reference::walk_text::walk_text;
 
-const USAGE: &str = "usage: reference table | walk | replay | random SEED N [DIR] | expected DIR";
+const USAGE: &str =
+    "usage: reference table [--board N] | walk [--board N] | replay | random SEED N [DIR] | expected DIR";
 
 fn main() -> ExitCode {
     let arguments: Vec<OsString> = std::env::args_os().skip(1).collect();
@@ -30,8 +32,14 @@ fn main() -> ExitCode {
 fn command(arguments: &[OsString]) -> Result<(), String> {
     let (name, rest) = arguments.split_first().ok_or("no command")?;
     match (name.to_str(), rest) {
-        (Some("table"), []) => print(table_text(&input()?).as_bytes()),
-        (Some("walk"), []) => print(walk_text(&input()?).as_bytes()),
+        (Some("table"), []) => print_text(table_text, GAUGE),
+        (Some("walk"), []) => print_text(walk_text, GAUGE),
+        (Some("table"), [option, board]) if option == "--board" => {
+            print_text(table_text, number("N", board)?)
+        }
+        (Some("walk"), [option, board]) if option == "--board" => {
+            print_text(walk_text, number("N", board)?)
+        }
         (Some("replay"), []) => print(replay(&input()?).as_bytes()),
         (Some("random"), [seed, count]) => {
             let scripts: Vec<Vec<u8>> =
@@ -46,10 +54,15 @@ fn command(arguments: &[OsString]) -> Result<(), String> {
         (Some("expected"), [directory]) => write_files(Path::new(directory))
             .map_err(|error| format!("cannot write {directory:?}: {error}")),
         (Some("table" | "walk" | "replay" | "random" | "expected"), _) => {
-            Err(format!("wrong number of arguments for {name:?}"))
+            Err(format!("wrong arguments for {name:?}"))
         }
         _ => Err(format!("unknown command {name:?}")),
     }
+}
+
+/// Prints the text of the description on standard input for a board.
+fn print_text(text: impl Fn(u32, &[u8]) -> String, board: u32) -> Result<(), String> {
+    print(text(board, &input()?).as_bytes())
 }
 
 /// A number in decimal.

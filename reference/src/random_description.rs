@@ -1,11 +1,12 @@
 //! Random descriptions: accepted ones, large ones, and ones that Accept declines by a given number.
 
+use crate::board::{Limits, BENCH};
 use crate::body::{Comparison, Guard, Line, Operation};
 use crate::calls::Calls;
 use crate::description::{bytes_of, Description, Matrix};
 use crate::designs;
 use crate::divisor::shorten;
-use crate::geometry::{Array, Limits};
+use crate::geometry::Array;
 use crate::random::Random;
 use crate::Refusal;
 
@@ -84,7 +85,7 @@ pub fn laid_out(
         loading: Vec::new(),
         body: Vec::new(),
     };
-    let array = Array::of(&nest, &Limits::NAMED);
+    let array = Array::of(&nest, &Limits::GAUGE);
     array
         .is_ok_and(|array| array.processes.len() <= most)
         .then_some(nest)
@@ -188,24 +189,21 @@ fn tried(nest: &Description, map: &Matrix, loading: &[i32], written: bool) -> Re
     description.maps = vec![map.clone()];
     description.loading = vec![loading.to_vec()];
     description.body = vec![Line::always(Operation::Copy, target, 0, 0)];
-    Array::of(&description, &Limits::NAMED).map(|_| ())
+    Array::of(&description, &Limits::GAUGE).map(|_| ())
 }
 
-/// A description near the limits of refusals 6 and 10, on either side.
-pub fn large(random: &mut Random) -> Description {
+/// A description near the limits of refusals 6 and 10 on a board, on either side.
+pub fn large(random: &mut Random, board: u32) -> Description {
+    let on_the = |gauge: i32, bench: i32| if board == BENCH { bench } else { gauge };
     let mut description = match random.below(8) {
-        0 => designs::polynomial_one(63),
-        1 => designs::polynomial_two(63),
-        2 => designs::matrix_straight(15),
-        3 => designs::matrix_moving(15),
-        4 => designs::matrix_slanted(11),
-        5 => designs::cleared_one(63),
-        6 => designs::cleared_matrix(15),
-        _ => {
-            let mut wide = designs::matrix_straight(31);
-            wide.right[2] = 3;
-            wide
-        }
+        0 => designs::polynomial_one(on_the(63, 31)),
+        1 => designs::polynomial_two(on_the(63, 31)),
+        2 => designs::matrix_straight(on_the(15, 9)),
+        3 => designs::matrix_moving(on_the(15, 7)),
+        4 => designs::matrix_slanted(on_the(11, 7)),
+        5 => designs::cleared_one(on_the(63, 31)),
+        6 => designs::cleared_matrix(on_the(15, 9)),
+        _ => designs::grid(on_the(32, 16), on_the(32, 16), 4),
     };
     if random.percent(20) {
         let number = random.below(description.loops());
@@ -233,14 +231,15 @@ pub fn given() -> impl Iterator<Item = u32> {
     (1..=17).filter(|&number| number != 9)
 }
 
-/// A description that Accept declines by one of those numbers.
-pub fn refused(random: &mut Random, number: u32) -> Vec<u8> {
-    refused_from(random, number, accepted)
+/// A description that Accept declines by one of those numbers on a board.
+pub fn refused(random: &mut Random, board: u32, number: u32) -> Vec<u8> {
+    refused_from(random, board, number, accepted)
 }
 
 /// Such a description, made from accepted ones that come from a source.
 pub fn refused_from(
     random: &mut Random,
+    board: u32,
     number: u32,
     source: impl Fn(&mut Random) -> Description,
 ) -> Vec<u8> {
@@ -249,7 +248,7 @@ pub fn refused_from(
         let base = source(random);
         for _ in 0..30 {
             bytes = spoiled(random, base.clone(), number);
-            if Calls::on(&bytes).accept() == Err(Refusal(number)) {
+            if Calls::on(board, &bytes).accept() == Err(Refusal(number)) {
                 return bytes;
             }
         }

@@ -1,5 +1,6 @@
 //! Random descriptions with a divisor above 1 (request 2.7), of place or of a stream, and refused ones beside them.
 
+use crate::board::GAUGE;
 use crate::calls::Calls;
 use crate::description::Description;
 use crate::random::Random;
@@ -31,7 +32,7 @@ pub fn divided(random: &mut Random) -> Description {
 
 /// Some divisor of an accepted description is above 1.
 fn has_divisor(description: &Description) -> bool {
-    let accepted = Calls::on(&description.bytes()).accept();
+    let accepted = Calls::on(GAUGE, &description.bytes()).accept();
     accepted.is_ok_and(|accepted| accepted.divisors.iter().any(|&divisor| divisor > 1))
 }
 

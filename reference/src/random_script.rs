@@ -1,9 +1,11 @@
 //! Random replay scripts. The calls are played while they are written, so that a script can name
 //! steps that are ready.
 
+use crate::board::{BENCH, GAUGE};
 use crate::calls::READY_WORDS;
 use crate::network::{Network, Step};
 use crate::random::Random;
+use crate::random_board as boards;
 use crate::random_description as descriptions;
 use crate::random_divisor as divisors;
 use crate::random_stride as strides;
@@ -34,32 +36,35 @@ fn script(random: &mut Random, number: usize) -> Vec<u8> {
     let large = strided.end..strided.end + LARGE;
     let short = large.end..large.end + CUT;
     let divided = short.end..short.end + DIVIDED;
-    if let Some(given) = descriptions::given().nth(number) {
-        let description = descriptions::refused(random, given);
-        full_script(random, description)
+    let board = boards::board(random);
+    let description = if let Some(given) = descriptions::given().nth(number) {
+        descriptions::refused(random, board, given)
     } else if changed.contains(&number) {
-        let description = descriptions::changed(random);
-        full_script(random, description)
+        descriptions::changed(random)
     } else if strided.contains(&number) {
-        let description = strides::strided(random).bytes();
-        full_script(random, description)
+        strides::strided(random).bytes()
     } else if large.contains(&number) {
-        let description = descriptions::large(random).bytes();
-        full_script(random, description)
+        large_on_a_board(random)
     } else if divided.contains(&number) {
-        let description = divisors::divided(random).bytes();
-        full_script(random, description)
+        divisors::divided(random).bytes()
     } else {
-        let description = descriptions::accepted(random).bytes();
-        let mut bytes = full_script(random, description);
-        if short.contains(&number) {
-            cut(random, &mut bytes);
-        }
-        bytes
+        descriptions::accepted(random).bytes()
+    };
+    let told = boards::or_none(random, board);
+    let mut bytes = full_script(random, told, description);
+    if short.contains(&number) {
+        cut(random, &mut bytes);
     }
+    bytes
 }
 
-/// Cuts a script off, mostly within its description or values, or makes it claim more than it has.
+/// A description near the limits of either board, whichever it is told.
+fn large_on_a_board(random: &mut Random) -> Vec<u8> {
+    let board = random.pick(&[GAUGE, BENCH]);
+    descriptions::large(random, board).bytes()
+}
+
+/// Cuts a script off, mostly before its calls, or makes it claim more than it has.
 fn cut(random: &mut Random, bytes: &mut Vec<u8>) {
     if random.percent(20) {
         bytes[3] = 0xFF;
@@ -69,9 +74,9 @@ fn cut(random: &mut Random, bytes: &mut Vec<u8>) {
     }
 }
 
-/// A whole script on a description, sometimes with an ending that is not to be played.
-fn full_script(random: &mut Random, description: Vec<u8>) -> Vec<u8> {
-    let mut machine = Machine::new(&description);
+/// A whole script on a description for a board, sometimes with an ending that is not to be played.
+fn full_script(random: &mut Random, board: u32, description: Vec<u8>) -> Vec<u8> {
+    let mut machine = Machine::new(board, &description);
     let mut count = machine
         .calls
         .accept()
@@ -90,6 +95,7 @@ fn full_script(random: &mut Random, description: Vec<u8>) -> Vec<u8> {
     let calls = writer.calls;
     let mut bytes = Script {
         description,
+        board,
         values,
         calls,
     }

@@ -1,7 +1,7 @@
 //! Random descriptions with a longer stride (request 2.2): an increment component outside −1 to 1.
 
+use crate::board::Limits;
 use crate::description::{Description, Matrix};
-use crate::geometry::Limits;
 use crate::random::Random;
 use crate::random_description::{filled, laid_out, map_of_place, matrix};
 use crate::vectors::{dot, shortest, times, within_one, Point};
@@ -55,7 +55,7 @@ fn bounds(random: &mut Random, increment: &[i32]) -> (Point, Point) {
 
 /// The short vectors that may be a stream's line: components from −2 to 2, moves of at most 1, hops of at most the limit.
 pub fn lines(place: &Matrix, step: &[i32]) -> Vec<Point> {
-    let hops = 1..=Limits::NAMED.hop;
+    let hops = 1..=Limits::GAUGE.hop;
     let line =
         |vector: &Point| within_one(&times(place, vector)) && hops.contains(&dot(step, vector));
     vectors(step.len(), 2).filter(line).collect()

@@ -1,12 +1,10 @@
 //! Replay: plays the calls of a script on lists that the script lends.
 //!
-//! A script is words, least byte first: the number of bytes of the description; its bytes, padded to
-//! a whole word; the number of values; the values; then calls of four words each:
-//! 0 step (kind, number, stream), 1 run (steps), 2 ready, 3 window (pipe, side), 4 result, 5 show the
-//! state, 6 show the received list, 7 poke (word of the state, value), 8 lend (list, length).
-//! Any other number ends the script. Words that a call does not use are ignored, and so is a last
-//! call that is cut off. The output has a line for Accept, one for Start and one for each call.
-//! Accept's has the six figures, the divisor of place and that of each stream in use.
+//! A script is words, least byte first: the number of bytes of the description; its bytes, padded to a whole word; the board word, which every call is told;
+//! the number of values; the values; then calls of four words each: 0 step (kind, number, stream), 1 run (steps), 2 ready, 3 window (pipe, side), 4 result,
+//! 5 show the state, 6 show the received list, 7 poke (word of the state, value), 8 lend (list, length). Any other number ends the script. Words that a call
+//! does not use are ignored, and so is a last call that is cut off. The output has a line for Accept, one for Start and one for each call. Accept's has the
+//! six figures, the divisor of place and that of each stream in use.
 //!
 //! Several scripts stand in a bundle: the word 2^32 − 1, with which no whole script begins, since no
 //! description is so long; then for each script its number of bytes, a word, and the script. What each
@@ -76,7 +74,7 @@ fn replay_script(script: &[u8]) -> String {
     let Some(script) = Script::read(script) else {
         return "short script\n".to_string();
     };
-    let mut machine = Machine::new(&script.description);
+    let mut machine = Machine::new(script.board, &script.description);
     let mut output = machine.opening(&script.values);
     for call in script.calls {
         let Some(line) = machine.call(call) else {
@@ -91,17 +89,19 @@ fn replay_script(script: &[u8]) -> String {
 /// A script, read from its words.
 pub struct Script {
     pub description: Vec<u8>,
+    pub board: u32,
     pub values: Vec<u32>,
     pub calls: Vec<Call>,
 }
 
 impl Script {
-    /// Reads a script, unless it is cut off within the description or the values.
+    /// Reads a script, unless it is cut off before its calls.
     pub fn read(bytes: &[u8]) -> Option<Script> {
         let mut rest = bytes;
         let length = next_word(&mut rest)? as usize;
         let description = next_bytes(&mut rest, length)?.to_vec();
         next_bytes(&mut rest, (4 - length % 4) % 4)?;
+        let board = next_word(&mut rest)?;
         let count = next_word(&mut rest)? as usize;
         let values = words(next_bytes(&mut rest, count.checked_mul(4)?)?);
         let calls = rest
@@ -113,6 +113,7 @@ impl Script {
             .collect();
         Some(Script {
             description,
+            board,
             values,
             calls,
         })
@@ -123,6 +124,7 @@ impl Script {
         let mut bytes = (self.description.len() as u32).to_le_bytes().to_vec();
         bytes.extend(&self.description);
         bytes.resize(bytes.len().next_multiple_of(4), 0);
+        bytes.extend(self.board.to_le_bytes());
         bytes.extend((self.values.len() as u32).to_le_bytes());
         for word in self.values.iter().chain(self.calls.iter().flatten()) {
             bytes.extend(word.to_le_bytes());
@@ -169,8 +171,8 @@ pub struct Machine {
 
 impl Machine {
     /// Zeroed lists of the lengths that Accept gives.
-    pub fn new(description: &[u8]) -> Machine {
-        let calls = Calls::on(description);
+    pub fn new(board: u32, description: &[u8]) -> Machine {
+        let calls = Calls::on(board, description);
         let (elements, words) = match calls.accept() {
             Ok(accepted) => (accepted.elements, accepted.words),
             Err(_) => (0, 0),

@@ -2,9 +2,9 @@
 
 use crate::calls::{Calls, Row};
 
-/// Document 01's text of the table, or of the refusal.
-pub fn table_text(description: &[u8]) -> String {
-    let calls = Calls::on(description);
+/// Document 01's text of the table on the board that a word names, or of the refusal.
+pub fn table_text(board: u32, description: &[u8]) -> String {
+    let calls = Calls::on(board, description);
     let (accepted, network) = match (calls.accept(), calls.network()) {
         (Ok(accepted), Ok(network)) => (accepted, network),
         (Err(refusal), _) | (_, Err(refusal)) => return format!("{refusal}\n"),

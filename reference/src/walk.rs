@@ -14,9 +14,9 @@ pub fn walk(nest: &Nest) -> Vec<Point> {
         .collect()
 }
 
-/// The walk of a description under document 01's limits; declines by 1 to 10, whatever its streams are.
-pub fn walk_on(description: &[u8]) -> Result<Vec<Point>, Refusal> {
-    Nest::on(description).map(|nest| walk(&nest))
+/// The walk of a description for the board that a word names; declines by 33, then by 1 to 10, whatever its streams are.
+pub fn walk_on(board: u32, description: &[u8]) -> Result<Vec<Point>, Refusal> {
+    Nest::on(board, description).map(|nest| walk(&nest))
 }
 
 /// The instances of a process from first, by the increment, to last; none if it is null.

@@ -1,5 +1,6 @@
 //! Arbitrary bytes and words as descriptions, scripts, lists and states: nothing panics.
 
+use reference::board::GAUGE;
 use reference::calls::{Calls, Row};
 use reference::random::Random;
 use reference::random_description::{accepted, changed, given, large, refused};
@@ -29,23 +30,23 @@ fn descriptions() {
     for _ in 0..2000 {
         let length = random.below(520);
         let bytes = random.bytes(length);
-        assert!(table_text(&bytes).starts_with("refused "));
+        assert!(table_text(GAUGE, &bytes).starts_with("refused "));
         let mut bytes = changed(&mut random);
         disturb(&mut random, &mut bytes);
-        table_text(&bytes);
+        table_text(GAUGE, &bytes);
         // Small words reach further than any words.
         let length = random.below(130);
         let words = random.words(length, -4, 4);
-        table_text(&reference::description::bytes_of(&words));
+        table_text(GAUGE, &reference::description::bytes_of(&words));
     }
     for number in given() {
         assert_eq!(
-            table_text(&refused(&mut random, number)),
+            table_text(GAUGE, &refused(&mut random, GAUGE, number)),
             format!("refused {number}\n")
         );
     }
     for _ in 0..20 {
-        table_text(&large(&mut random).bytes());
+        table_text(GAUGE, &large(&mut random, GAUGE).bytes());
     }
 }
 
@@ -64,7 +65,7 @@ fn wide_boxes() {
             description.left[number] = random.between(-64, 0);
             description.right[number] = random.between(0, 64);
         }
-        table_text(&description.bytes());
+        table_text(GAUGE, &description.bytes());
     }
 }
 
@@ -163,7 +164,7 @@ fn sound_states_that_no_start_leads_to() {
 
 #[test]
 fn no_lists_at_all() {
-    let calls = Calls::on(&[]);
+    let calls = Calls::on(GAUGE, &[]);
     assert!(calls.table(&mut [] as &mut [Row]).is_err());
     assert!(calls.start(&[], &mut [], &mut [], &mut []).is_err());
     assert!(calls.ready(&[], &[], &[], &mut []).is_err());

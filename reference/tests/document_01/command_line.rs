@@ -5,7 +5,8 @@ use std::io::{Read, Write};
 use std::path::PathBuf;
 use std::process::{Command, Output, Stdio};
 
-use reference::designs::polynomial_two;
+use reference::board::GAUGE;
+use reference::designs::{grid, polynomial_one, polynomial_two};
 use reference::examples::{example_scripts, examples};
 use reference::expected::{cases, vectors};
 use reference::random_script::scripts;
@@ -52,17 +53,37 @@ fn check_bad(output: &Output) {
 #[test]
 fn table_walk_and_replay() {
     let description = polynomial_two(2).bytes();
-    let texts: [fn(&[u8]) -> String; 2] = [table_text, walk_text];
+    let texts: [fn(u32, &[u8]) -> String; 2] = [table_text, walk_text];
     for (name, text) in ["table", "walk"].into_iter().zip(texts) {
         let output = run(&[name], &description);
         assert!(output.status.success());
-        assert_eq!(output.stdout, text(&description).as_bytes());
+        assert_eq!(output.stdout, text(GAUGE, &description).as_bytes());
         assert_eq!(run(&[name], &[1; 5000]).stdout, b"refused 2\n");
     }
     for script in scripts(3, 60) {
         let output = run(&["replay"], &script);
         assert!(output.status.success());
         assert_eq!(output.stdout, replay(&script).as_bytes());
+    }
+}
+
+/// Request 2.9: the board is the gauge where nothing is said.
+#[test]
+fn boards() {
+    let texts: [fn(u32, &[u8]) -> String; 2] = [table_text, walk_text];
+    for (name, text) in ["table", "walk"].into_iter().zip(texts) {
+        for description in [polynomial_two(2), polynomial_one(63), grid(17, 16, 3)] {
+            let description = description.bytes();
+            for board in [0, 1, 2, u32::MAX] {
+                let output = run(&[name, "--board", &board.to_string()], &description);
+                assert!(output.status.success());
+                assert_eq!(output.stdout, text(board, &description).as_bytes());
+            }
+        }
+        let on_the_bench = |description: &[u8]| run(&[name, "--board", "1"], description).stdout;
+        assert_eq!(on_the_bench(&polynomial_one(63).bytes()), b"refused 6\n");
+        assert_eq!(on_the_bench(&grid(17, 16, 3).bytes()), b"refused 10\n");
+        assert_eq!(run(&[name, "--board", "2"], &[]).stdout, b"refused 33\n");
     }
 }
 
@@ -130,12 +151,19 @@ fn expected_files() {
 
 #[test]
 fn bad_arguments() {
-    let bad: [&[&str]; 16] = [
+    let bad: [&[&str]; 23] = [
         &[],
         &["tables"],
         &[""],
         &["table", "more"],
         &["walk", "more"],
+        &["table", "--board"],
+        &["table", "--board", "bench"],
+        &["table", "--board", "-1"],
+        &["table", "--bench", "1"],
+        &["walk", "--board", "4294967296"],
+        &["walk", "--board", "1", "more"],
+        &["replay", "--board", "1"],
         &["replay", "more"],
         &["random"],
         &["random", "1"],

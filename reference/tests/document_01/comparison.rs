@@ -2,8 +2,9 @@
 
 use std::collections::BTreeSet;
 
+use reference::board::GAUGE;
 use reference::calls::Calls;
-use reference::compare::{descriptions, input, mix, sum, text, values};
+use reference::compare::{input, mix, on, records, sum, text, values};
 use reference::designs::polynomial_two;
 use reference::examples::examples;
 use reference::random_description::given;
@@ -11,13 +12,13 @@ use reference::Refusal;
 
 #[test]
 fn every_refusal_shape_and_limit() {
-    let descriptions = descriptions();
-    assert!(descriptions.len() >= 3800);
+    let records = records();
+    assert!(records.len() >= 4200);
     let (mut refusals, mut shapes, mut sizes) = (BTreeSet::new(), BTreeSet::new(), BTreeSet::new());
     let (mut nulls, mut strides, mut guards) = (0, BTreeSet::new(), BTreeSet::new());
     let mut divisors = BTreeSet::new();
-    for bytes in &descriptions {
-        let calls = Calls::on(bytes);
+    for record in &records {
+        let calls = Calls::on(record.board, &record.description);
         let found = match calls.accept() {
             Ok(found) => found,
             Err(Refusal(number)) => {
@@ -40,7 +41,7 @@ fn every_refusal_shape_and_limit() {
         let used = found.divisors.into_iter().enumerate();
         divisors.extend(used.map(|(number, divisor)| (loops, number, divisor)));
     }
-    assert!(refusals.into_iter().eq(given()));
+    assert!(refusals.into_iter().eq(given().chain([33])));
     assert_eq!(shapes.len(), 2 * 6 * 2);
     assert!(sizes.contains(&(1024, 4096)));
     assert!(nulls > 1000);
@@ -55,15 +56,15 @@ fn every_refusal_shape_and_limit() {
         .filter(|&(_, number, divisor)| number > 1 || divisor > 0);
     assert_eq!(divisors, expected.collect());
     // At most the longest description and a few bytes that are too many.
-    assert!(descriptions.iter().all(|bytes| bytes.len() <= 508));
-    let size = input(&descriptions).len() + text(&descriptions).len();
-    assert!(size < 2_700_000, "{size} bytes");
+    assert!(records.iter().all(|it| it.description.len() <= 508));
+    let size = input(&records).len() + text(&records).len();
+    assert!(size < 2_800_000, "{size} bytes");
 }
 
 #[test]
 fn text_of_design_two() {
     let bytes = polynomial_two(2).bytes();
-    let text = text(&[vec![0; 3], bytes.clone()]);
+    let text = text(&on(GAUGE, [vec![0; 3], bytes.clone()]));
     let lines: Vec<&str> = text.lines().collect();
     assert_eq!(lines[0], "refused 1");
     assert_eq!(lines[1], "walk 1 0");
@@ -95,7 +96,9 @@ fn text_of_design_two() {
     assert_eq!([plain[2], plain[4], plain[6]], [&unchanged; 3]);
     let given = values(1, 11);
     let mut output = vec![0; 11];
-    assert!(Calls::on(&bytes).plain_run(&given, &mut output).is_ok());
+    assert!(Calls::on(GAUGE, &bytes)
+        .plain_run(&given, &mut output)
+        .is_ok());
     let numbers = |list: &[u32]| list.iter().map(|n| format!(" {n}")).collect::<String>();
     assert_eq!(lines[14], format!("values{}", numbers(&given)));
     assert_eq!(lines[15], format!("final{}", numbers(&output)));
@@ -120,6 +123,10 @@ fn examples_are_accepted() {
     assert!(names.contains("polynomial-two"));
     for example in examples() {
         let bytes = example.description.bytes();
-        assert!(Calls::on(&bytes).accept().is_ok(), "{}", example.name);
+        assert!(
+            Calls::on(GAUGE, &bytes).accept().is_ok(),
+            "{}",
+            example.name
+        );
     }
 }

@@ -1,5 +1,6 @@
 //! The lists that the calls are lent, with the calls on one description.
 
+use reference::board::GAUGE;
 use reference::calls::{Accepted, Calls, Lent, Ran, ReadyProcesses};
 use reference::description::Description;
 use reference::network::{Network, Step};
@@ -16,7 +17,7 @@ pub struct Lists {
 impl Lists {
     /// Zeroed lists of the right lengths for an accepted description.
     pub fn new(description: &Description) -> Lists {
-        let calls = Calls::on(&description.bytes());
+        let calls = Calls::on(GAUGE, &description.bytes());
         let accepted = calls.accept().expect("an accepted description");
         Lists {
             calls,

@@ -49,7 +49,7 @@ impl Coverage {
             Some(number) => *self.refused.entry(number).or_default() += 1,
             None => {
                 self.accepted += 1;
-                let calls = Calls::on(&script.description);
+                let calls = Calls::on(script.board, &script.description);
                 self.add_array(&calls.network().expect("an accepted description").array);
             }
         }
@@ -196,7 +196,9 @@ fn replayed_scripts_cover_document_01() {
     }
     println!("{coverage:#?}");
     assert!(coverage.accepted > scripts.len() / 2 && coverage.short_scripts > 0);
-    assert!(given().all(|number| coverage.refused.contains_key(&number)));
+    assert!(given()
+        .chain([33])
+        .all(|number| coverage.refused.contains_key(&number)));
     check_arrays(&coverage);
     check_calls(&coverage);
     for property in [

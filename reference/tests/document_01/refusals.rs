@@ -1,5 +1,6 @@
 //! Every refusal of every call, and the order in which they are given.
 
+use reference::board::GAUGE;
 use reference::calls::{Calls, Row};
 use reference::description::{bytes_of, Description};
 use reference::designs::{matrix_straight, polynomial_one};
@@ -8,7 +9,7 @@ use reference::Refusal;
 use crate::lists::Lists;
 
 fn refusal(bytes: &[u8]) -> Option<u32> {
-    let answer = Calls::on(bytes).accept();
+    let answer = Calls::on(GAUGE, bytes).accept();
     answer.err().map(|Refusal(number)| number)
 }
 
@@ -242,7 +243,7 @@ fn direction_of_a_written_stream() {
 /// All calls decline by Accept's number first, with lists of whatever length.
 #[test]
 fn accepts_refusals_come_first() {
-    let calls = Calls::on(&one(|d| d.loading[0] = vec![0]));
+    let calls = Calls::on(GAUGE, &one(|d| d.loading[0] = vec![0]));
     let no = Refusal(16);
     let mut list = [1, 2, 3];
     assert_eq!(calls.table(&mut [Row::default(); 2]), Err(no));
@@ -263,7 +264,7 @@ fn accepts_refusals_come_first() {
 
 #[test]
 fn table_18() {
-    let calls = Calls::on(&polynomial_one(2).bytes());
+    let calls = Calls::on(GAUGE, &polynomial_one(2).bytes());
     let mark = Row {
         count: 77,
         ..Row::default()
@@ -424,7 +425,7 @@ fn result_25_before_28() {
 
 #[test]
 fn plain_run_20_before_28() {
-    let calls = Calls::on(&polynomial_one(2).bytes());
+    let calls = Calls::on(GAUGE, &polynomial_one(2).bytes());
     let mut output = [3; 12];
     assert_eq!(calls.plain_run(&[1; 10], &mut output), Err(Refusal(20)));
     assert_eq!(calls.plain_run(&[1; 11], &mut output), Err(Refusal(28)));

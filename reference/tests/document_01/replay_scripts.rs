@@ -1,5 +1,6 @@
 //! Replay: the lines of every call, lends, pokes and scripts that are cut off.
 
+use reference::board::GAUGE;
 use reference::designs::{polynomial_one, polynomial_two};
 use reference::examples::example_scripts;
 use reference::replay::{bundle, replay, Call, Script};
@@ -18,6 +19,7 @@ const LEND: u32 = 8;
 fn small(calls: &[Call]) -> Vec<u8> {
     Script {
         description: polynomial_one(0).bytes(),
+        board: GAUGE,
         values: vec![3, 5, 7],
         calls: calls.to_vec(),
     }
@@ -216,8 +218,8 @@ fn cut_off_scripts() {
         let played = (length - opening) / 16;
         assert_eq!(lines(&whole[..length]), ["run 2 1", "run 3 1"][..played]);
     }
-    // Counts of more than there is.
-    for place in [0, 4 + polynomial_one(0).bytes().len()] {
+    // Counts of more than there is; the board word stands between them.
+    for place in [0, 8 + polynomial_one(0).bytes().len()] {
         let mut script = whole.clone();
         script[place + 3] = 0xFF;
         assert_eq!(replay(&script), "short script\n");
@@ -258,7 +260,8 @@ ready 8 3 17912 0 0 0 0 0 0 0 0 0 0 0 0 0 0 0
 run 263 0
 result 1 2 3 4 5 6 7 8 9 9 8 7 6 5 4 3 2 1 30 24 18 84 69 54 138 114 90
 ";
-    let expected = [polynomial, smoothing, cleared, slanted];
+    // On the bench it is the same.
+    let expected = [polynomial, smoothing, cleared, slanted, polynomial];
     assert_eq!(example_scripts().len(), expected.len());
     for (example, expected) in example_scripts().iter().zip(expected) {
         assert_eq!(replay(&example.script.bytes()), expected);
@@ -305,6 +308,7 @@ fn descriptions_that_are_no_whole_words_are_padded() {
     for length in [0, 1, 2, 3, 4, 11, 13, 14, 15] {
         let script = Script {
             description: description[..length].to_vec(),
+            board: GAUGE,
             values: vec![1],
             calls: vec![[LEND, 1, 2, 0], [RECEIVED, 0, 0, 0]],
         };
@@ -318,6 +322,7 @@ fn descriptions_that_are_no_whole_words_are_padded() {
 fn after_a_refused_description() {
     let script = Script {
         description: vec![0; 12],
+        board: GAUGE,
         values: Vec::new(),
         calls: vec![
             [STEP, 0, 0, 0],
@@ -343,6 +348,7 @@ fn after_a_refused_description() {
 fn a_declined_start_leaves_the_lists() {
     let script = Script {
         description: polynomial_one(0).bytes(),
+        board: GAUGE,
         values: vec![3, 5],
         calls: vec![[WINDOW, 0, 0, 0], [RUN, 99, 0, 0], [RESULT, 0, 0, 0]],
     };

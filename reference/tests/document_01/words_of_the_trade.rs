@@ -1,5 +1,6 @@
 //! Increments, lines, boxes and pipes against searches over everything.
 
+use reference::board::GAUGE;
 use reference::calls::Calls;
 use reference::description::{Description, Matrix};
 use reference::divisor::{greatest_common_divisor, shorten};
@@ -31,7 +32,7 @@ fn arrays(seed: u64, count: usize) -> impl Iterator<Item = (Description, Array)>
     let mut random = Random::new(seed);
     (0..count).map(move |_| {
         let description = accepted(&mut random);
-        let calls = Calls::on(&description.bytes());
+        let calls = Calls::on(GAUGE, &description.bytes());
         let array = calls
             .network()
             .expect("an accepted description")

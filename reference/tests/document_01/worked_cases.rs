@@ -1,5 +1,6 @@
 //! Polynomial product: every worked case of document 01.
 
+use reference::board::GAUGE;
 use reference::calls::Calls;
 use reference::description::Description;
 use reference::designs::{matrix_straight, polynomial_one, polynomial_two};
@@ -10,7 +11,7 @@ use reference::Refusal;
 use crate::lists::Lists;
 
 fn array(description: &Description) -> Array {
-    let calls = Calls::on(&description.bytes());
+    let calls = Calls::on(GAUGE, &description.bytes());
     calls
         .network()
         .expect("an accepted description")
@@ -19,7 +20,7 @@ fn array(description: &Description) -> Array {
 }
 
 fn refusal(description: &Description) -> Option<u32> {
-    let answer = Calls::on(&description.bytes()).accept();
+    let answer = Calls::on(GAUGE, &description.bytes()).accept();
     answer.err().map(|Refusal(number)| number)
 }
 
@@ -130,6 +131,6 @@ y 2 n 3 f 0 2 l 2 0 s 0 0 2 d 0 0 2
 y 3 n 2 f 1 2 l 2 1 s 1 0 3 d 0 1 1
 y 4 n 1 f 2 2 l 2 2 s 2 0 4 d 0 2 0
 ";
-    assert_eq!(table_text(&polynomial_two(2).bytes()), text);
-    assert_eq!(table_text(&[0; 11]), "refused 1\n");
+    assert_eq!(table_text(GAUGE, &polynomial_two(2).bytes()), text);
+    assert_eq!(table_text(GAUGE, &[0; 11]), "refused 1\n");
 }

@@ -3,6 +3,7 @@
 use std::collections::{BTreeMap, BTreeSet};
 use std::slice::from_ref;
 
+use reference::board::GAUGE;
 use reference::calls::{Calls, Row};
 use reference::description::{Description, Matrix};
 use reference::designs::{
@@ -26,7 +27,7 @@ fn divisors(description: &Description) -> [u32; 7] {
 
 /// The points of the processes that have an instance.
 fn working(description: &Description) -> Vec<[i32; 2]> {
-    let calls = Calls::on(&description.bytes());
+    let calls = Calls::on(GAUGE, &description.bytes());
     let mut rows = vec![Row::default(); calls.accept().expect("an accepted description").processes];
     assert_eq!(calls.table(&mut rows), Ok(()));
     let computing = rows.iter().filter(|row| row.count > 0);

@@ -1,8 +1,8 @@
 //! Request 2.8: the limit of refusal 14 is 5, and what has no moving hop from 6 to 8 is answered as before.
 
+use reference::board::{Limits, GAUGE};
 use reference::calls::Calls;
 use reference::description::Description;
-use reference::geometry::Limits;
 use reference::random::Random;
 use reference::random_description::{changed, given, refused};
 use reference::vectors::{dot, is_zero, shortest, times};
@@ -13,7 +13,7 @@ use crate::streams_before;
 /// The limits before the request.
 const FORMER: Limits = Limits {
     hop: 8,
-    ..Limits::NAMED
+    ..Limits::GAUGE
 };
 
 /// The first stream with a moving hop from 6 to 8. A stream without a line has none.
@@ -34,7 +34,7 @@ struct Met([u32; 5]);
 
 impl Met {
     fn judge(&mut self, bytes: &[u8]) {
-        let now = Calls::on(bytes).accept();
+        let now = Calls::on(GAUGE, bytes).accept();
         let before = Calls::within(bytes, &FORMER).accept();
         let description = Description::read(bytes).ok();
         let long = description
@@ -55,8 +55,8 @@ impl Met {
         let Err(Refusal(number)) = now else {
             panic!("a long hop of stream {stream} accepted: {bytes:?}");
         };
-        let of_an_earlier =
-            stream > 0 && Calls::on(&streams_before(description, stream).bytes()).accept() == now;
+        let of_an_earlier = stream > 0
+            && Calls::on(GAUGE, &streams_before(description, stream).bytes()).accept() == now;
         assert!(number <= 14 || of_an_earlier, "{number}: {bytes:?}");
     }
 }
@@ -67,10 +67,10 @@ fn as_before_or_fourteen() {
     let mut met = Met::default();
     for _ in 0..2000 {
         met.judge(&changed(&mut random));
-        met.judge(&refused(&mut random, 14));
+        met.judge(&refused(&mut random, GAUGE, 14));
     }
     for number in given() {
-        met.judge(&refused(&mut random, number));
+        met.judge(&refused(&mut random, GAUGE, number));
     }
     assert!(met.0.iter().all(|&count| count > 0), "{met:?}");
 }
@@ -88,7 +88,7 @@ fn the_worked_cases() {
         let number = |calls: Calls| calls.accept().err().map_or(0, |Refusal(number)| number);
         (
             number(Calls::within(&bytes, &FORMER)),
-            number(Calls::on(&bytes)),
+            number(Calls::on(GAUGE, &bytes)),
         )
     };
     // With 8i+j the hop of b is 8 and that of c is 9.

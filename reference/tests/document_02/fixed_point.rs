@@ -1,5 +1,6 @@
 //! Request 2.1: operation 6 multiplies two words as unsigned 16.16 numbers, and an operation word of 6 no longer meets refusal 4.
 
+use reference::board::GAUGE;
 use reference::body::Operation;
 use reference::calls::Calls;
 use reference::description::{bytes_of, Description};
@@ -75,11 +76,11 @@ fn with_operation(word: i32) -> Vec<u8> {
 #[test]
 fn the_last_operation() {
     for word in 0..=6 {
-        assert!(Calls::on(&with_operation(word)).accept().is_ok());
+        assert!(Calls::on(GAUGE, &with_operation(word)).accept().is_ok());
     }
     for word in [-1, 7, i32::MIN, i32::MAX] {
         assert_eq!(
-            Calls::on(&with_operation(word)).accept(),
+            Calls::on(GAUGE, &with_operation(word)).accept(),
             Err(Refusal(4)),
             "{word}"
         );

@@ -2,6 +2,7 @@
 
 use std::cmp::Ordering;
 
+use reference::board::GAUGE;
 use reference::body::{run_instance, Comparison, Guard, Line, Operation};
 use reference::calls::Calls;
 use reference::description::{bytes_of, Description};
@@ -88,7 +89,7 @@ fn ranges() {
             };
             for line in 0..design.body.len() {
                 let bytes = with_guard(&design, line, [number, comparison, bound]);
-                assert_eq!(Calls::on(&bytes).accept(), expected);
+                assert_eq!(Calls::on(GAUGE, &bytes).accept(), expected);
             }
         }
     }
@@ -113,7 +114,7 @@ fn of_length(loops: usize, streams: usize, lines: usize, line_words: usize) -> V
 /// A direction of 0 is 4, so what is 4 has the length that its sizes give.
 #[test]
 fn lengths() {
-    let number = |bytes: &[u8]| Calls::on(bytes).accept().err();
+    let number = |bytes: &[u8]| Calls::on(GAUGE, bytes).accept().err();
     for loops in 2..=3 {
         for streams in 1..=6 {
             for lines in 1..=8 {
@@ -143,7 +144,7 @@ fn the_older_length() {
             older.len(),
             description.bytes().len() - 12 * description.body.len()
         );
-        assert_eq!(Calls::on(&older).accept(), Err(Refusal(3)));
+        assert_eq!(Calls::on(GAUGE, &older).accept(), Err(Refusal(3)));
     }
 }
 
@@ -181,7 +182,7 @@ fn answered_whatever_the_guards() {
     let mut random = Random::new(52);
     for number in given().filter(|&number| number > 4) {
         for _ in 0..10 {
-            let bytes = refused(&mut random, number);
+            let bytes = refused(&mut random, GAUGE, number);
             let description = Description::read(&bytes).unwrap_or_else(|_| accepted(&mut random));
             let other = guarded(&description, || guard(&mut random, &description));
             assert_eq!(accept(&other), accept(&description));

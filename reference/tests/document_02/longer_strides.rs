@@ -2,6 +2,7 @@
 
 use std::collections::BTreeMap;
 
+use reference::board::GAUGE;
 use reference::calls::{Accepted, Calls, Row};
 use reference::description::{bytes_of, Description};
 use reference::designs::{
@@ -21,7 +22,7 @@ fn increment(description: &Description) -> Point {
 }
 
 fn table(description: &Description) -> Vec<Row> {
-    let calls = Calls::on(&description.bytes());
+    let calls = Calls::on(GAUGE, &description.bytes());
     let mut rows = vec![Row::default(); calls.accept().expect("an accepted description").processes];
     assert_eq!(calls.table(&mut rows), Ok(()));
     rows
@@ -148,7 +149,10 @@ fn answered_by_what_comes_after() {
     let mut random = Random::new(24);
     let mut answers: BTreeMap<u32, u32> = BTreeMap::new();
     let mut judge = |bytes: &[u8]| {
-        let number = Calls::on(bytes).accept().err().map_or(0, |Refusal(n)| n);
+        let number = Calls::on(GAUGE, bytes)
+            .accept()
+            .err()
+            .map_or(0, |Refusal(n)| n);
         assert_ne!(number, 9);
         let long = Description::read(bytes).is_ok_and(|description| {
             let increment = shortest(&description.place, &description.step, 7, 8);
@@ -159,7 +163,7 @@ fn answered_by_what_comes_after() {
         }
     };
     for number in given() {
-        (0..30).for_each(|_| judge(&refused(&mut random, number)));
+        (0..30).for_each(|_| judge(&refused(&mut random, GAUGE, number)));
     }
     for _ in 0..1000 {
         judge(&changed(&mut random));

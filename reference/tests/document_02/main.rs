@@ -1,5 +1,6 @@
 //! Tests of the second implementation against document 02.
 
+mod bench_board;
 mod divisors;
 mod five_places;
 mod fixed_point;
@@ -7,13 +8,14 @@ mod guards;
 mod longer_strides;
 mod walk;
 
+use reference::board::GAUGE;
 use reference::calls::{Accepted, Calls, Lent};
 use reference::description::Description;
 use reference::network::Step;
 use reference::Refusal;
 
 fn accept(description: &Description) -> Result<Accepted, Refusal> {
-    Calls::on(&description.bytes()).accept()
+    Calls::on(GAUGE, &description.bytes()).accept()
 }
 
 /// The received values of a run to the end, in element order: they are those of the plain run.
@@ -49,7 +51,7 @@ fn finished(
     values: &[u32],
     run: impl FnOnce(&Calls, Lent) -> u64,
 ) -> Vec<u32> {
-    let calls = Calls::on(&description.bytes());
+    let calls = Calls::on(GAUGE, &description.bytes());
     let figures = calls.accept().expect("an accepted description");
     let mut waiting = vec![0; figures.elements];
     let mut received = vec![0; figures.elements];

@@ -3,9 +3,10 @@
 
 use std::collections::{BTreeMap, BTreeSet};
 
+use reference::board::GAUGE;
 use reference::body::{Line, Operation};
 use reference::calls::{Calls, Row};
-use reference::compare;
+use reference::compare::{self, Record};
 use reference::description::Description;
 use reference::designs::{
     decimating, decimating_by_four, decimating_channels, matrix_slanted, matrix_twice,
@@ -27,7 +28,7 @@ use reference::Refusal;
 use crate::{accept, results, streams_before};
 
 fn walk(description: &Description) -> Vec<Point> {
-    walk_on(&description.bytes()).expect("a description that passes refusals 1 to 10")
+    walk_on(GAUGE, &description.bytes()).expect("a description that passes refusals 1 to 10")
 }
 
 fn increment(description: &Description) -> Point {
@@ -119,7 +120,7 @@ fn any_nest(random: &mut Random) -> Description {
             loading: vec![random.words(loops - 1, -1, 1)],
             body: vec![Line::always(Operation::Copy, 1, 0, 0)],
         };
-        if Nest::on(&description.bytes()).is_ok() {
+        if Nest::on(GAUGE, &description.bytes()).is_ok() {
             return description;
         }
     }
@@ -164,7 +165,7 @@ fn from_first_to_last_of_the_table() {
             strided(&mut random)
         };
         let loops = description.loops();
-        let calls = Calls::on(&description.bytes());
+        let calls = Calls::on(GAUGE, &description.bytes());
         let processes = calls.accept().expect("an accepted description").processes;
         let mut rows = vec![Row::default(); processes];
         assert_eq!(calls.table(&mut rows), Ok(()));
@@ -206,17 +207,17 @@ fn the_step_turns_the_lines() {
 #[test]
 fn refusals() {
     let mut random = Random::new(44);
-    let judge = |bytes: &[u8]| match (Calls::on(bytes).accept(), walk_on(bytes)) {
+    let judge = |bytes: &[u8]| match (Calls::on(GAUGE, bytes).accept(), walk_on(GAUGE, bytes)) {
         (Ok(accepted), walk) => assert_eq!(walk.map(|walk| walk.len()), Ok(accepted.instances)),
         (Err(Refusal(number @ 1..=10)), walk) => assert_eq!(walk, Err(Refusal(number))),
         (Err(_), walk) => {
-            let nest = Nest::on(bytes).expect("a description that passes refusals 1 to 10");
+            let nest = Nest::on(GAUGE, bytes).expect("a description that passes refusals 1 to 10");
             assert_eq!(walk.map(|walk| walk.len()), Ok(nest.instances.len()));
         }
     };
     for number in given() {
         let count = if number == 10 { 3 } else { 40 };
-        (0..count).for_each(|_| judge(&refused(&mut random, number)));
+        (0..count).for_each(|_| judge(&refused(&mut random, GAUGE, number)));
     }
     for _ in 0..300 {
         judge(&changed(&mut random));
@@ -309,8 +310,8 @@ fn refusal_17_is_by_the_definition() {
     for number in 11..=17 {
         let count = if number == 17 { 100 } else { 30 };
         for _ in 0..count {
-            judged.judge_bytes(&refused(&mut random, number));
-            judged.judge_bytes(&refused_from(&mut random, number, strided));
+            judged.judge_bytes(&refused(&mut random, GAUGE, number));
+            judged.judge_bytes(&refused_from(&mut random, GAUGE, number, strided));
         }
     }
     assert!((11..=17).all(|number| judged.answers[&number] >= 60));
@@ -374,7 +375,7 @@ y 4 t 6 x 2 0
 y 5 t 7 x 2 1
 y 6 t 8 x 2 2
 ";
-    assert_eq!(walk_text(&decimating(2, 2).bytes()), text);
+    assert_eq!(walk_text(GAUGE, &decimating(2, 2).bytes()), text);
 }
 
 /// Null processes stand between working ones; the walk has nothing there.
@@ -391,7 +392,7 @@ y 1 1 t 2 x 1 0 1
 y 2 0 t 2 x 1 1 0
 y 2 0 t 3 x 1 1 1
 ";
-    assert_eq!(walk_text(&matrix_slanted(1).bytes()), text);
+    assert_eq!(walk_text(GAUGE, &matrix_slanted(1).bytes()), text);
     let mut turned = matrix_slanted(1);
     turned.step = vec![1, 1, -1];
     turned.right = vec![0, 1, 1];
@@ -402,7 +403,7 @@ y 0 0 t 0 x 0 0 0
 y 1 -1 t 0 x 0 1 1
 y 1 -1 t 1 x 0 1 0
 ";
-    assert_eq!(walk_text(&turned.bytes()), text);
+    assert_eq!(walk_text(GAUGE, &turned.bytes()), text);
     let walk = walk(&spaced(1));
     assert_eq!(walk, [[0, 0], [0, 1], [1, 0], [1, 1]]);
 }
@@ -415,20 +416,20 @@ fn texts_of_refused_descriptions() {
     description.step = vec![3, 1];
     assert_eq!(accept(&description), Err(Refusal(13)));
     assert_eq!(
-        walk_text(&description.bytes()),
-        walk_text(&decimating(2, 2).bytes())
+        walk_text(GAUGE, &description.bytes()),
+        walk_text(GAUGE, &decimating(2, 2).bytes())
     );
     let mut spread = sheet(1);
     spread.maps[5] = vec![vec![1, 0, 0], vec![0, 2, 0]];
     assert_eq!(accept(&spread), Err(Refusal(17)));
-    let text = walk_text(&spread.bytes());
-    assert_eq!(text, walk_text(&sheet(1).bytes()));
+    let text = walk_text(GAUGE, &spread.bytes());
+    assert_eq!(text, walk_text(GAUGE, &sheet(1).bytes()));
     assert_eq!(text.lines().next(), Some("processes 2 instances 4"));
-    assert_eq!(walk_text(&[0; 11]), "refused 1\n");
+    assert_eq!(walk_text(GAUGE, &[0; 11]), "refused 1\n");
     description.place = vec![vec![0, 0]];
-    assert_eq!(walk_text(&description.bytes()), "refused 7\n");
+    assert_eq!(walk_text(GAUGE, &description.bytes()), "refused 7\n");
     description.right = vec![64, 63];
-    assert_eq!(walk_text(&description.bytes()), "refused 6\n");
+    assert_eq!(walk_text(GAUGE, &description.bytes()), "refused 6\n");
 }
 
 /// 4,096 instances, and as many elements in each of six boxes.
@@ -477,11 +478,11 @@ fn what_the_comparison_shows() {
     let mut strides = BTreeSet::new();
     let mut turned = BTreeSet::new();
     let mut filled = BTreeSet::new();
-    for bytes in compare::descriptions() {
-        let Ok(nest) = Nest::on(&bytes) else {
+    for Record { board, description } in compare::records() {
+        let Ok(nest) = Nest::on(board, &description) else {
             continue;
         };
-        let calls = Calls::on(&bytes);
+        let calls = Calls::on(board, &description);
         let answer = calls.accept().err().map_or(0, |Refusal(number)| number);
         let several = nest.processes.iter().any(|process| process.count() > 1);
         if several && !within_one(&nest.increment.vector) {
@@ -515,7 +516,7 @@ fn lines_of_the_comparison() {
     let mut below = polynomial_one(0);
     (below.left, below.right) = (vec![-3, -2], vec![-3, -1]);
     let designs = [polynomial_two(2), refused.clone(), still, sheet(2), below];
-    let text = compare::text(&designs.map(|it| it.bytes()));
+    let text = compare::text(&compare::on(GAUGE, designs.map(|it| it.bytes())));
     let lines: Vec<&str> = text.lines().collect();
     let sum = |description: &Description| {
         let padded = walk(description).into_iter().flat_map(|mut instance| {
