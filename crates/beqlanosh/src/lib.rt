@@ -1,5 +1,5 @@
 // The library that programs in C or Rust link (include/beqlanosh.h): the calls over numbers and slices alone, each answering the number by which
-// it declines, or 0. It decides nothing of its own but how values lie in words.
+// it declines, or 0. It decides nothing of its own but how values lie in words. The first argument of each call is the board that it serves.
 //
 // specs/, by file:
 //
@@ -8,7 +8,7 @@ ghost use mathlib.Core.Path.{_≡_};
 ghost use mathlib.Core.Bool.{cond};
 ghost use mathlib.Core.List.{[], _∷_};
 ghost use lib.ListN.{length};
-ghost use Rattle.meaning.specs.Limits.{gaugeLimits};
+ghost use Rattle.meaning.specs.Limits.{limitsOf};
 ghost use Rattle.meaning.specs.Accept.{accept};
 ghost use Rattle.meaning.specs.Rules.{memoryOf};
 ghost use Rattle.meaning.specs.Answers.{acceptNumber, acceptValues, answerNumber, ranNumber, ranValues, readyNumber, readyValues};
@@ -47,11 +47,11 @@ fn put_figures(f: Figures, g: Divisors, figures: &mut [u32; 13])
 
 // ACCEPT: the six figures and the divisors of place and of the six streams, if it accepts.
 #[no_mangle]
-pub extern "C" fn beqlanosh_accept(bytes: &[u8], figures: &mut [u32; 13]) -> u32
-    ensures { λ r. ⌜ (r ≡ acceptNumber (accept gaugeLimits (now (bytes .entry))))
-        × (now (figures .exit) ≡ orKept (acceptValues (accept gaugeLimits (now (bytes .entry)))) (now (figures .entry))) ⌝ }
+pub extern "C" fn beqlanosh_accept(board: u32, bytes: &[u8], figures: &mut [u32; 13]) -> u32
+    ensures { λ r. ⌜ (r ≡ acceptNumber (accept (limitsOf board) (now (bytes .entry))))
+        × (now (figures .exit) ≡ orKept (acceptValues (accept (limitsOf board) (now (bytes .entry)))) (now (figures .entry))) ⌝ }
 {
-    let answer = accept::accept(bytes);
+    let answer = accept::accept(board, bytes);
     match answer {
         Acceptance::Accepted(f, g) => {
             put_figures(f, g, figures);
@@ -65,22 +65,22 @@ pub extern "C" fn beqlanosh_accept(bytes: &[u8], figures: &mut [u32; 13]) -> u32
 
 // TABLE: the rows, 21 words each; 18 if fewer fit than there are processes.
 #[no_mangle]
-pub extern "C" fn beqlanosh_table(bytes: &[u8], words: &mut [u32]) -> u32
-    ensures { λ r. ⌜ (r ≡ tableNumber (now (bytes .entry)) (length (now (words .entry))))
-        × (now (words .exit) ≡ laid (tableWords (now (bytes .entry)) (length (now (words .entry)))) (now (words .entry))) ⌝ }
+pub extern "C" fn beqlanosh_table(board: u32, bytes: &[u8], words: &mut [u32]) -> u32
+    ensures { λ r. ⌜ (r ≡ tableNumber (limitsOf board) (now (bytes .entry)) (length (now (words .entry))))
+        × (now (words .exit) ≡ laid (tableWords (limitsOf board) (now (bytes .entry)) (length (now (words .entry)))) (now (words .entry))) ⌝ }
 {
-    listing::table_words(bytes, words)
+    listing::table_words(board, bytes, words)
 }
 
 // ---- plain run
 
 // PLAIN RUN: the final values, of the values given, both in element order.
 #[no_mangle]
-pub extern "C" fn beqlanosh_plain_run(bytes: &[u8], values: &[u32], output: &mut [u32]) -> u32
-    ensures { λ r. ⌜ (r ≡ answerNumber (plainRun gaugeLimits (now (bytes .entry)) (now (values .entry)) (now (output .entry)) .answer))
-        × (now (output .exit) ≡ plainRun gaugeLimits (now (bytes .entry)) (now (values .entry)) (now (output .entry)) .output) ⌝ }
+pub extern "C" fn beqlanosh_plain_run(board: u32, bytes: &[u8], values: &[u32], output: &mut [u32]) -> u32
+    ensures { λ r. ⌜ (r ≡ answerNumber (plainRun (limitsOf board) (now (bytes .entry)) (now (values .entry)) (now (output .entry)) .answer))
+        × (now (output .exit) ≡ plainRun (limitsOf board) (now (bytes .entry)) (now (values .entry)) (now (output .entry)) .output) ⌝ }
 {
-    let answer = plain::plain_run(bytes, values, output);
+    let answer = plain::plain_run(board, bytes, values, output);
     answer_words::number_of(answer)
 }
 
@@ -89,25 +89,27 @@ pub extern "C" fn beqlanosh_plain_run(bytes: &[u8], values: &[u32], output: &mut
 // START: the values, in element order, wait; state and received are cleared.
 #[no_mangle]
 pub extern "C" fn beqlanosh_start(
+    board: u32,
     bytes: &[u8],
     values: &[u32],
     waiting: &mut [u32],
     received: &mut [u32],
     state: &mut [u32],
 ) -> u32
-    ensures { λ r. ⌜ (r ≡ answerNumber (start gaugeLimits (now (bytes .entry)) (now (values .entry))
+    ensures { λ r. ⌜ (r ≡ answerNumber (start (limitsOf board) (now (bytes .entry)) (now (values .entry))
         (memoryOf (now (waiting .entry)) (now (received .entry)) (now (state .entry))) .answer))
         × (memoryOf (now (waiting .exit)) (now (received .exit)) (now (state .exit))
-        ≡ start gaugeLimits (now (bytes .entry)) (now (values .entry))
+        ≡ start (limitsOf board) (now (bytes .entry)) (now (values .entry))
         (memoryOf (now (waiting .entry)) (now (received .entry)) (now (state .entry))) .memory) ⌝ }
 {
-    let answer = start::start(bytes, values, waiting, received, state);
+    let answer = start::start(board, bytes, values, waiting, received, state);
     answer_words::number_of(answer)
 }
 
 // STEP: the step named, if it is ready.
 #[no_mangle]
 pub extern "C" fn beqlanosh_step(
+    board: u32,
     bytes: &[u8],
     kind: u32,
     number: u32,
@@ -116,13 +118,13 @@ pub extern "C" fn beqlanosh_step(
     received: &mut [u32],
     state: &mut [u32],
 ) -> u32
-    ensures { λ r. ⌜ (r ≡ answerNumber (step gaugeLimits (now (bytes .entry)) kind number stream
+    ensures { λ r. ⌜ (r ≡ answerNumber (step (limitsOf board) (now (bytes .entry)) kind number stream
         (memoryOf (now (waiting .entry)) (now (received .entry)) (now (state .entry))) .answer))
         × (memoryOf (now (waiting .entry)) (now (received .exit)) (now (state .exit))
-        ≡ step gaugeLimits (now (bytes .entry)) kind number stream
+        ≡ step (limitsOf board) (now (bytes .entry)) kind number stream
         (memoryOf (now (waiting .entry)) (now (received .entry)) (now (state .entry))) .memory) ⌝ }
 {
-    let answer = step::step(bytes, kind, number, stream, waiting, received, state);
+    let answer = step::step(board, bytes, kind, number, stream, waiting, received, state);
     answer_words::number_of(answer)
 }
 
@@ -136,6 +138,7 @@ fn digit(b: bool) -> u32
 // RUN: so many steps, lowest first; how many were done, and 1 if any is ready, 0 if none.
 #[no_mangle]
 pub extern "C" fn beqlanosh_run(
+    board: u32,
     bytes: &[u8],
     steps: u32,
     waiting: &[u32],
@@ -143,14 +146,14 @@ pub extern "C" fn beqlanosh_run(
     state: &mut [u32],
     answer: &mut [u32; 2],
 ) -> u32
-    ensures { λ r. ⌜ (r ≡ ranNumber (run gaugeLimits (now (bytes .entry)) steps
+    ensures { λ r. ⌜ (r ≡ ranNumber (run (limitsOf board) (now (bytes .entry)) steps
         (memoryOf (now (waiting .entry)) (now (received .entry)) (now (state .entry))) .answer))
         × (memoryOf (now (waiting .entry)) (now (received .exit)) (now (state .exit))
-        ≡ run gaugeLimits (now (bytes .entry)) steps (memoryOf (now (waiting .entry)) (now (received .entry)) (now (state .entry))) .memory)
-        × (now (answer .exit) ≡ orKept (ranValues (run gaugeLimits (now (bytes .entry)) steps
+        ≡ run (limitsOf board) (now (bytes .entry)) steps (memoryOf (now (waiting .entry)) (now (received .entry)) (now (state .entry))) .memory)
+        × (now (answer .exit) ≡ orKept (ranValues (run (limitsOf board) (now (bytes .entry)) steps
         (memoryOf (now (waiting .entry)) (now (received .entry)) (now (state .entry))) .answer)) (now (answer .entry))) ⌝ }
 {
-    let ran = run::run(bytes, steps, waiting, received, state);
+    let ran = run::run(board, bytes, steps, waiting, received, state);
     match ran {
         Ran::Ran { steps: done, ready } => {
             *answer = [done, digit(ready)];
@@ -163,6 +166,7 @@ pub extern "C" fn beqlanosh_run(
 // READY: the bits of the processes that can take, fire or give; how many they are, and the lowest.
 #[no_mangle]
 pub extern "C" fn beqlanosh_ready(
+    board: u32,
     bytes: &[u8],
     words: &mut [u64],
     waiting: &[u32],
@@ -170,15 +174,15 @@ pub extern "C" fn beqlanosh_ready(
     state: &[u32],
     answer: &mut [u32; 2],
 ) -> u32
-    ensures { λ r. ⌜ (r ≡ readyNumber (readyCall gaugeLimits (now (bytes .entry)) (now (words .entry))
+    ensures { λ r. ⌜ (r ≡ readyNumber (readyCall (limitsOf board) (now (bytes .entry)) (now (words .entry))
         (memoryOf (now (waiting .entry)) (now (received .entry)) (now (state .entry))) .answer))
-        × (now (words .exit) ≡ readyCall gaugeLimits (now (bytes .entry)) (now (words .entry))
+        × (now (words .exit) ≡ readyCall (limitsOf board) (now (bytes .entry)) (now (words .entry))
         (memoryOf (now (waiting .entry)) (now (received .entry)) (now (state .entry))) .words)
         × (now (answer .exit)
-        ≡ orKept (readyValues (readyCall gaugeLimits (now (bytes .entry)) (now (words .entry))
+        ≡ orKept (readyValues (readyCall (limitsOf board) (now (bytes .entry)) (now (words .entry))
         (memoryOf (now (waiting .entry)) (now (received .entry)) (now (state .entry))) .answer)) (now (answer .entry))) ⌝ }
 {
-    let found = ready::ready(bytes, words, waiting, received, state);
+    let found = ready::ready(board, bytes, words, waiting, received, state);
     match found {
         Readiness::Ready { count, lowest } => {
             *answer = [count, lowest];
@@ -191,6 +195,7 @@ pub extern "C" fn beqlanosh_ready(
 // WINDOW: where the pipe's part of the waiting values or of the received ones begins, and how long it is.
 #[no_mangle]
 pub extern "C" fn beqlanosh_window(
+    board: u32,
     bytes: &[u8],
     pipe: u32,
     side: u32,
@@ -198,11 +203,18 @@ pub extern "C" fn beqlanosh_window(
     received: &[u32],
     answer: &mut [u32; 2],
 ) -> u32
-    ensures { λ r. ⌜ (r ≡ window gaugeLimits (now (bytes .entry)) pipe side (now (waiting .entry)) (now (received .entry)) .refusal)
+    ensures { λ r. ⌜ (r ≡ window (limitsOf board) (now (bytes .entry)) pipe side (now (waiting .entry)) (now (received .entry)) .refusal)
         × (now (answer .exit) ≡ orKept (windowValues (now (bytes .entry)) pipe
-        (window gaugeLimits (now (bytes .entry)) pipe side (now (waiting .entry)) (now (received .entry)) .refusal)) (now (answer .entry))) ⌝ }
+        (window (limitsOf board) (now (bytes .entry)) pipe side (now (waiting .entry)) (now (received .entry)) .refusal)) (now (answer .entry))) ⌝ }
 {
-    let piece = window::piece_of(bytes, pipe, side, waiting.len(), received.len());
+    let piece = window::piece_of(
+        bytes,
+        boards::limits_of(board),
+        pipe,
+        side,
+        waiting.len(),
+        received.len(),
+    );
     let refusal = piece.refusal;
     if refusal == 0 {
         *answer = [piece.from, piece.length];
@@ -213,17 +225,18 @@ pub extern "C" fn beqlanosh_window(
 // RESULT: once all values are out, those received, in element order.
 #[no_mangle]
 pub extern "C" fn beqlanosh_result(
+    board: u32,
     bytes: &[u8],
     output: &mut [u32],
     waiting: &[u32],
     received: &[u32],
     state: &[u32],
 ) -> u32
-    ensures { λ r. ⌜ (r ≡ answerNumber (result gaugeLimits (now (bytes .entry)) (now (output .entry))
+    ensures { λ r. ⌜ (r ≡ answerNumber (result (limitsOf board) (now (bytes .entry)) (now (output .entry))
         (memoryOf (now (waiting .entry)) (now (received .entry)) (now (state .entry))) .answer))
-        × (now (output .exit) ≡ result gaugeLimits (now (bytes .entry)) (now (output .entry))
+        × (now (output .exit) ≡ result (limitsOf board) (now (bytes .entry)) (now (output .entry))
         (memoryOf (now (waiting .entry)) (now (received .entry)) (now (state .entry))) .output) ⌝ }
 {
-    let answer = result::result(bytes, output, waiting, received, state);
+    let answer = result::result(board, bytes, output, waiting, received, state);
     answer_words::number_of(answer)
 }

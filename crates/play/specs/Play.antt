@@ -1,4 +1,4 @@
--- Calls in words, what they leave of all that is lent, and demand 3 of it. Assumes nothing.
+-- Calls in words, each with the board that it is told, what they leave of all that is lent, and demand 3 of it. Assumes nothing.
 use mathlib.Core.Path.{_≡_, refl, sym, _∙_, ap}
 use mathlib.Core.Bool.{Bool, true, false, cond}
 use mathlib.Core.List.{List, [], _∷_}
@@ -8,13 +8,14 @@ use lib.Dec.{eqb}
 use lib.ListN.{length, getD}
 use borrow.Author.Tests.{eq-eqb, ne-eqb}
 use Rattle.integers.specs.Fill.{fillBy}
+use Rattle.meaning.specs.declared.Limits.{Limits}
 use Rattle.meaning.specs.declared.Answer.{Answer}
 use Rattle.meaning.specs.declared.Answer.the-variants.{Done}
-use Rattle.meaning.specs.Limits.{gaugeLimits}
+use Rattle.meaning.specs.Limits.{limitsOf}
 use Rattle.meaning.specs.Rules.{Memory, memoryOf}
 use Rattle.meaning.specs.Answers.{answerNumber}
 use Rattle.meaning.specs.Calls.{start, step, run, readyCall, window, result}
-use Rattle.meaning.specs.Demand3.{Call, CallStep, CallRun, CallReady, CallWindow, CallResult, leaves, memoryAfter, Demand3}
+use Rattle.meaning.specs.Demand3.{Call, CallStep, CallRun, CallReady, CallWindow, CallResult, Told, leaves, memoryAfter, Demand3}
 use Rattle.answer_words.specs.declared.Words.{Words}
 use Rattle.answer_words.specs.Words.{wordsOf, ofAnswer, ofRan, ofReadiness, noted}
 use Rattle.guarantee.specs.Guarantee.{guarantee}
@@ -66,47 +67,55 @@ lentAfter answers k m =
 
 -- the first word of the k-th call, and its j-th after that
 abbrev pub kindOf : List ℕ → ℕ → ℕ
-kindOf ws k = getD ws (4 * k) 0
+kindOf ws k = getD ws (5 * k) 0
 
 abbrev pub callWord : List ℕ → ℕ → ℕ → ℕ
-callWord ws k j = getD ws (4 * k + j) 0
+callWord ws k j = getD ws (5 * k + j) 0
+
+-- the limits of the board that the k-th call is told
+abbrev pub limitsAt : List ℕ → ℕ → Limits
+limitsAt ws k = limitsOf (callWord ws k 4)
 
 module _ (s ws : List ℕ) where
   abbrev byKind : {B : Type 0} → ℕ → B → B → B → B → B → B
   byKind kind a b c d e = cond (eqb kind 0) a (cond (eqb kind 1) b (cond (eqb kind 2) c (cond (eqb kind 3) d e)))
 
-  abbrev pub callAt : ℕ → Lent → Call
+  abbrev pub callAt : ℕ → Lent → Told
   callAt k L =
-      byKind (kindOf ws k) (CallStep (callWord ws k 1) (callWord ws k 2) (callWord ws k 3)) (CallRun (callWord ws k 1)) (CallReady (L .words))
-      (CallWindow (callWord ws k 1) (callWord ws k 2)) (CallResult (L .output))
+      record {
+        limits = limitsAt ws k;
+        call =
+            byKind (kindOf ws k) (CallStep (callWord ws k 1) (callWord ws k 2) (callWord ws k 3)) (CallRun (callWord ws k 1)) (CallReady (L .words))
+            (CallWindow (callWord ws k 1) (callWord ws k 2)) (CallResult (L .output));
+      }
 
   -- what the k-th call makes of the memory and the lists, by its kind
   module _ (k : ℕ) (M : Memory) (words output part : List ℕ) where
     abbrev madeStep : Made
     madeStep =
-        let r = step gaugeLimits s (callWord ws k 1) (callWord ws k 2) (callWord ws k 3) M in
+        let r = step (limitsAt ws k) s (callWord ws k 1) (callWord ws k 2) (callWord ws k 3) M in
         madeOf (r .memory) words output part (ofAnswer (r .answer))
 
     abbrev madeRun : Made
-    madeRun = let r = run gaugeLimits s (callWord ws k 1) M in madeOf (r .memory) words output part (ofRan (r .answer))
+    madeRun = let r = run (limitsAt ws k) s (callWord ws k 1) M in madeOf (r .memory) words output part (ofRan (r .answer))
 
     abbrev madeReady : Made
-    madeReady = let r = readyCall gaugeLimits s words M in madeOf M (r .words) output part (ofReadiness (r .answer))
+    madeReady = let r = readyCall (limitsAt ws k) s words M in madeOf M (r .words) output part (ofReadiness (r .answer))
 
     abbrev madeWindow : Made
     madeWindow =
-        let r = window gaugeLimits s (callWord ws k 1) (callWord ws k 2) (M .waiting) (M .received) in
+        let r = window (limitsAt ws k) s (callWord ws k 1) (callWord ws k 2) (M .waiting) (M .received) in
         madeOf M words output (copied (r .part) part) (wordsOf (r .refusal) [])
 
     abbrev madeResult : Made
-    madeResult = let r = result gaugeLimits s output M in madeOf M words (r .output) part (ofAnswer (r .answer))
+    madeResult = let r = result (limitsAt ws k) s output M in madeOf M words (r .output) part (ofAnswer (r .answer))
 
     abbrev pub made : Made
     made = byKind (kindOf ws k) madeStep madeRun madeReady madeWindow madeResult
 
     made-memory : (a b c d : Bool)
         → (cond a madeStep (cond b madeRun (cond c madeReady (cond d madeWindow madeResult)))) .memory
-        ≡ leaves gaugeLimits s M
+        ≡ leaves (limitsAt ws k) s M
         (cond a (CallStep (callWord ws k 1) (callWord ws k 2) (callWord ws k 3)) (cond b (CallRun (callWord ws k 1)) (cond c (CallReady words)
         (cond d (CallWindow (callWord ws k 1) (callWord ws k 2)) (CallResult output)))))
     made-memory true b c d = refl
@@ -125,20 +134,20 @@ module _ (s ws : List ℕ) where
   playFrom k zero L = L
   playFrom k (suc n) L = playFrom (suc k) n (turn k L)
 
-  unfoldable pub callsFrom : ℕ → ℕ → Lent → List Call
+  unfoldable pub callsFrom : ℕ → ℕ → Lent → List Told
   callsFrom k zero L = []
   callsFrom k (suc n) L = callAt k L ∷ callsFrom (suc k) n (turn k L)
 
-  turn-memory : (k : ℕ) (L : Lent) → turn k L .memory ≡ leaves gaugeLimits s (L .memory) (callAt k L)
+  turn-memory : (k : ℕ) (L : Lent) → turn k L .memory ≡ leaves (limitsAt ws k) s (L .memory) (callAt k L .call)
   turn-memory k L =
       made-memory k (L .memory) (L .words) (L .output) (L .part) (eqb (kindOf ws k) 0) (eqb (kindOf ws k) 1) (eqb (kindOf ws k) 2) (eqb (kindOf ws k) 3)
 
-  play-memory : (k n : ℕ) (L : Lent) → playFrom k n L .memory ≡ memoryAfter gaugeLimits s (L .memory) (callsFrom k n L)
+  play-memory : (k n : ℕ) (L : Lent) → playFrom k n L .memory ≡ memoryAfter s (L .memory) (callsFrom k n L)
   unfolding playFrom callsFrom memoryAfter
   play-memory k zero L = refl
   play-memory k (suc n) L =
       play-memory (suc k) n (turn k L)
-      ∙ ap (λ (M : Memory). memoryAfter gaugeLimits s M (callsFrom (suc k) n (turn k L))) (turn-memory k L)
+      ∙ ap (λ (M : Memory). memoryAfter s M (callsFrom (suc k) n (turn k L))) (turn-memory k L)
 
   -- a turn of the loop over n calls
   pub play-next : (n k : ℕ) (L : Lent) → k < n → playFrom k (n - k) L ≡ playFrom (k + 1) (n - (k + 1)) (turn k L)
@@ -157,11 +166,11 @@ module _ (s ws : List ℕ) where
 
 -- ---- Start, and then the calls, if it has not declined
 
-module _ (s values ws : List ℕ) where
+module _ (board : ℕ) (s values ws : List ℕ) where
   abbrev pub started : Lent → Lent
   started L =
       record {
-        memory = start gaugeLimits s values (L .memory) .memory;
+        memory = start (limitsOf board) s values (L .memory) .memory;
         words = L .words;
         output = L .output;
         part = L .part;
@@ -169,28 +178,28 @@ module _ (s values ws : List ℕ) where
       }
 
   abbrev pub played : Lent → Lent
-  played L = cond (eqb (answerNumber (start gaugeLimits s values (L .memory) .answer)) 0) (playFrom s ws 0 (length ws / 4) (started L)) (started L)
+  played L = cond (eqb (answerNumber (start (limitsOf board) s values (L .memory) .answer)) 0) (playFrom s ws 0 (length ws / 5) (started L)) (started L)
 
-  abbrev pub callsMade : Lent → List Call
-  callsMade L = callsFrom s ws 0 (length ws / 4) (started L)
+  abbrev pub callsMade : Lent → List Told
+  callsMade L = callsFrom s ws 0 (length ws / 5) (started L)
 
-  pub played-on : (L : Lent) {r : Answer} {k : ℕ} {L₁ L' : Lent} → r ≡ start gaugeLimits s values (L .memory) .answer → k ≡ answerNumber r → k ≡ 0
-      → L₁ ≡ started L → L' ≡ playFrom s ws 0 (length ws / 4) L₁ → L' ≡ played L
+  pub played-on : (L : Lent) {r : Answer} {k : ℕ} {L₁ L' : Lent} → r ≡ start (limitsOf board) s values (L .memory) .answer → k ≡ answerNumber r → k ≡ 0
+      → L₁ ≡ started L → L' ≡ playFrom s ws 0 (length ws / 5) L₁ → L' ≡ played L
   played-on L a b z e p =
-      rw (eq-eqb (answerNumber (start gaugeLimits s values (L .memory) .answer)) 0 (ap answerNumber (sym a) ∙ sym b ∙ z))
-      (p ∙ ap (playFrom s ws 0 (length ws / 4)) e)
+      rw (eq-eqb (answerNumber (start (limitsOf board) s values (L .memory) .answer)) 0 (ap answerNumber (sym a) ∙ sym b ∙ z))
+      (p ∙ ap (playFrom s ws 0 (length ws / 5)) e)
 
-  pub played-off : (L : Lent) {r : Answer} {k : ℕ} {L' : Lent} → r ≡ start gaugeLimits s values (L .memory) .answer → k ≡ answerNumber r
+  pub played-off : (L : Lent) {r : Answer} {k : ℕ} {L' : Lent} → r ≡ start (limitsOf board) s values (L .memory) .answer → k ≡ answerNumber r
       → (k ≡ 0 → ⊥) → L' ≡ started L → L' ≡ played L
   played-off L a b z e =
-      rw (ne-eqb (answerNumber (start gaugeLimits s values (L .memory) .answer)) 0 (λ f. z (b ∙ ap answerNumber a ∙ f))) e
+      rw (ne-eqb (answerNumber (start (limitsOf board) s values (L .memory) .answer)) 0 (λ f. z (b ∙ ap answerNumber a ∙ f))) e
 
   -- demand 3 of what is left
-  pub promised : (L : Lent) {r : Answer} {L' : Lent} → r ≡ start gaugeLimits s values (L .memory) .answer → L' ≡ played L → r ≡ Done
-      → Demand3 gaugeLimits s values (L .memory)
-      × (L' .memory ≡ memoryAfter gaugeLimits s (start gaugeLimits s values (L .memory) .memory) (callsMade L))
+  pub promised : (L : Lent) {r : Answer} {L' : Lent} → r ≡ start (limitsOf board) s values (L .memory) .answer → L' ≡ played L → r ≡ Done
+      → Demand3 (limitsOf board) s values (L .memory)
+      × (L' .memory ≡ memoryAfter s (start (limitsOf board) s values (L .memory) .memory) (callsMade L))
   promised L {r} {L'} a e d = (
-    guarantee gaugeLimits s values (L .memory) (sym a ∙ d),
-    ap (λ (L : Lent). L .memory) e ∙ ap (λ (A : Answer). (cond (eqb (answerNumber A) 0) (playFrom s ws 0 (length ws / 4) (started L)) (started L)) .memory) (sym a ∙ d)
-        ∙ play-memory s ws 0 (length ws / 4) (started L),
+    guarantee (limitsOf board) s values (L .memory) (sym a ∙ d),
+    ap (λ (L : Lent). L .memory) e ∙ ap (λ (A : Answer). (cond (eqb (answerNumber A) 0) (playFrom s ws 0 (length ws / 5) (started L)) (started L)) .memory) (sym a ∙ d)
+        ∙ play-memory s ws 0 (length ws / 5) (started L),
   )

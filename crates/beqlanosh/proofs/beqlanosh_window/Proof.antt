@@ -6,8 +6,11 @@ use borrow.Author.Needs.{needs}
 use Rattle.beqlanosh.proofs.beqlanosh_window.Statement.{statement}
 use Rattle.beqlanosh.proofs.beqlanosh_window.Tie as tie
 
+limits-of-requires : tie.Need-limits-of-requires
+limits-of-requires c κs = search needs
+
 piece-of-requires : tie.Need-piece-of-requires
-piece-of-requires c κs = search needs
+piece-of-requires c κs = c .before .limits-of .ensures .1
 
 returns : tie.Need-returns
 returns c =
@@ -26,4 +29,4 @@ returns-2 c =
     (q, window-declined (now (a .bytes)) (a .pipe) (now (a .answer)) e q (c .if1 .left))
 
 pub beqlanosh-window-spec : {M : Type 1} → statement M
-beqlanosh-window-spec = tie.close (tie.spec piece-of-requires returns returns-2)
+beqlanosh-window-spec = tie.close (tie.spec limits-of-requires piece-of-requires returns returns-2)

@@ -9,6 +9,18 @@ use Rattle.play.specs.Play.{kindOf, same-made}
 use Rattle.play.proofs.make_call.Statement.{statement}
 use Rattle.play.proofs.make_call.Tie as tie
 
+mul-board : tie.Need-mul-board
+mul-board c = search needs
+
+add-board : tie.Need-add-board
+add-board c = search needs
+
+mul-board-2 : tie.Need-mul-board-2
+mul-board-2 c = search needs
+
+shared-slice-read-board : tie.Need-shared-slice-read-board
+shared-slice-read-board c = search needs
+
 mul-match : tie.Need-mul-match
 mul-match c = search needs
 
@@ -187,6 +199,10 @@ pub make-call-spec : {M : Type 1} → statement M
 make-call-spec =
     tie.close
     (tie.spec
+    mul-board
+    add-board
+    mul-board-2
+    shared-slice-read-board
     mul-match
     mul-match-2
     shared-slice-read-match

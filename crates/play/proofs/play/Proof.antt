@@ -42,9 +42,9 @@ returns c =
     let s = c .before .before .before .before .before .before .before .before .before .before .before .before .before .before .before .before .before .before .before .before .before .before .before .before .before .before .before .before .start .ensures in
     let L = lentOf (now (a .waiting)) (now (a .received)) (now (a .state)) (now (a .words)) (now (a .output)) (now (a .part)) (now (a .answers)) in
     let m =
-    played-on (now (a .s)) (now (a .values)) (now (a .calls)) L (s .0) (c .before .before .before .before .before .before .before .before .before .before .before .before .before .before .before .before .before .before .before .before .before .number-of .ensures) (c .before .before .before .before .before .before .before .before .before .before .before .before .before .before .before .before .before .before .before .before .if1 .taken)
+    played-on (a .board) (now (a .s)) (now (a .values)) (now (a .calls)) L (s .0) (c .before .before .before .before .before .before .before .before .before .before .before .before .before .before .before .before .before .before .before .before .before .number-of .ensures) (c .before .before .before .before .before .before .before .before .before .before .before .before .before .before .before .before .before .before .before .before .if1 .taken)
     (same-lent (s .1) refl refl refl refl) (c .before .before .before .before .before .before .before .before .before .before .before .before .play-calls .ensures) in
-    (s .0, m, promised (now (a .s)) (now (a .values)) (now (a .calls)) L (s .0) m)
+    (s .0, m, promised (a .board) (now (a .s)) (now (a .values)) (now (a .calls)) L (s .0) m)
 
 same-length-8 : tie.Need-same-length-8
 same-length-8 c = search needs
@@ -61,9 +61,9 @@ returns-2 c =
     let s = c .before .before .before .before .before .before .before .before .start .ensures in
     let L = lentOf (now (a .waiting)) (now (a .received)) (now (a .state)) (now (a .words)) (now (a .output)) (now (a .part)) (now (a .answers)) in
     let m =
-    played-off (now (a .s)) (now (a .values)) (now (a .calls)) L (s .0) (c .before .number-of .ensures) (c .if1 .left)
+    played-off (a .board) (now (a .s)) (now (a .values)) (now (a .calls)) L (s .0) (c .before .number-of .ensures) (c .if1 .left)
     (same-lent (s .1) refl refl refl refl) in
-    (s .0, m, promised (now (a .s)) (now (a .values)) (now (a .calls)) L (s .0) m)
+    (s .0, m, promised (a .board) (now (a .s)) (now (a .values)) (now (a .calls)) L (s .0) m)
 
 pub play-spec : {M : Type 1} → statement M
 play-spec =
