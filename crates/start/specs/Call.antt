@@ -10,10 +10,10 @@ use borrow.Author.Tests.{ne-eqb, eqb-true, not-false, ltb-false}
 use Rattle.integers.specs.Fill.{fillBy}
 use Rattle.meaning.specs.declared.Description.{Description}
 use Rattle.meaning.specs.declared.Figures.{Figures}
+use Rattle.meaning.specs.declared.Limits.{Limits}
 use Rattle.meaning.specs.declared.Answer.{Answer}
 use Rattle.meaning.specs.declared.Answer.the-variants.{Done, Refused}
 use Rattle.meaning.specs.Tests.{Test, _if_, refusal}
-use Rattle.meaning.specs.Limits.{gaugeLimits}
 use Rattle.meaning.specs.Description.{descriptionOf}
 use Rattle.meaning.specs.Body.{gather}
 use Rattle.meaning.specs.Array.{arrayOf, pipeOrder}
@@ -107,13 +107,13 @@ module _ (d : Description) {f : Figures} (e : f ≡ figures d) (values : List �
   call-refused g = let q = ne-eqb n 0 g in record { answers = rw (← own, q) refl; leaves = rw (← own, q) refl }
 
 -- the whole call
-module _ (s values : List ℕ) (M : Memory) where
-  pub accepted-call : {d : Description} {r : Answer} {M' : Memory} → refusalOf gaugeLimits s ≡ 0 → d ≡ descriptionOf s → Called d values M r M'
-      → (r ≡ start gaugeLimits s values M .answer) × (M' ≡ start gaugeLimits s values M .memory)
+module _ (l : Limits) (s values : List ℕ) (M : Memory) {n : ℕ} (e : n ≡ refusalOf l s) where
+  pub accepted-call : {d : Description} {r : Answer} {M' : Memory} → n ≡ 0 → d ≡ descriptionOf s → Called d values M r M'
+      → (r ≡ start l s values M .answer) × (M' ≡ start l s values M .memory)
   unfolding start
-  accepted-call {r} {M'} z e h = let c = subst (λ (d : Description). Called d values M r M') e h in rw z (c .answers, c .leaves)
+  accepted-call {r} {M'} z g h = let c = subst (λ (d : Description). Called d values M r M') g h in rw (← e, z) (c .answers, c .leaves)
 
-  pub refused-call : {n : ℕ} → n ≡ refusalOf gaugeLimits s → (n ≡ 0 → ⊥)
-      → (Refused n ≡ start gaugeLimits s values M .answer) × (M ≡ start gaugeLimits s values M .memory)
+  pub refused-call : (n ≡ 0 → ⊥)
+      → (Refused n ≡ start l s values M .answer) × (M ≡ start l s values M .memory)
   unfolding start
-  refused-call {n} e f = rw (← e, ne-eqb n 0 f, ne-eqb n 0 f) (refl, refl)
+  refused-call f = rw (← e, ne-eqb n 0 f, ne-eqb n 0 f) (refl, refl)

@@ -8,7 +8,7 @@ ghost use mathlib.Core.Path.{_≡_};
 ghost use Prim.Native.Nat.{_≤_};
 ghost use lib.ListN.{length};
 ghost use Rattle.meaning.specs.Tests.{refusal};
-ghost use Rattle.meaning.specs.Limits.{gaugeLimits};
+ghost use Rattle.meaning.specs.Limits.{limitsOf};
 ghost use Rattle.meaning.specs.Rules.{memoryOf};
 ghost use Rattle.meaning.specs.Calls.{start};
 ghost use Rattle.layout.specs.Ends.{Ends};
@@ -96,18 +96,19 @@ fn start_accepted(
 
 // START
 pub fn start(
+    board: u32,
     s: &[u8],
     values: &[u32],
     waiting: &mut [u32],
     received: &mut [u32],
     state: &mut [u32],
 ) -> Answer
-    ensures { λ r. ⌜ (r ≡ start gaugeLimits (now (s .entry)) (now (values .entry)) (memoryOf (now (waiting .entry)) (now (received .entry)) (now (state .entry))) .answer)
+    ensures { λ r. ⌜ (r ≡ start (limitsOf board) (now (s .entry)) (now (values .entry)) (memoryOf (now (waiting .entry)) (now (received .entry)) (now (state .entry))) .answer)
         × (memoryOf (now (waiting .exit)) (now (received .exit)) (now (state .exit))
-        ≡ start gaugeLimits (now (s .entry)) (now (values .entry)) (memoryOf (now (waiting .entry)) (now (received .entry)) (now (state .entry))) .memory) ⌝ }
+        ≡ start (limitsOf board) (now (s .entry)) (now (values .entry)) (memoryOf (now (waiting .entry)) (now (received .entry)) (now (state .entry))) .memory) ⌝ }
 {
     let mut ends = [0u32; 3072];
-    let r = verdict::refusal_of(s, &mut ends);
+    let r = verdict::refusal_of(s, boards::limits_of(board), &mut ends);
     if r == 0 {
         let ends = &ends;
         start_accepted(
