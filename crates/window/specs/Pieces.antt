@@ -1,5 +1,5 @@
 -- Where a pipe's part of the lists lies, the call's own refusals, and what the call answers. Assumes nothing.
-use mathlib.Core.Path.{_≡_, refl, sym, _∙_, ap, ap₂, subst}
+use mathlib.Core.Path.{_≡_, refl, sym, _∙_, ap, subst}
 use mathlib.Core.Bool.{Bool, true, false, not, cond, _||_}
 use mathlib.Core.List.{List, [], _∷_, map}
 use Prim.Native.Nat.{ℕ, zero, suc, _+_, _-_, _≤_, _<_}
@@ -9,6 +9,7 @@ use lib.Dec.{T, eqb, ltb}
 use lib.ListN.{length, getD, take, drop, length-append}
 use borrow.Author.Tests.{ne-eqb, eq-eqb, lt-ltb, le-ltb}
 use Rattle.meaning.specs.declared.Description.{Description}
+use Rattle.meaning.specs.declared.Limits.{Limits}
 use Rattle.meaning.specs.Lists.{total, each}
 use Rattle.meaning.specs.Tests.{Test, _if_, refusal}
 use Rattle.meaning.specs.Limits.{gaugeLimits}
@@ -160,35 +161,35 @@ module _ (d : Description) (pipe side waiting received : ℕ) where
 
 -- ---- the call
 
-module _ (s : List ℕ) (pipe side waiting received : ℕ) where
+module _ (l : Limits) (s : List ℕ) (pipe side waiting received : ℕ) where
   -- by the description, and by the bytes
-  pub accepted-call : {r : Piece} {d : Description} → refusalOf gaugeLimits s ≡ 0 → d ≡ descriptionOf s
+  pub accepted-call : {r : Piece} {d : Description} → refusalOf l s ≡ 0 → d ≡ descriptionOf s
       → r ≡ pieceOf d pipe (refusal (ownTests d pipe side waiting received))
-      → r ≡ pieceOf (descriptionOf s) pipe (refusedBy gaugeLimits s (ownTests (descriptionOf s) pipe side waiting received))
+      → r ≡ pieceOf (descriptionOf s) pipe (refusedBy l s (ownTests (descriptionOf s) pipe side waiting received))
   accepted-call z e h = rw z (h ∙ ap (λ (d : Description). pieceOf d pipe (refusal (ownTests d pipe side waiting received))) e)
 
-  pub refused-call : {r : Piece} {n : ℕ} → n ≡ refusalOf gaugeLimits s → (n ≡ 0 → ⊥) → r ≡ nothing n
-      → (r ≡ pieceOf (descriptionOf s) pipe (refusedBy gaugeLimits s (ownTests (descriptionOf s) pipe side waiting received)))
+  pub refused-call : {r : Piece} {n : ℕ} → n ≡ refusalOf l s → (n ≡ 0 → ⊥) → r ≡ nothing n
+      → (r ≡ pieceOf (descriptionOf s) pipe (refusedBy l s (ownTests (descriptionOf s) pipe side waiting received)))
       × (Within r waiting received)
   refused-call {n} e f h = refused-piece (descriptionOf s) pipe h f (go (ne-eqb n 0 f))
     where
-      go : eqb n 0 ≡ false → n ≡ refusedBy gaugeLimits s (ownTests (descriptionOf s) pipe side waiting received)
+      go : eqb n 0 ≡ false → n ≡ refusedBy l s (ownTests (descriptionOf s) pipe side waiting received)
       go q = rw (← e, q) refl
 
 -- and what the caller gets
-module _ (s : List ℕ) (pipe side : ℕ) (waiting received : List ℕ) {r : Piece}
+module _ (l : Limits) (s : List ℕ) (pipe side : ℕ) (waiting received : List ℕ) {r : Piece}
     (e : r ≡ pieceOf (descriptionOf s) pipe
-    (refusedBy gaugeLimits s (ownTests (descriptionOf s) pipe side (length waiting) (length received)))) where
-  pub number-is : r .refusal ≡ window gaugeLimits s pipe side waiting received .refusal
+    (refusedBy l s (ownTests (descriptionOf s) pipe side (length waiting) (length received)))) where
+  pub number-is : r .refusal ≡ window l s pipe side waiting received .refusal
   unfolding window
   number-is = ap (λ (r : Piece). r .refusal) e
 
-  pub part-is : {l : List ℕ} → l ≡ take (r .from + r .length - r .from) (drop (r .from) (cond (eqb side 0) waiting received))
-      → l ≡ window gaugeLimits s pipe side waiting received .part
+  pub part-is : {w : List ℕ} → w ≡ take (r .from + r .length - r .from) (drop (r .from) (cond (eqb side 0) waiting received))
+      → w ≡ window l s pipe side waiting received .part
   unfolding window
   part-is h =
       h ∙ ap (λ (r : Piece). take (r .from + r .length - r .from) (drop (r .from) (cond (eqb side 0) waiting received))) e
-      ∙ go (eqb (refusedBy gaugeLimits s (ownTests (descriptionOf s) pipe side (length waiting) (length received))) 0) (partStart (arrayOf (descriptionOf s)) pipe)
+      ∙ go (eqb (refusedBy l s (ownTests (descriptionOf s) pipe side (length waiting) (length received))) 0) (partStart (arrayOf (descriptionOf s)) pipe)
       (elementsOn (arrayOf (descriptionOf s)) pipe) (cond (eqb side 0) waiting received)
     where
       none : (l : List ℕ) → take (0 + 0 - 0) (drop 0 l) ≡ []

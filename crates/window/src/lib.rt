@@ -9,7 +9,7 @@ ghost use mathlib.Core.Bool.{cond};
 ghost use Prim.Native.Nat.{_+_, _-_, _≤_};
 ghost use lib.Dec.{eqb, ltb};
 ghost use lib.ListN.{length, take, drop};
-ghost use Rattle.meaning.specs.Limits.{gaugeLimits};
+ghost use Rattle.meaning.specs.Limits.{limitsOf, gaugeLimits, UpTo};
 ghost use Rattle.meaning.specs.Tests.{refusal};
 ghost use Rattle.meaning.specs.Description.{streamsOf, descriptionOf};
 ghost use Rattle.meaning.specs.Array.{arrayOf, pipeNumber};
@@ -21,6 +21,7 @@ ghost use Rattle.accept.specs.Shares.{Sharing, Described};
 ghost use Rattle.window.specs.Search.{counted, searched, looking, visited, streamLengths, allLengths};
 ghost use Rattle.window.specs.Pieces.{Windowed, ownTests, pieceOf, nothing, Within};
 use meaning::Description;
+use meaning::Limits;
 use meaning::Nest;
 use meaning::Stream;
 use pipes::Flow;
@@ -186,13 +187,21 @@ fn accepted_piece(
 }
 
 // Where the part lies, by the bytes of the description, of lists of so many words.
-pub fn piece_of(s: &[u8], pipe: u32, side: u32, waiting: usize, received: usize) -> Piece
+pub fn piece_of(
+    s: &[u8],
+    limits: Limits,
+    pipe: u32,
+    side: u32,
+    waiting: usize,
+    received: usize,
+) -> Piece
+    requires { ⌜ UpTo limits gaugeLimits ⌝ }
     ensures { λ r. ⌜ (r ≡ pieceOf (descriptionOf (now (s .entry))) pipe
-        (refusedBy gaugeLimits (now (s .entry)) (ownTests (descriptionOf (now (s .entry))) pipe side waiting received)))
+        (refusedBy limits (now (s .entry)) (ownTests (descriptionOf (now (s .entry))) pipe side waiting received)))
         × (Within r waiting received) ⌝ }
 {
     let mut ends = [0u32; 3072];
-    let number = verdict::refusal_of(s, &mut ends);
+    let number = verdict::refusal_of(s, limits, &mut ends);
     if number == 0 {
         let ends = &ends;
         accepted_piece(decode::description(s), ends, pipe, side, waiting, received)
@@ -221,6 +230,7 @@ fn part_of<'a>(
 
 // WINDOW: the part, and in `number` the number of the refusal, 0 for none.
 pub fn window<'a>(
+    board: u32,
     s: &[u8],
     pipe: u32,
     side: u32,
@@ -228,10 +238,17 @@ pub fn window<'a>(
     received: &'a [u32],
     number: &mut u32,
 ) -> &'a [u32]
-    ensures { λ r. ⌜ (now (number .exit) ≡ window gaugeLimits (now (s .entry)) pipe side (now (waiting .entry)) (now (received .entry)) .refusal)
-        × (now r ≡ window gaugeLimits (now (s .entry)) pipe side (now (waiting .entry)) (now (received .entry)) .part) ⌝ }
+    ensures { λ r. ⌜ (now (number .exit) ≡ window (limitsOf board) (now (s .entry)) pipe side (now (waiting .entry)) (now (received .entry)) .refusal)
+        × (now r ≡ window (limitsOf board) (now (s .entry)) pipe side (now (waiting .entry)) (now (received .entry)) .part) ⌝ }
 {
-    let piece = piece_of(s, pipe, side, waiting.len(), received.len());
+    let piece = piece_of(
+        s,
+        boards::limits_of(board),
+        pipe,
+        side,
+        waiting.len(),
+        received.len(),
+    );
     *number = piece.refusal;
     let from = piece.from as usize;
     let to = from + piece.length as usize;
