@@ -10,7 +10,8 @@ use borrow.Author.Tests.{ne-eqb, eqb-true, not-false, ltb-false}
 use Rattle.meaning.specs.declared.Description.{Description}
 use Rattle.meaning.specs.declared.Figures.{Figures}
 use Rattle.meaning.specs.Tests.{Test, _if_, refusal}
-use Rattle.meaning.specs.Limits.{gaugeLimits}
+use Rattle.meaning.specs.declared.Limits.{Limits}
+use Rattle.meaning.specs.Limits.{gaugeLimits, UpTo}
 use Rattle.meaning.specs.Description.{descriptionOf}
 use Rattle.meaning.specs.Space.{count}
 use Rattle.meaning.specs.Array.{arrayOf, processCount, streamCount, countAt, instanceAt, onPipe}
@@ -18,6 +19,7 @@ use Rattle.meaning.specs.Rules.{Memory, sound}
 use Rattle.meaning.specs.Accept.{refusalOf, figures}
 use Rattle.meaning.specs.Calls.{lengthOf, stateLength, orElse, memoryTests, refusedBy}
 use Rattle.geometry.specs.Descriptions.{Laid, laid}
+use Rattle.geometry.specs.UpTo.{by-gauge}
 use Rattle.geometry.specs.Processes.{runAt}
 use Rattle.stations.specs.Through.{pointOf}
 use Rattle.decode.specs.Refusals.{passed}
@@ -147,13 +149,13 @@ module _ (d : Description) (M : Memory) where
       go false false false true = refl
       go false false false false = refl
 
-pub own-last : (s : List ℕ) (M : Memory) (ts : List Test)
-    → refusedBy gaugeLimits s (memoryTests (descriptionOf s) M ++ ts) ≡ orElse (refusedBy gaugeLimits s (memoryTests (descriptionOf s) M)) (refusal ts)
-own-last s M ts = ap (orElse (refusalOf gaugeLimits s)) (memory-first (descriptionOf s) M ts) ∙ go (eqb (refusalOf gaugeLimits s) 0) refl
+pub own-last : (l : Limits) (s : List ℕ) (M : Memory) (ts : List Test)
+    → refusedBy l s (memoryTests (descriptionOf s) M ++ ts) ≡ orElse (refusedBy l s (memoryTests (descriptionOf s) M)) (refusal ts)
+own-last l s M ts = ap (orElse (refusalOf l s)) (memory-first (descriptionOf s) M ts) ∙ go (eqb (refusalOf l s) 0) refl
   where
-    go : (b : Bool) → eqb (refusalOf gaugeLimits s) 0 ≡ b
-        → cond b (orElse (refusal (memoryTests (descriptionOf s) M)) (refusal ts)) (refusalOf gaugeLimits s)
-        ≡ orElse (cond b (refusal (memoryTests (descriptionOf s) M)) (refusalOf gaugeLimits s)) (refusal ts)
+    go : (b : Bool) → eqb (refusalOf l s) 0 ≡ b
+        → cond b (orElse (refusal (memoryTests (descriptionOf s) M)) (refusal ts)) (refusalOf l s)
+        ≡ orElse (cond b (refusal (memoryTests (descriptionOf s) M)) (refusalOf l s)) (refusal ts)
     go true e = refl
     go false e = rw e refl
 
@@ -205,13 +207,18 @@ module _ (d : Description) {f : Figures} (e : f ≡ figures d) where
 
 -- ---- the whole opening
 
-module _ (s : List ℕ) (M : Memory) {b : List ℕ} where
-  pub opened : {d : Description} {r : Opening} → refusalOf gaugeLimits s ≡ 0 → d ≡ descriptionOf s → Opens d M b r
-      → (r .refusal ≡ refusedBy gaugeLimits s (memoryTests (descriptionOf s) M)) × (r .refusal ≡ 0 → Opened s M b (r .size))
+module _ {l : Limits} (u : UpTo l gaugeLimits) (s : List ℕ) (M : Memory) {b : List ℕ} where
+  pub opened : {d : Description} {r : Opening} → refusalOf l s ≡ 0 → d ≡ descriptionOf s → Opens d M b r
+      → (r .refusal ≡ refusedBy l s (memoryTests (descriptionOf s) M)) × (r .refusal ≡ 0 → Opened s M b (r .size))
   opened {r = r} ok e h =
       let o = subst (λ (d : Description). Opens d M b r) e h in
-      (o .refused ∙ rw ok refl, λ g. record { accepted = ok; stood = o .stood g })
+      (o .refused ∙ rw ok refl, λ g. record { accepted = by-gauge u s ok; stood = o .stood g })
 
-  pub refused : {n : ℕ} {z : Size} → n ≡ refusalOf gaugeLimits s → (n ≡ 0 → ⊥)
-      → (n ≡ refusedBy gaugeLimits s (memoryTests (descriptionOf s) M)) × (n ≡ 0 → Opened s M b z)
+  pub refused : {n : ℕ} {z : Size} → n ≡ refusalOf l s → (n ≡ 0 → ⊥)
+      → (n ≡ refusedBy l s (memoryTests (descriptionOf s) M)) × (n ≡ 0 → Opened s M b z)
   refused {n} e g = (rw (← e, ne-eqb n 0 g) refl, λ h. absurd (g h))
+
+-- the same refusal by limits that are equal
+pub told : {l k : Limits} → l ≡ k → (s : List ℕ) (M : Memory) {n : ℕ} → n ≡ refusedBy l s (memoryTests (descriptionOf s) M)
+    → n ≡ refusedBy k s (memoryTests (descriptionOf s) M)
+told e s M h = h ∙ ap (λ (l : Limits). refusedBy l s (memoryTests (descriptionOf s) M)) e

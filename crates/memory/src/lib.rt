@@ -11,7 +11,7 @@ ghost use mathlib.Core.List.{[], _∷_};
 ghost use Prim.Native.Nat.{_≤_};
 ghost use lib.ListN.{length};
 ghost use Rattle.meaning.specs.Tests.{_if_, refusal};
-ghost use Rattle.meaning.specs.Limits.{gaugeLimits};
+ghost use Rattle.meaning.specs.Limits.{gaugeLimits, UpTo};
 ghost use Rattle.meaning.specs.Description.{descriptionOf};
 ghost use Rattle.meaning.specs.Array.{arrayOf};
 ghost use Rattle.meaning.specs.Rules.{sound, memoryOf};
@@ -22,6 +22,7 @@ ghost use Rattle.memory.specs.Opening.{lengthTests, sizeFrom, Grounds, S
 use book::Size;
 use meaning::Description;
 use meaning::Figures;
+use meaning::Limits;
 
 // The number of the refusal, 0 for none, and the size of the array.
 pub struct Opening {
@@ -94,19 +95,20 @@ fn open_accepted(
 // All refusals that the four calls share, in their order.
 pub fn open(
     s: &[u8],
+    limits: Limits,
     waiting: &[u32],
     received: &[u32],
     state: &[u32],
     ends: &mut [u32; 3072],
     book: &mut [u32],
 ) -> Opening
-    requires { ⌜ length (now book) ≡ 116736 ⌝ }
-    ensures { λ r. ⌜ (r .refusal ≡ refusedBy gaugeLimits (now (s .entry)) (memoryTests (descriptionOf (now (s .entry)))
+    requires { ⌜ (UpTo limits gaugeLimits) × (length (now book) ≡ 116736) ⌝ }
+    ensures { λ r. ⌜ (r .refusal ≡ refusedBy limits (now (s .entry)) (memoryTests (descriptionOf (now (s .entry)))
         (memoryOf (now (waiting .entry)) (now (received .entry)) (now (state .entry)))))
         × (r .refusal ≡ 0 → Opened (now (s .entry)) (memoryOf (now (waiting .entry)) (now (received .entry)) (now (state .entry))) (now (book .exit)) (r .size))
         × (r .refusal ≡ 0 → Ends (descriptionOf (now (s .entry)) .nest) (now (ends .exit))) ⌝ }
 {
-    let r = verdict::refusal_of(s, ends);
+    let r = verdict::refusal_of(s, limits, ends);
     if r == 0 {
         open_accepted(decode::description(s), waiting, received, state, ends, book)
     } else {
