@@ -6,10 +6,10 @@ use Prim.Native.Nat.{ℕ}
 use lib.Dec.{eqb}
 use borrow.Author.Tests.{ne-eqb}
 use Rattle.meaning.specs.declared.Description.{Description}
+use Rattle.meaning.specs.declared.Limits.{Limits}
 use Rattle.meaning.specs.declared.Answer.{Answer}
 use Rattle.meaning.specs.declared.Answer.the-variants.{Done, Refused}
 use Rattle.meaning.specs.Tests.{Test, _if_, refusal}
-use Rattle.meaning.specs.Limits.{gaugeLimits}
 use Rattle.meaning.specs.Description.{descriptionOf}
 use Rattle.meaning.specs.Array.{arrayOf}
 use Rattle.meaning.specs.Rules.{Memory, Found, at, nothing, ready, apply}
@@ -37,33 +37,36 @@ module _ {d : Description} {b : List ℕ} {z : Size} {kind number stream : ℕ} 
       (sym (can-is t M (h .stood .sound) kind number stream (h .inside)) ∙ h .can)
 
 -- the call's own tests of what was found
-abbrev pub ownTests : List ℕ → Memory → Found → List Test
-ownTests s M f = (23 if isNothing gaugeLimits s f) ∷ (24 if not (readyAt gaugeLimits s (M .state) f)) ∷ []
+abbrev pub ownTests : Limits → List ℕ → Memory → Found → List Test
+ownTests l s M f = (23 if isNothing l s f) ∷ (24 if not (readyAt l s (M .state) f)) ∷ []
 
--- what it answers and leaves once the memory is opened
+-- what it answers and leaves under any limits once the memory is opened
 pub record Stepped (s : List ℕ) (kind number stream : ℕ) (M : Memory) (r : Answer) (M' : Memory) : Type 0 where
-  pub answers : r ≡ answer (refusal (ownTests s M (stepOf gaugeLimits s kind number stream)))
-  pub leaves : M' ≡ cond (eqb (refusal (ownTests s M (stepOf gaugeLimits s kind number stream))) 0)
-      (applied gaugeLimits s M (stepOf gaugeLimits s kind number stream)) M
+  pub answers : (l : Limits) → r ≡ answer (refusal (ownTests l s M (stepOf l s kind number stream)))
+  pub leaves : (l : Limits) → M' ≡ cond (eqb (refusal (ownTests l s M (stepOf l s kind number stream))) 0)
+      (applied l s M (stepOf l s kind number stream)) M
 
 module _ {s : List ℕ} {M : Memory} {b : List ℕ} {z : Size} (o : Opened s M b z) (kind number stream : ℕ) where
   ground : Grounds (descriptionOf s)
   ground = grounds s (o .accepted)
 
-  found : stepOf gaugeLimits s kind number stream ≡ cond (namedBy b z kind number stream) (at (stepNamed kind number stream)) nothing
-  found = named-is gaugeLimits s (stands ground (o .stood)) (ground .on) kind number stream
+  found : (l : Limits) → stepOf l s kind number stream ≡ cond (namedBy b z kind number stream) (at (stepNamed kind number stream)) nothing
+  found l = named-is l s (stands ground (o .stood)) (ground .on) kind number stream
 
   -- no step has that name
   pub unnamed : namedBy b z kind number stream ≡ false → Stepped s kind number stream M (Refused 23) M
   unfolding refusal
-  unnamed e = let f : stepOf gaugeLimits s kind number stream ≡ nothing = found ∙ rw e refl in record { answers = rw f refl; leaves = rw f refl }
+  unnamed e = record { answers = λ l. rw (none l) refl; leaves = λ l. rw (none l) refl }
+    where
+      none : (l : Limits) → stepOf l s kind number stream ≡ nothing
+      none l = found l ∙ rw e refl
 
   module _ (e : namedBy b z kind number stream ≡ true) where
     inside : Inside z kind number stream
     inside = named-inside b z kind number stream e
 
-    named : stepOf gaugeLimits s kind number stream ≡ at (stepNamed kind number stream)
-    named = found ∙ rw e refl
+    named : (l : Limits) → stepOf l s kind number stream ≡ at (stepNamed kind number stream)
+    named l = found l ∙ rw e refl
 
     tested : canBy b (M .state) (z .streams) kind number stream ≡ ready (arrayOf (descriptionOf s)) (M .state) (stepNamed kind number stream)
     tested = can-is (stands ground (o .stood)) M (o .stood .sound) kind number stream inside
@@ -74,28 +77,28 @@ module _ {s : List ℕ} {M : Memory} {b : List ℕ} {z : Size} (o : Opened s M b
     -- it has, but the step is not ready
     pub unready : canBy b (M .state) (z .streams) kind number stream ≡ false → Stepped s kind number stream M (Refused 24) M
     unfolding refusal
-    unready c = let r = sym tested ∙ c in record { answers = rw (named, r) refl; leaves = rw (named, r) refl }
+    unready c = let r = sym tested ∙ c in record { answers = λ l. rw (named l, r) refl; leaves = λ l. rw (named l, r) refl }
 
     -- the step is done
     pub done : canBy b (M .state) (z .streams) kind number stream ≡ true → {M' : Memory}
         → M' ≡ apply (arrayOf (descriptionOf s)) M (stepNamed kind number stream) → Stepped s kind number stream M Done M'
     unfolding refusal
-    done c g = let r = sym tested ∙ c in record { answers = rw (named, r) refl; leaves = rw (named, r) g }
+    done c g = let r = sym tested ∙ c in record { answers = λ l. rw (named l, r) refl; leaves = λ l. rw (named l, r) g }
 
 -- the whole call
-module _ (s : List ℕ) (kind number stream : ℕ) (M : Memory) {n : ℕ} (e : n ≡ refusedBy gaugeLimits s (memoryTests (descriptionOf s) M)) where
+module _ (l : Limits) (s : List ℕ) (kind number stream : ℕ) (M : Memory) {n : ℕ} (e : n ≡ refusedBy l s (memoryTests (descriptionOf s) M)) where
   abbrev whole : ℕ
-  whole = refusedBy gaugeLimits s (memoryTests (descriptionOf s) M ++ ownTests s M (stepOf gaugeLimits s kind number stream))
+  whole = refusedBy l s (memoryTests (descriptionOf s) M ++ ownTests l s M (stepOf l s kind number stream))
 
   pub opened-call : n ≡ 0 → {r : Answer} {M' : Memory} → Stepped s kind number stream M r M'
-      → (r ≡ step gaugeLimits s kind number stream M .answer) × (M' ≡ step gaugeLimits s kind number stream M .memory)
+      → (r ≡ step l s kind number stream M .answer) × (M' ≡ step l s kind number stream M .memory)
   unfolding step
   opened-call h t =
-      let z : whole ≡ refusal (ownTests s M (stepOf gaugeLimits s kind number stream)) = own-last s M _ ∙ rw (← e, h) refl in
-      rw z (t .answers, t .leaves)
+      let z : whole ≡ refusal (ownTests l s M (stepOf l s kind number stream)) = own-last l s M _ ∙ rw (← e, h) refl in
+      rw z (t .answers l, t .leaves l)
 
-  pub refused-call : (n ≡ 0 → ⊥) → (Refused n ≡ step gaugeLimits s kind number stream M .answer) × (M ≡ step gaugeLimits s kind number stream M .memory)
+  pub refused-call : (n ≡ 0 → ⊥) → (Refused n ≡ step l s kind number stream M .answer) × (M ≡ step l s kind number stream M .memory)
   unfolding step
   refused-call h =
-      let z : whole ≡ n = own-last s M _ ∙ rw (← e, ne-eqb n 0 h) refl in
+      let z : whole ≡ n = own-last l s M _ ∙ rw (← e, ne-eqb n 0 h) refl in
       rw (z, ne-eqb n 0 h) (refl, refl)

@@ -6,7 +6,7 @@
 //   Call      what the call answers and leaves
 ghost use mathlib.Core.Path.{_≡_};
 ghost use lib.ListN.{length};
-ghost use Rattle.meaning.specs.Limits.{gaugeLimits};
+ghost use Rattle.meaning.specs.Limits.{limitsOf};
 ghost use Rattle.meaning.specs.Description.{descriptionOf};
 ghost use Rattle.meaning.specs.Array.{arrayOf};
 ghost use Rattle.meaning.specs.Rules.{memoryOf, apply};
@@ -129,6 +129,7 @@ fn step_opened(
 
 // STEP
 pub fn step(
+    board: u32,
     s: &[u8],
     kind: u32,
     number: u32,
@@ -137,13 +138,21 @@ pub fn step(
     received: &mut [u32],
     state: &mut [u32],
 ) -> Answer
-    ensures { λ r. ⌜ (r ≡ step gaugeLimits (now (s .entry)) kind number stream (memoryOf (now (waiting .entry)) (now (received .entry)) (now (state .entry))) .answer)
+    ensures { λ r. ⌜ (r ≡ step (limitsOf board) (now (s .entry)) kind number stream (memoryOf (now (waiting .entry)) (now (received .entry)) (now (state .entry))) .answer)
         × (memoryOf (now (waiting .entry)) (now (received .exit)) (now (state .exit))
-        ≡ step gaugeLimits (now (s .entry)) kind number stream (memoryOf (now (waiting .entry)) (now (received .entry)) (now (state .entry))) .memory) ⌝ }
+        ≡ step (limitsOf board) (now (s .entry)) kind number stream (memoryOf (now (waiting .entry)) (now (received .entry)) (now (state .entry))) .memory) ⌝ }
 {
     let mut ends = [0u32; 3072];
     let mut book = [0u32; 116736];
-    let o = memory::open(s, waiting, received, state, &mut ends, &mut book);
+    let o = memory::open(
+        s,
+        boards::limits_of(board),
+        waiting,
+        received,
+        state,
+        &mut ends,
+        &mut book,
+    );
     let r = o.refusal;
     if r == 0 {
         let z = o.size;
