@@ -5,9 +5,9 @@ use Prim.Native.Nat.{ℕ}
 use lib.Dec.{ltb}
 use lib.ListN.{length}
 use borrow.Author.Tests.{ne-eqb}
+use Rattle.meaning.specs.declared.Limits.{Limits}
 use Rattle.meaning.specs.declared.Ran as Ran
 use Rattle.meaning.specs.Lists.{position, numbers}
-use Rattle.meaning.specs.Limits.{gaugeLimits}
 use Rattle.meaning.specs.Description.{descriptionOf}
 use Rattle.meaning.specs.Array.{arrayOf}
 use Rattle.meaning.specs.Rules.{Memory, anyReady, runSteps, applyAll}
@@ -30,14 +30,14 @@ ran-by h e =
     }
 
 -- the whole call
-module _ (s : List ℕ) (steps : ℕ) (M : Memory) {n : ℕ} (e : n ≡ refusedBy gaugeLimits s (memoryTests (descriptionOf s) M)) where
+module _ (l : Limits) (s : List ℕ) (steps : ℕ) (M : Memory) {n : ℕ} (e : n ≡ refusedBy l s (memoryTests (descriptionOf s) M)) where
   pub opened-call : n ≡ 0 → {r : Ran.Ran} {M' : Memory} → RanBy s steps M r M'
-      → (r ≡ run gaugeLimits s steps M .answer) × (M' ≡ run gaugeLimits s steps M .memory)
+      → (r ≡ run l s steps M .answer) × (M' ≡ run l s steps M .memory)
   unfolding run
   opened-call h t =
-      let z : refusedBy gaugeLimits s (memoryTests (descriptionOf s) M) ≡ 0 = sym e ∙ h in
+      let z : refusedBy l s (memoryTests (descriptionOf s) M) ≡ 0 = sym e ∙ h in
       rw z (t .answers ∙ ap (λ (N : Memory). Ran.the-variants.Ran (length (runSteps (arrayOf (descriptionOf s)) steps M)) (anyReady (arrayOf (descriptionOf s)) (N .state))) (t .leaves), t .leaves)
 
-  pub refused-call : (n ≡ 0 → ⊥) → (Ran.the-variants.Refused n ≡ run gaugeLimits s steps M .answer) × (M ≡ run gaugeLimits s steps M .memory)
+  pub refused-call : (n ≡ 0 → ⊥) → (Ran.the-variants.Refused n ≡ run l s steps M .answer) × (M ≡ run l s steps M .memory)
   unfolding run
   refused-call h = rw (← e, ne-eqb n 0 h) (refl, refl)

@@ -10,7 +10,7 @@
 //   Call        what the call answers and leaves
 ghost use mathlib.Core.Path.{_≡_};
 ghost use lib.ListN.{length};
-ghost use Rattle.meaning.specs.Limits.{gaugeLimits};
+ghost use Rattle.meaning.specs.Limits.{limitsOf};
 ghost use Rattle.meaning.specs.Description.{descriptionOf};
 ghost use Rattle.meaning.specs.Rules.{memoryOf};
 ghost use Rattle.meaning.specs.Calls.{run};
@@ -110,14 +110,29 @@ fn run_opened(
 }
 
 // RUN
-pub fn run(s: &[u8], steps: u32, waiting: &[u32], received: &mut [u32], state: &mut [u32]) -> Ran
-    ensures { λ r. ⌜ (r ≡ run gaugeLimits (now (s .entry)) steps (memoryOf (now (waiting .entry)) (now (received .entry)) (now (state .entry))) .answer)
+pub fn run(
+    board: u32,
+    s: &[u8],
+    steps: u32,
+    waiting: &[u32],
+    received: &mut [u32],
+    state: &mut [u32],
+) -> Ran
+    ensures { λ r. ⌜ (r ≡ run (limitsOf board) (now (s .entry)) steps (memoryOf (now (waiting .entry)) (now (received .entry)) (now (state .entry))) .answer)
         × (memoryOf (now (waiting .entry)) (now (received .exit)) (now (state .exit))
-        ≡ run gaugeLimits (now (s .entry)) steps (memoryOf (now (waiting .entry)) (now (received .entry)) (now (state .entry))) .memory) ⌝ }
+        ≡ run (limitsOf board) (now (s .entry)) steps (memoryOf (now (waiting .entry)) (now (received .entry)) (now (state .entry))) .memory) ⌝ }
 {
     let mut ends = [0u32; 3072];
     let mut book = [0u32; 116736];
-    let o = memory::open(s, waiting, received, state, &mut ends, &mut book);
+    let o = memory::open(
+        s,
+        boards::limits_of(board),
+        waiting,
+        received,
+        state,
+        &mut ends,
+        &mut book,
+    );
     let r = o.refusal;
     if r == 0 {
         let z = o.size;
