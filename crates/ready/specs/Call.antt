@@ -7,10 +7,10 @@ use native.Mathlib.Omega.{arith}
 use lib.Dec.{ltb}
 use lib.ListN.{length, take}
 use borrow.Author.Tests.{ne-eqb, lt-ltb, le-ltb}
+use Rattle.meaning.specs.declared.Limits.{Limits}
 use Rattle.meaning.specs.declared.Readiness.{Readiness}
 use Rattle.meaning.specs.declared.Readiness.the-variants.{Ready, Refused}
 use Rattle.meaning.specs.Tests.{_if_, refusal}
-use Rattle.meaning.specs.Limits.{gaugeLimits}
 use Rattle.meaning.specs.Description.{descriptionOf}
 use Rattle.meaning.specs.Array.{arrayOf}
 use Rattle.meaning.specs.Rules.{Memory}
@@ -61,54 +61,54 @@ marked-same f g (suc n) words h =
     ap₂ (λ (b : Bool) (w : List ℕ). cond b (marked w n) w) (h n (omega arith)) (marked-same f g n words λ p l. h p (omega arith))
 
 -- r and w are what the call answers and leaves
-abbrev pub Readies : List ℕ → List ℕ → Memory → Readiness → List ℕ → Type 0
-Readies s words M r w = (r ≡ readyCall gaugeLimits s words M .answer) × (w ≡ readyCall gaugeLimits s words M .words)
+abbrev pub Readies : Limits → List ℕ → List ℕ → Memory → Readiness → List ℕ → Type 0
+Readies l s words M r w = (r ≡ readyCall l s words M .answer) × (w ≡ readyCall l s words M .words)
 
 -- the rows of the book fit the state
 pub opened-fits : (s : List ℕ) (M : Memory) {b : List ℕ} {z : Size} → Opened s M b z → RowsFit (length (M .state)) b z
 opened-fits s M o = fits (grounds s (o .accepted)) (o .stood)
 
-module _ (s words : List ℕ) (M : Memory) where
+module _ (l : Limits) (s words : List ℕ) (M : Memory) where
   -- the refusal of the description, of the memory or of the words
   abbrev number : ℕ
-  number = refusedBy gaugeLimits s (memoryTests (descriptionOf s) M ++ ((27 if ltb (length words) 16) ∷ []))
+  number = refusedBy l s (memoryTests (descriptionOf s) M ++ ((27 if ltb (length words) 16) ∷ []))
 
-  declined : (n : ℕ) → n ≡ number → (n ≡ 0 → ⊥) → Readies s words M (Refused n) words
+  declined : (n : ℕ) → n ≡ number → (n ≡ 0 → ⊥) → Readies l s words M (Refused n) words
   unfolding readyCall
   declined n e g = let q = ne-eqb n 0 g in (rw (← e, q) refl, rw (← e, q) refl)
 
-  module _ {n : ℕ} (e : n ≡ refusedBy gaugeLimits s (memoryTests (descriptionOf s) M)) where
+  module _ {n : ℕ} (e : n ≡ refusedBy l s (memoryTests (descriptionOf s) M)) where
     -- the memory's refusal is the call's
-    pub memory-refused : (n ≡ 0 → ⊥) → Readies s words M (Refused n) words
+    pub memory-refused : (n ≡ 0 → ⊥) → Readies l s words M (Refused n) words
     memory-refused g =
-        declined n (sym (own-last s M ((27 if ltb (length words) 16) ∷ []) ∙ rw (← e, ne-eqb n 0 g) refl)) g
+        declined n (sym (own-last l s M ((27 if ltb (length words) 16) ∷ []) ∙ rw (← e, ne-eqb n 0 g) refl)) g
 
     module _ (none : n ≡ 0) {b : List ℕ} {z : Size} (o : Opened s M b z) where
       t : Stands (arrayOf (descriptionOf s)) b z
       t = stands (grounds s (o .accepted)) (o .stood)
 
       own : number ≡ refusal ((27 if ltb (length words) 16) ∷ [])
-      own = own-last s M ((27 if ltb (length words) 16) ∷ []) ∙ rw (← e, none) refl
+      own = own-last l s M ((27 if ltb (length words) 16) ∷ []) ∙ rw (← e, none) refl
 
-      marked-is : markedBy b (M .state) z words ≡ readied gaugeLimits s (M .state) words
+      marked-is : markedBy b (M .state) z words ≡ readied l s (M .state) words
       marked-is =
-          marked-same (movesBy b (M .state) (z .streams)) (canMove gaugeLimits s (M .state)) (z .processes) (cleared words) (moves-is t M (o .stood .sound))
-          ∙ ap (λ (n : ℕ). markedTo (canMove gaugeLimits s (M .state)) n (cleared words)) (t .size .processes)
+          marked-same (movesBy b (M .state) (z .streams)) (canMove l s (M .state)) (z .processes) (cleared words) (moves-is t M (o .stood .sound))
+          ∙ ap (λ (n : ℕ). markedTo (canMove l s (M .state)) n (cleared words)) (t .size .processes)
 
       -- nothing of the memory is refused
-      pub readies : {r : Readiness} {w : List ℕ} → (r ≡ answerBy b (M .state) z words) × (w ≡ leftBy b (M .state) z words) → Readies s words M r w
+      pub readies : {r : Readiness} {w : List ℕ} → (r ≡ answerBy b (M .state) z words) × (w ≡ leftBy b (M .state) z words) → Readies l s words M r w
       unfolding answerBy leftBy refusal
       readies {r} {w} k = go (ltb (length words) 16) refl
         where
-          go : (f : Bool) → ltb (length words) 16 ≡ f → Readies s words M r w
+          go : (f : Bool) → ltb (length words) 16 ≡ f → Readies l s words M r w
           go true q =
               let d = declined 27 (sym (own ∙ rw q refl)) (λ e. omega arith) in
               let a : answerBy b (M .state) z words ≡ Refused 27 = rw q refl in
-              let l : leftBy b (M .state) z words ≡ words = rw q refl in (k .0 ∙ a ∙ d .0, k .1 ∙ l ∙ d .1)
+              let left : leftBy b (M .state) z words ≡ words = rw q refl in (k .0 ∙ a ∙ d .0, k .1 ∙ left ∙ d .1)
           go false q =
-              let c = ready-call gaugeLimits s words M (omega (arith, t .size .processes, opened-fits s M o .processes)) (own ∙ rw q refl) in
+              let c = ready-call l s words M (omega (arith, t .size .processes, opened-fits s M o .processes)) (own ∙ rw q refl) in
               let a : answerBy b (M .state) z words ≡ answerOf (z .processes) (markedBy b (M .state) z words) = rw q refl in
-              let l : leftBy b (M .state) z words ≡ markedBy b (M .state) z words = rw q refl in (
-                k .0 ∙ a ∙ ap₂ answerOf (t .size .processes) marked-is ∙ sym (ap (λ (x : Readied gaugeLimits s). x .answer) c),
-                k .1 ∙ l ∙ marked-is ∙ sym (ap (λ (x : Readied gaugeLimits s). x .words) c),
+              let left : leftBy b (M .state) z words ≡ markedBy b (M .state) z words = rw q refl in (
+                k .0 ∙ a ∙ ap₂ answerOf (t .size .processes) marked-is ∙ sym (ap (λ (x : Readied l s). x .answer) c),
+                k .1 ∙ left ∙ marked-is ∙ sym (ap (λ (x : Readied l s). x .words) c),
               )

@@ -9,7 +9,7 @@
 ghost use mathlib.Core.Path.{_≡_};
 ghost use Prim.Native.Nat.{_≤_, _<_};
 ghost use lib.ListN.{length};
-ghost use Rattle.meaning.specs.Limits.{gaugeLimits};
+ghost use Rattle.meaning.specs.Limits.{limitsOf};
 ghost use Rattle.meaning.specs.Rules.{memoryOf};
 ghost use Rattle.meaning.specs.Calls.{readyCall};
 ghost use Rattle.book.specs.Planned.{RowsFit};
@@ -83,20 +83,29 @@ fn ready_opened(book: &[u32], state: &[u32], z: Size, words: &mut [u64]) -> Read
 
 // READY
 pub fn ready(
+    board: u32,
     s: &[u8],
     words: &mut [u64],
     waiting: &[u32],
     received: &[u32],
     state: &[u32],
 ) -> Readiness
-    ensures { λ r. ⌜ (r ≡ readyCall gaugeLimits (now (s .entry)) (now (words .entry))
+    ensures { λ r. ⌜ (r ≡ readyCall (limitsOf board) (now (s .entry)) (now (words .entry))
         (memoryOf (now (waiting .entry)) (now (received .entry)) (now (state .entry))) .answer)
-        × (now (words .exit) ≡ readyCall gaugeLimits (now (s .entry)) (now (words .entry))
+        × (now (words .exit) ≡ readyCall (limitsOf board) (now (s .entry)) (now (words .entry))
         (memoryOf (now (waiting .entry)) (now (received .entry)) (now (state .entry))) .words) ⌝ }
 {
     let mut ends = [0u32; 3072];
     let mut book = [0u32; 116736];
-    let o = memory::open(s, waiting, received, state, &mut ends, &mut book);
+    let o = memory::open(
+        s,
+        boards::limits_of(board),
+        waiting,
+        received,
+        state,
+        &mut ends,
+        &mut book,
+    );
     let r = o.refusal;
     if r == 0 {
         let z = o.size;
