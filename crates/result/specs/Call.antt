@@ -8,6 +8,7 @@ use lib.Dec.{eqb}
 use lib.ListN.{length}
 use borrow.Author.Tests.{ne-eqb, eqb-true, not-false}
 use Rattle.meaning.specs.declared.Description.{Description}
+use Rattle.meaning.specs.declared.Limits.{Limits}
 use Rattle.meaning.specs.declared.Answer.{Answer}
 use Rattle.meaning.specs.declared.Answer.the-variants.{Done, Refused}
 use Rattle.meaning.specs.Lists.{every, numbers}
@@ -86,24 +87,24 @@ module _ {s : List ℕ} {M : Memory} {b : List ℕ} {z : Size} where
         long = o .stood .received;
       }
 
-module _ (s output : List ℕ) (M : Memory) {n : ℕ} (e : n ≡ refusedBy gaugeLimits s (memoryTests (descriptionOf s) M)) where
+module _ (l : Limits) (s output : List ℕ) (M : Memory) {n : ℕ} (e : n ≡ refusedBy l s (memoryTests (descriptionOf s) M)) where
   abbrev tests : List Test
   tests = testsOf s (M .state) output
 
-  whole : refusedBy gaugeLimits s (memoryTests (descriptionOf s) M ++ tests) ≡ orElse n (refusal tests)
-  whole = own-last s M tests ∙ ap (λ (k : ℕ). orElse k (refusal tests)) (sym e)
+  whole : refusedBy l s (memoryTests (descriptionOf s) M ++ tests) ≡ orElse n (refusal tests)
+  whole = own-last l s M tests ∙ ap (λ (k : ℕ). orElse k (refusal tests)) (sym e)
 
   abbrev Answers : Answer → List ℕ → ℕ → Type 0
   Answers r out k = (r ≡ answer k) × (out ≡ cond (eqb k 0) (elementOrder (descriptionOf s) (M .received)) output)
 
   answered : {r : Answer} {out : List ℕ} {k : ℕ} → orElse n (refusal tests) ≡ k → Answers r out k
-      → (r ≡ result gaugeLimits s output M .answer) × (out ≡ result gaugeLimits s output M .output)
+      → (r ≡ result l s output M .answer) × (out ≡ result l s output M .output)
   unfolding result
   answered {r} {out} q a = subst (Answers r out) (sym (whole ∙ q)) a
 
   pub opened-call : {r : Answer} {out : List ℕ} → n ≡ 0 → Called s (M .received) (M .state) output r out
-      → (r ≡ result gaugeLimits s output M .answer) × (out ≡ result gaugeLimits s output M .output)
+      → (r ≡ result l s output M .answer) × (out ≡ result l s output M .output)
   opened-call z c = answered (ap (λ (k : ℕ). orElse k (refusal tests)) z) (c .answers, c .leaves)
 
-  pub refused-call : (n ≡ 0 → ⊥) → (Refused n ≡ result gaugeLimits s output M .answer) × (output ≡ result gaugeLimits s output M .output)
+  pub refused-call : (n ≡ 0 → ⊥) → (Refused n ≡ result l s output M .answer) × (output ≡ result l s output M .output)
   refused-call f = let q = ne-eqb n 0 f in answered {k = n} (rw q refl) (rw q refl, rw q refl)

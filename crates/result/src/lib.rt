@@ -11,7 +11,7 @@ ghost use lib.ListN.{length};
 ghost use Rattle.integers.specs.Fill.{fillBy};
 ghost use Rattle.meaning.specs.Lists.{every, numbers};
 ghost use Rattle.meaning.specs.Tests.{refusal};
-ghost use Rattle.meaning.specs.Limits.{gaugeLimits};
+ghost use Rattle.meaning.specs.Limits.{limitsOf};
 ghost use Rattle.meaning.specs.Description.{descriptionOf};
 ghost use Rattle.meaning.specs.Rules.{memoryOf};
 ghost use Rattle.meaning.specs.Calls.{lengthOf, result};
@@ -96,6 +96,7 @@ fn result_opened(
 
 // RESULT
 pub fn result(
+    board: u32,
     s: &[u8],
     output: &mut [u32],
     waiting: &[u32],
@@ -103,13 +104,21 @@ pub fn result(
     state: &[u32],
 ) -> Answer
     ensures { λ r. ⌜ (r
-        ≡ result gaugeLimits (now (s .entry)) (now (output .entry)) (memoryOf (now (waiting .entry)) (now (received .entry)) (now (state .entry))) .answer)
+        ≡ result (limitsOf board) (now (s .entry)) (now (output .entry)) (memoryOf (now (waiting .entry)) (now (received .entry)) (now (state .entry))) .answer)
         × (now (output .exit)
-        ≡ result gaugeLimits (now (s .entry)) (now (output .entry)) (memoryOf (now (waiting .entry)) (now (received .entry)) (now (state .entry))) .output) ⌝ }
+        ≡ result (limitsOf board) (now (s .entry)) (now (output .entry)) (memoryOf (now (waiting .entry)) (now (received .entry)) (now (state .entry))) .output) ⌝ }
 {
     let mut ends = [0u32; 3072];
     let mut book = [0u32; 116736];
-    let o = memory::open(s, waiting, received, state, &mut ends, &mut book);
+    let o = memory::open(
+        s,
+        boards::limits_of(board),
+        waiting,
+        received,
+        state,
+        &mut ends,
+        &mut book,
+    );
     let r = o.refusal;
     if r == 0 {
         let z = o.size;
