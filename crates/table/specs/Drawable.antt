@@ -10,6 +10,7 @@ use lib.Seq.{getD-take}
 use borrow.Author.Tests.{eqb-true, eqb-false, eq-eqb, ne-eqb, lt-ltb, le-ltb, ltb-false}
 use Rattle.meaning.specs.declared.Stream.{Stream}
 use Rattle.meaning.specs.declared.Description.{Description}
+use Rattle.meaning.specs.declared.Limits.{Limits}
 use Rattle.meaning.specs.Limits.{gaugeLimits}
 use Rattle.meaning.specs.Tests.{Test, _if_, refusal}
 use Rattle.meaning.specs.Space.{processes}
@@ -34,17 +35,17 @@ pub record Drawable (d : Description) : Type 0 where
   pub laid : (i : ℕ) → i < length (streamsOf d) → Laid (d .nest) (getD (streamsOf d) i noStream)
 
 -- a refusal of 0
-pub accepted-sized : (s : List ℕ) → refusalOf gaugeLimits s ≡ 0 → Sized (sizesOf s)
-accepted-sized s e = accepted-within gaugeLimits s e .0 .sized
+pub accepted-sized : (l : Limits) (s : List ℕ) → refusalOf l s ≡ 0 → Sized (sizesOf s)
+accepted-sized l s e = accepted-within l s e .0 .sized
 
-pub accepted-bounded : (s : List ℕ) → refusalOf gaugeLimits s ≡ 0 → Bounded (descriptionOf s .nest)
-accepted-bounded s e = nest-bounded (accepted-within gaugeLimits s e .0 .ranged .nest)
+pub accepted-bounded : (l : Limits) (s : List ℕ) → refusalOf l s ≡ 0 → Bounded (descriptionOf s .nest)
+accepted-bounded l s e = nest-bounded (accepted-within l s e .0 .ranged .nest)
 
 pub drawable : (s : List ℕ) → refusalOf gaugeLimits s ≡ 0 → Drawable (descriptionOf s)
 drawable s e =
     let a = accepted-within gaugeLimits s e in
     record {
-      bounded = accepted-bounded s e;
+      bounded = accepted-bounded gaugeLimits s e;
       processes = a .1 .processes;
       most = a .0 .ranged .sized .most-streams;
       used = streams-used s;
@@ -61,46 +62,46 @@ module _ {d : Description} {i : ℕ} {t : Stream} (g : Drawable d) (l : i < d .s
 
 -- ---- the refusal of the call
 
-module _ (s : List ℕ) (room : ℕ) where
+module _ (l : Limits) (s : List ℕ) (room : ℕ) where
   abbrev own : List Test
   own = (18 if ltb room (length (processes (descriptionOf s .nest)))) ∷ []
 
-  pub refused-first : {r : ℕ} → r ≡ refusalOf gaugeLimits s → (r ≡ 0 → ⊥) → r ≡ refusedFor s room
+  pub refused-first : {r : ℕ} → r ≡ refusalOf l s → (r ≡ 0 → ⊥) → r ≡ refusedFor l s room
   refused-first {r} e h =
-      e ∙ ap (λ (b : Bool). cond b (refusal own) (refusalOf gaugeLimits s)) (sym (ne-eqb (refusalOf gaugeLimits s) 0 (λ z. h (e ∙ z))))
+      e ∙ ap (λ (b : Bool). cond b (refusal own) (refusalOf l s)) (sym (ne-eqb (refusalOf l s) 0 (λ z. h (e ∙ z))))
 
-  then-own : refusalOf gaugeLimits s ≡ 0 → refusal own ≡ refusedFor s room
-  then-own e = ap (λ (b : Bool). cond b (refusal own) (refusalOf gaugeLimits s)) (sym (eq-eqb (refusalOf gaugeLimits s) 0 e))
+  then-own : refusalOf l s ≡ 0 → refusal own ≡ refusedFor l s room
+  then-own e = ap (λ (b : Bool). cond b (refusal own) (refusalOf l s)) (sym (eq-eqb (refusalOf l s) 0 e))
 
-  pub refused-18 : refusalOf gaugeLimits s ≡ 0 → room < length (processes (descriptionOf s .nest)) → 18 ≡ refusedFor s room
+  pub refused-18 : refusalOf l s ≡ 0 → room < length (processes (descriptionOf s .nest)) → 18 ≡ refusedFor l s room
   refused-18 e h = refuses 18 [] (lt-ltb room _ h) ∙ then-own e
 
-  pub refused-none : refusalOf gaugeLimits s ≡ 0 → length (processes (descriptionOf s .nest)) ≤ room → 0 ≡ refusedFor s room
+  pub refused-none : refusalOf l s ≡ 0 → length (processes (descriptionOf s .nest)) ≤ room → 0 ≡ refusedFor l s room
   refused-none e h = passes 18 [] (le-ltb room _ h) accepts ∙ then-own e
 
   -- a refusal of 0
-  pub none-refused : refusedFor s room ≡ 0 → (refusalOf gaugeLimits s ≡ 0) × (length (processes (descriptionOf s .nest)) ≤ room)
-  none-refused e = go (eqb (refusalOf gaugeLimits s) 0) refl e
+  pub none-refused : refusedFor l s room ≡ 0 → (refusalOf l s ≡ 0) × (length (processes (descriptionOf s .nest)) ≤ room)
+  none-refused e = go (eqb (refusalOf l s) 0) refl e
     where
-      go : (b : Bool) → eqb (refusalOf gaugeLimits s) 0 ≡ b → cond b (refusal own) (refusalOf gaugeLimits s) ≡ 0
-          → (refusalOf gaugeLimits s ≡ 0) × (length (processes (descriptionOf s .nest)) ≤ room)
+      go : (b : Bool) → eqb (refusalOf l s) 0 ≡ b → cond b (refusal own) (refusalOf l s) ≡ 0
+          → (refusalOf l s ≡ 0) × (length (processes (descriptionOf s .nest)) ≤ room)
       go true f z = (eqb-true _ 0 f, ltb-false room _ (passed 18 _ [] (λ g. omega arith) z .0))
       go false f z = absurd (eqb-false _ 0 f z)
 
 -- ---- the plan of the call
 
-pub planned-drawn : {s w : List ℕ} {room r : ℕ} {d : Description} {h : Shape} → r ≡ refusedFor s room → r ≡ 0 → d ≡ descriptionOf s
-    → (h .refusal ≡ 0) × Drawn d h w → Planned s room h w
-planned-drawn {s} {w} {room} {r} {d} {h} e z f g =
+pub planned-drawn : {l : Limits} {s w : List ℕ} {room r : ℕ} {d : Description} {h : Shape} → r ≡ refusedFor l s room → r ≡ 0 → d ≡ descriptionOf s
+    → (h .refusal ≡ 0) × Drawn d h w → Planned l s room h w
+planned-drawn {l} {s} {w} {room} {r} {d} {h} e z f g =
     record {
       refused = g .0 ∙ sym z ∙ e;
-      enough = omega (arith, g .1 .shaped .rows, ap (λ (d : Description). length (processes (d .nest))) f, none-refused s room (sym e ∙ z) .1);
+      enough = omega (arith, g .1 .shaped .rows, ap (λ (d : Description). length (processes (d .nest))) f, none-refused l s room (sym e ∙ z) .1);
       none = λ k. absurd (k (g .0));
       drawn = λ k. subst (λ (d : Description). Drawn d h w) f (g .1);
     }
 
-pub planned-declined : {s w : List ℕ} {room r : ℕ} {h : Shape} → r ≡ refusedFor s room → (r ≡ 0 → ⊥) → (h .refusal ≡ r) × (h .rows ≡ 0)
-    → Planned s room h w
+pub planned-declined : {l : Limits} {s w : List ℕ} {room r : ℕ} {h : Shape} → r ≡ refusedFor l s room → (r ≡ 0 → ⊥) → (h .refusal ≡ r) × (h .rows ≡ 0)
+    → Planned l s room h w
 planned-declined e z g =
     record {
       refused = g .0 ∙ e;

@@ -16,7 +16,7 @@ use Rattle.meaning.specs.declared.Nest.{Nest}
 use Rattle.meaning.specs.declared.Stream.{Stream}
 use Rattle.meaning.specs.declared.Description.{Description}
 use Rattle.meaning.specs.declared.Row.{Row}
-use Rattle.meaning.specs.Limits.{gaugeLimits}
+use Rattle.meaning.specs.declared.Limits.{Limits}
 use Rattle.meaning.specs.Tests.{_if_}
 use Rattle.meaning.specs.Loops.{instances}
 use Rattle.meaning.specs.Space.{Box, points, space, processes, count, first, last}
@@ -34,8 +34,8 @@ use Rattle.table.specs.Rows.{byStream, rowFrom, Readable}
 use Rattle.table.specs.Blocks.{Streamed}
 
 -- the refusal of the call
-abbrev pub refusedFor : List ℕ → ℕ → ℕ
-refusedFor s room = refusedBy gaugeLimits s ((18 if ltb room (length (processes (descriptionOf s .nest)))) ∷ [])
+abbrev pub refusedFor : Limits → List ℕ → ℕ → ℕ
+refusedFor l s room = refusedBy l s ((18 if ltb room (length (processes (descriptionOf s .nest)))) ∷ [])
 
 -- the shape of a nest
 pub record Shaped (n : Nest) (h : Shape) : Type 0 where
@@ -56,8 +56,8 @@ pub record Drawn (d : Description) (h : Shape) (w : List ℕ) : Type 0 where
   pub streams : Streamed (d .nest) (streamsOf d) (length (streamsOf d)) w
 
 -- the plan of a call: no row where it is declined
-pub record Planned (s : List ℕ) (room : ℕ) (h : Shape) (w : List ℕ) : Type 0 where
-  pub refused : h .refusal ≡ refusedFor s room
+pub record Planned (l : Limits) (s : List ℕ) (room : ℕ) (h : Shape) (w : List ℕ) : Type 0 where
+  pub refused : h .refusal ≡ refusedFor l s room
   pub enough : h .rows ≤ room
   pub none : (h .refusal ≡ 0 → ⊥) → h .rows ≡ 0
   pub drawn : h .refusal ≡ 0 → Drawn (descriptionOf s) h w
@@ -154,7 +154,7 @@ unfolding fillBy
 fill-same f g zero xs e = refl
 fill-same {A} f g (suc n) xs e = λ i. set (fill-same f g n xs (λ k l. e k (omega arith)) i) n (e n (omega arith) i)
 
-module _ {s : List ℕ} {room : ℕ} {h : Shape} {w : List ℕ} (g : Planned s room h w) where
+module _ {l : Limits} {s : List ℕ} {room : ℕ} {h : Shape} {w : List ℕ} (g : Planned l s room h w) where
   pub planned-ready : (p : ℕ) → p < h .rows → Readable h w p
   planned-ready p k = go (eqb (h .refusal) 0) refl
     where
@@ -162,26 +162,26 @@ module _ {s : List ℕ} {room : ℕ} {h : Shape} {w : List ℕ} (g : Planned s r
       go true e = drawn-readable (g .drawn (eqb-true (h .refusal) 0 e)) p k
       go false e = absurd (omega (arith, g .none (eqb-false (h .refusal) 0 e)))
 
-module _ {s : List ℕ} (rows : List Row) {h : Shape} {w : List ℕ} (g : Planned s (length rows) h w) where
-  pub planned-answer : answer (h .refusal) ≡ table gaugeLimits s rows .answer
+module _ {l : Limits} {s : List ℕ} (rows : List Row) {h : Shape} {w : List ℕ} (g : Planned l s (length rows) h w) where
+  pub planned-answer : answer (h .refusal) ≡ table l s rows .answer
   unfolding table
   planned-answer = ap answer (g .refused)
 
-  pub planned-rows : fillBy (rowFrom h w) (h .rows) rows ≡ table gaugeLimits s rows .rows
+  pub planned-rows : fillBy (rowFrom h w) (h .rows) rows ≡ table l s rows .rows
   unfolding table
-  planned-rows = go (eqb (refusedFor s (length rows)) 0) refl
+  planned-rows = go (eqb (refusedFor l s (length rows)) 0) refl
     where
       ps : List V2
       ps = processes (descriptionOf s .nest)
 
-      go : (b : Bool) → eqb (refusedFor s (length rows)) 0 ≡ b
-          → fillBy (rowFrom h w) (h .rows) rows ≡ cond b (map (rowOf gaugeLimits s) ps ++ drop (length ps) rows) rows
+      go : (b : Bool) → eqb (refusedFor l s (length rows)) 0 ≡ b
+          → fillBy (rowFrom h w) (h .rows) rows ≡ cond b (map (rowOf l s) ps ++ drop (length ps) rows) rows
       go true e =
-          let d = g .drawn (g .refused ∙ eqb-true (refusedFor s (length rows)) 0 e) in
-          let l = d .shaped .rows in
-          fill-same (rowFrom h w) (λ k. rowOf gaugeLimits s (getD ps k zero2)) (h .rows) rows (drawn-row d)
-          ∙ ap (λ (k : ℕ). fillBy (λ k. rowOf gaugeLimits s (getD ps k zero2)) k rows) l
-          ∙ filled (rowOf gaugeLimits s) ps zero2 (rowOf gaugeLimits s zero2) rows (omega (arith, l, g .enough))
+          let d = g .drawn (g .refused ∙ eqb-true (refusedFor l s (length rows)) 0 e) in
+          let many = d .shaped .rows in
+          fill-same (rowFrom h w) (λ k. rowOf l s (getD ps k zero2)) (h .rows) rows (drawn-row d)
+          ∙ ap (λ (k : ℕ). fillBy (λ k. rowOf l s (getD ps k zero2)) k rows) many
+          ∙ filled (rowOf l s) ps zero2 (rowOf l s zero2) rows (omega (arith, many, g .enough))
       go false e =
-          ap (λ (k : ℕ). fillBy (rowFrom h w) k rows) (g .none (λ z. eqb-false (refusedFor s (length rows)) 0 e (sym (g .refused) ∙ z)))
+          ap (λ (k : ℕ). fillBy (rowFrom h w) k rows) (g .none (λ z. eqb-false (refusedFor l s (length rows)) 0 e (sym (g .refused) ∙ z)))
           ∙ fill-zero (rowFrom h w) rows

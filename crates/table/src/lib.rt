@@ -10,7 +10,7 @@ ghost use mathlib.Core.Path.{_≡_};
 ghost use Prim.Native.Nat.{ℕ, _<_, _≤_, _+_};
 ghost use lib.ListN.{length, getD, replicate};
 ghost use Rattle.integers.specs.Fill.{fillBy};
-ghost use Rattle.meaning.specs.Limits.{gaugeLimits};
+ghost use Rattle.meaning.specs.Limits.{limitsOf, gaugeLimits, UpTo};
 ghost use Rattle.meaning.specs.Loops.{instances};
 ghost use Rattle.meaning.specs.Space.{processes};
 ghost use Rattle.meaning.specs.Description.{descriptionOf, streamsOf};
@@ -26,6 +26,7 @@ use integers::V2;
 use integers::V3;
 use meaning::Answer;
 use meaning::Description;
+use meaning::Limits;
 use meaning::Nest;
 use meaning::Row;
 use numbering::Extent;
@@ -177,10 +178,11 @@ fn process_count(n: Nest) -> usize
 }
 
 // The refusal of the call, 0 if there is none; the words of the processes are then filled.
-fn refusal_for(s: &[u8], room: usize, ends: &mut [u32; 3072]) -> u32
-    ensures { λ r. ⌜ (r ≡ refusedFor (now (s .entry)) room) × (r ≡ 0 → Ends (descriptionOf (now (s .entry)) .nest) (now (ends .exit))) ⌝ }
+fn refusal_for(s: &[u8], limits: Limits, room: usize, ends: &mut [u32; 3072]) -> u32
+    requires { ⌜ UpTo limits gaugeLimits ⌝ }
+    ensures { λ r. ⌜ (r ≡ refusedFor limits (now (s .entry)) room) × (r ≡ 0 → Ends (descriptionOf (now (s .entry)) .nest) (now (ends .exit))) ⌝ }
 {
-    let r = verdict::refusal_of(s, ends);
+    let r = verdict::refusal_of(s, limits, ends);
     if r == 0 {
         let n = decode::description(s).nest;
         if room < process_count(n) { 18 } else { 0 }
@@ -190,12 +192,12 @@ fn refusal_for(s: &[u8], room: usize, ends: &mut [u32; 3072]) -> u32
 }
 
 // The plan of the call; its words come as zeros.
-fn plan(s: &[u8], room: usize, words: &mut [u32; 15360]) -> Shape
+fn plan(s: &[u8], board: u32, room: usize, words: &mut [u32; 15360]) -> Shape
     requires { ⌜ now words ≡ replicate 15360 0 ⌝ }
-    ensures { λ r. ⌜ Planned (now (s .entry)) room r (now (words .exit)) ⌝ }
+    ensures { λ r. ⌜ Planned (limitsOf board) (now (s .entry)) room r (now (words .exit)) ⌝ }
 {
     let mut ends = [0u32; 3072];
-    let refusal = refusal_for(s, room, &mut ends);
+    let refusal = refusal_for(s, boards::limits_of(board), room, &mut ends);
     if refusal == 0 {
         let ends = &ends;
         draw(decode::description(s), ends, words)
@@ -237,13 +239,13 @@ fn fill_rows<'r, 'a>(rows: &'r mut [Row], shape: Shape, words: &'a [u32; 15360],
 }
 
 // Table: one row for each process, in row order, or the refusal and no row.
-pub fn table<'s, 'r>(s: &'s [u8], rows: &'r mut [Row]) -> Answer
-    ensures { λ r. ⌜ (r ≡ table gaugeLimits (now (s .entry)) (now (rows .entry)) .answer)
-        × (now (rows .exit) ≡ table gaugeLimits (now (s .entry)) (now (rows .entry)) .rows) ⌝ }
+pub fn table<'s, 'r>(s: &'s [u8], rows: &'r mut [Row], board: u32) -> Answer
+    ensures { λ r. ⌜ (r ≡ table (limitsOf board) (now (s .entry)) (now (rows .entry)) .answer)
+        × (now (rows .exit) ≡ table (limitsOf board) (now (s .entry)) (now (rows .entry)) .rows) ⌝ }
 {
     let mut words = [0u32; 15360];
     let room = rows.len();
-    let shape = plan(s, room, &mut words);
+    let shape = plan(s, board, room, &mut words);
     let n = row_count(shape);
     fill_rows(rows, shape, &words, n);
     answer_for(shape)
