@@ -3,7 +3,7 @@ ghost use mathlib.Core.Path.{_≡_};
 ghost use mathlib.Core.List.{_++_};
 ghost use Prim.Native.Nat.{_≤_, _-_, min};
 ghost use lib.ListN.{replicate};
-ghost use Rattle.meaning.specs.Limits.{gaugeLimits};
+ghost use Rattle.meaning.specs.Limits.{limitsOf};
 ghost use Rattle.meaning.specs.Calls.{table};
 ghost use Rattle.rows.specs.Marked.{marked};
 use integers::V2;
@@ -43,14 +43,14 @@ fn both(answer: Answer, rows: [Row; 1024]) -> Listed
 }
 
 // The call is lent the first n of 1,024 marked rows.
-fn lend<'s>(s: &'s [u8], n: usize) -> Listed
+fn lend<'s>(s: &'s [u8], n: usize, board: u32) -> Listed
     requires { ⌜ n ≤ 1024 ⌝ }
-    ensures { λ r. ⌜ (r .answer ≡ table gaugeLimits (now (s .entry)) (replicate n marked) .answer)
-        × (r .rows ≡ table gaugeLimits (now (s .entry)) (replicate n marked) .rows ++ replicate (1024 - n) marked) ⌝ }
+    ensures { λ r. ⌜ (r .answer ≡ table (limitsOf board) (now (s .entry)) (replicate n marked) .answer)
+        × (r .rows ≡ table (limitsOf board) (now (s .entry)) (replicate n marked) .rows ++ replicate (1024 - n) marked) ⌝ }
 {
     let m = mark();
     let mut rows = [m; 1024];
-    let answer = table::table(s, &mut rows[..n]);
+    let answer = table::table(s, &mut rows[..n], board);
     both(answer, rows)
 }
 
@@ -62,9 +62,9 @@ fn room(n: usize) -> usize
 }
 
 // The call is lent n marked rows, or 1,024 if that is fewer: there are never more processes.
-pub fn table<'s>(s: &'s [u8], n: usize) -> Listed
-    ensures { λ r. ⌜ (r .answer ≡ table gaugeLimits (now (s .entry)) (replicate (min n 1024) marked) .answer)
-        × (r .rows ≡ table gaugeLimits (now (s .entry)) (replicate (min n 1024) marked) .rows ++ replicate (1024 - min n 1024) marked) ⌝ }
+pub fn table<'s>(s: &'s [u8], n: usize, board: u32) -> Listed
+    ensures { λ r. ⌜ (r .answer ≡ table (limitsOf board) (now (s .entry)) (replicate (min n 1024) marked) .answer)
+        × (r .rows ≡ table (limitsOf board) (now (s .entry)) (replicate (min n 1024) marked) .rows ++ replicate (1024 - min n 1024) marked) ⌝ }
 {
-    lend(s, room(n))
+    lend(s, room(n), board)
 }
