@@ -10,7 +10,7 @@ ghost use lib.ListN.{length};
 ghost use lib.Seq.{paste};
 ghost use mir.Syntax.{w32};
 ghost use mir.Val.{ofZ};
-ghost use Rattle.meaning.specs.Limits.{gaugeLimits};
+ghost use Rattle.meaning.specs.Limits.{limitsOf, gaugeLimits};
 ghost use Rattle.meaning.specs.Space.{processes};
 ghost use Rattle.meaning.specs.Description.{descriptionOf};
 ghost use Rattle.meaning.specs.Accept.{refusalOf};
@@ -110,11 +110,11 @@ fn process_count(s: &[u8]) -> usize
 }
 
 // The rows, 21 words each; 18 if fewer fit than there are processes.
-pub fn table_words(bytes: &[u8], words: &mut [u32]) -> u32
-    ensures { λ r. ⌜ (r ≡ tableNumber (now (bytes .entry)) (length (now (words .entry))))
-        × (now (words .exit) ≡ laid (tableWords (now (bytes .entry)) (length (now (words .entry)))) (now (words .entry))) ⌝ }
+pub fn table_words(board: u32, bytes: &[u8], words: &mut [u32]) -> u32
+    ensures { λ r. ⌜ (r ≡ tableNumber (limitsOf board) (now (bytes .entry)) (length (now (words .entry))))
+        × (now (words .exit) ≡ laid (tableWords (limitsOf board) (now (bytes .entry)) (length (now (words .entry)))) (now (words .entry))) ⌝ }
 {
-    let listed = rows::table(bytes, words.len() / 21);
+    let listed = rows::table(bytes, words.len() / 21, board);
     let answer = listed.answer;
     let number = answer_words::number_of(answer);
     if number == 0 {

@@ -2,7 +2,7 @@
 use mathlib.Core.Path.{refl, sym, _∙_}
 use lib.ListN.{length}
 use denote.Ref.{now}
-use Rattle.listing.specs.Lent.{room-number, table-accepts, table-fits, table-left, table-declined}
+use Rattle.listing.specs.Lent.{limits-up-to, room-number, table-accepts, table-fits, table-left, table-declined}
 use borrow.Author.Needs.{needs}
 use Rattle.listing.proofs.table_words.Statement.{statement}
 use Rattle.listing.proofs.table_words.Tie as tie
@@ -18,16 +18,18 @@ process-count-requires c κs =
     let i = c .before in
     let t = i .before .before in
     let a = t .before .before .before .args in
-    table-accepts (now (a .bytes)) (length (now (a .words)))
-    (sym (room-number (now (a .bytes)) (length (now (a .words))) refl (t .table .ensures .0) (i .before .number-of .ensures)) ∙ i .if1 .taken)
+    let u = limits-up-to (a .board) in
+    table-accepts u (now (a .bytes)) (length (now (a .words)))
+    (sym (room-number u (now (a .bytes)) (length (now (a .words))) refl (t .table .ensures .0) (i .before .number-of .ensures)) ∙ i .if1 .taken)
 
 put-rows-requires : tie.Need-put-rows-requires
 put-rows-requires c κs =
     let i = c .before .before .before in
     let t = i .before .before in
     let a = t .before .before .before .args in
-    table-fits (now (a .bytes)) (length (now (a .words)))
-    (sym (room-number (now (a .bytes)) (length (now (a .words))) refl (t .table .ensures .0) (i .before .number-of .ensures)) ∙ i .if1 .taken) (c .before .process-count .ensures)
+    let u = limits-up-to (a .board) in
+    table-fits u (now (a .bytes)) (length (now (a .words)))
+    (sym (room-number u (now (a .bytes)) (length (now (a .words))) refl (t .table .ensures .0) (i .before .number-of .ensures)) ∙ i .if1 .taken) (c .before .process-count .ensures)
 
 same-length : tie.Need-same-length
 same-length c = search needs
@@ -42,8 +44,9 @@ returns c =
     let s = now (a .bytes) in
     let n = length (now (a .words)) in
     let r = refl in
-    let e = sym (i .if1 .taken) ∙ room-number s n r (t .table .ensures .0) (i .before .number-of .ensures) in
-    (e, table-left s n (sym e) (now (a .words)) r (t .table .ensures .1) (p .process-count .ensures) (w .put-rows .ensures))
+    let u = limits-up-to (a .board) in
+    let e = sym (i .if1 .taken) ∙ room-number u s n r (t .table .ensures .0) (i .before .number-of .ensures) in
+    (e, table-left u s n (sym e) (now (a .words)) r (t .table .ensures .1) (p .process-count .ensures) (w .put-rows .ensures))
 
 returns-2 : tie.Need-returns-2
 returns-2 c =
@@ -51,8 +54,8 @@ returns-2 c =
     let a = t .before .before .before .args in
     let s = now (a .bytes) in
     let n = length (now (a .words)) in
-    let e = room-number s n refl (t .table .ensures .0) (c .before .number-of .ensures) in
-    (e, table-declined s n (now (a .words)) (λ z. c .if1 .left (e ∙ z)))
+    let e = room-number (limits-up-to (a .board)) s n refl (t .table .ensures .0) (c .before .number-of .ensures) in
+    (e, table-declined _ s n (now (a .words)) (λ z. c .if1 .left (e ∙ z)))
 
 pub table-words-spec : {M : Type 1} → statement M
 table-words-spec =
