@@ -15,6 +15,7 @@ use Rattle.integers.specs.declared.V3.{V3}
 use Rattle.meaning.specs.declared.Description.{Description}
 use Rattle.meaning.specs.declared.Answer.{Answer}
 use Rattle.meaning.specs.declared.Answer.the-variants.{Done, Refused}
+use Rattle.meaning.specs.declared.Limits.{Limits}
 use Rattle.meaning.specs.Tests.{Test, _if_, refusal}
 use Rattle.meaning.specs.Limits.{gaugeLimits}
 use Rattle.meaning.specs.Loops.{instances}
@@ -86,14 +87,14 @@ module _ (d : Description) (values output : List ℕ) {n : ℕ} (e : n ≡ refus
 pub accepted-fitting : (s : List ℕ) → refusalOf gaugeLimits s ≡ 0 → Fitting (descriptionOf s)
 accepted-fitting s e = record { few = accepted-few s e; instances = accepted-within gaugeLimits s e .1 .instances }
 
-module _ (s values output : List ℕ) where
-  pub accepted-call : {d : Description} {r : Answer} {out : List ℕ} → refusalOf gaugeLimits s ≡ 0 → d ≡ descriptionOf s → Called d values output r out
-      → (r ≡ plainRun gaugeLimits s values output .answer) × (out ≡ plainRun gaugeLimits s values output .output)
+module _ (l : Limits) (s values output : List ℕ) where
+  pub accepted-call : {d : Description} {r : Answer} {out : List ℕ} → refusalOf l s ≡ 0 → d ≡ descriptionOf s → Called d values output r out
+      → (r ≡ plainRun l s values output .answer) × (out ≡ plainRun l s values output .output)
   unfolding plainRun
   accepted-call {r} {out} z e h =
       let c = subst (λ (d : Description). Called d values output r out) e h in rw z (c .answers, c .leaves)
 
-  pub refused-call : {n : ℕ} → n ≡ refusalOf gaugeLimits s → (n ≡ 0 → ⊥)
-      → (Refused n ≡ plainRun gaugeLimits s values output .answer) × (output ≡ plainRun gaugeLimits s values output .output)
+  pub refused-call : {n : ℕ} → n ≡ refusalOf l s → (n ≡ 0 → ⊥)
+      → (Refused n ≡ plainRun l s values output .answer) × (output ≡ plainRun l s values output .output)
   unfolding plainRun
   refused-call {n} e f = rw (← e, ne-eqb n 0 f, ne-eqb n 0 f) (refl, refl)

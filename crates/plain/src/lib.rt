@@ -10,7 +10,7 @@ ghost use Prim.Native.Nat.{_<_};
 ghost use lib.ListN.{length, getD};
 ghost use Rattle.integers.specs.Vectors.{zero3, image};
 ghost use Rattle.meaning.specs.Tests.{refusal};
-ghost use Rattle.meaning.specs.Limits.{gaugeLimits};
+ghost use Rattle.meaning.specs.Limits.{limitsOf};
 ghost use Rattle.meaning.specs.Loops.{instances};
 ghost use Rattle.meaning.specs.Space.{points, rowIndex, boxOf};
 ghost use Rattle.meaning.specs.Body.{execute, finalValues};
@@ -163,12 +163,12 @@ fn run_accepted(d: Description, values: &[u32], output: &mut [u32]) -> Answer
 }
 
 // Plain run: the final values in element order, of the values given in element order.
-pub fn plain_run(s: &[u8], values: &[u32], output: &mut [u32]) -> Answer
-    ensures { λ r. ⌜ (r ≡ plainRun gaugeLimits (now (s .entry)) (now (values .entry)) (now (output .entry)) .answer)
-        × (now (output .exit) ≡ plainRun gaugeLimits (now (s .entry)) (now (values .entry)) (now (output .entry)) .output) ⌝ }
+pub fn plain_run(board: u32, s: &[u8], values: &[u32], output: &mut [u32]) -> Answer
+    ensures { λ r. ⌜ (r ≡ plainRun (limitsOf board) (now (s .entry)) (now (values .entry)) (now (output .entry)) .answer)
+        × (now (output .exit) ≡ plainRun (limitsOf board) (now (s .entry)) (now (values .entry)) (now (output .entry)) .output) ⌝ }
 {
     let mut ends = [0u32; 3072];
-    let r = verdict::refusal_of(s, &mut ends);
+    let r = verdict::refusal_of(s, boards::limits_of(board), &mut ends);
     if r == 0 {
         run_accepted(decode::description(s), values, output)
     } else {
