@@ -189,7 +189,7 @@ returns-5 : tie.Need-returns-5
 returns-5 c =
     let r = c .before .before .before in
     let m = r .before .before .before .before in
-    let a = m .before .before .before .before .before .before .before .before .before .before .args in
+    let a = m .before .before .before .before .before .before .before .before .before .before .before .args in
     let k = kindOf (now (a .calls)) (a .k) in
     let h = m .match .rest in
     rw (ne-eqb k 0 (omega (arith, h)), ne-eqb k 1 (omega (arith, h)), ne-eqb k 2 (omega (arith, h)), ne-eqb k 3 (omega (arith, h)))
