@@ -1,7 +1,7 @@
-// Plays a replay script from standard input and prints a line for Accept, one for Start and one for each call. Calls: 0 step (kind, number,
-// stream), 1 run (steps), 2 ready, 3 window (pipe, side), 4 result, 5 show the state, 6 show the received list, 7 poke (word of the state,
-// value), 8 lend (list, length); any other number ends the script. Several scripts stand behind the word 2^32 - 1, each behind a word with its
-// number of bytes, and what each prints stands below a line with `script` and its number.
+// Plays a replay script from standard input and prints a line for Accept, one for Start and one for each call, all of them told the script's
+// board word. Calls: 0 step (kind, number, stream), 1 run (steps), 2 ready, 3 window (pipe, side), 4 result, 5 show the state, 6 show the
+// received list, 7 poke (word of the state, value), 8 lend (list, length); any other number ends the script. Several scripts stand behind the
+// word 2^32 - 1, each behind a word with its number of bytes, and what each prints stands below a line with `script` and its number.
 use meaning::Acceptance;
 use meaning::Answer;
 use meaning::Divisors;
@@ -89,8 +89,8 @@ fn print_readiness(answer: Readiness, words: &[u64]) {
 
 // ---- the calls, each on as much of the lists as is lent
 
-fn accept_line(s: &[u8]) -> Lent {
-    let answer = accept::accept(s);
+fn accept_line(board: u32, s: &[u8]) -> Lent {
+    let answer = accept::accept(board, s);
     match answer {
         Acceptance::Accepted(f, g) => {
             let z = decode::sizes(s);
@@ -105,6 +105,7 @@ fn accept_line(s: &[u8]) -> Lent {
 }
 
 fn start_line(
+    board: u32,
     s: &[u8],
     values: &[u32],
     l: Lent,
@@ -116,6 +117,7 @@ fn start_line(
     let r = script::part_of(received, l.received);
     let n = script::part_of(state, l.state);
     let answer = start::start(
+        board,
         s,
         values,
         &mut waiting[..w],
@@ -125,11 +127,20 @@ fn start_line(
     print_answer(b"start", answer);
 }
 
-fn step_line(s: &[u8], c: Call, l: Lent, waiting: &[u32], received: &mut [u32], state: &mut [u32]) {
+fn step_line(
+    board: u32,
+    s: &[u8],
+    c: Call,
+    l: Lent,
+    waiting: &[u32],
+    received: &mut [u32],
+    state: &mut [u32],
+) {
     let w = script::part_of(waiting, l.waiting);
     let r = script::part_of(received, l.received);
     let n = script::part_of(state, l.state);
     let answer = step::step(
+        board,
         s,
         c.a,
         c.b,
@@ -142,6 +153,7 @@ fn step_line(s: &[u8], c: Call, l: Lent, waiting: &[u32], received: &mut [u32], 
 }
 
 fn run_line(
+    board: u32,
     s: &[u8],
     steps: u32,
     l: Lent,
@@ -152,11 +164,19 @@ fn run_line(
     let w = script::part_of(waiting, l.waiting);
     let r = script::part_of(received, l.received);
     let n = script::part_of(state, l.state);
-    let answer = run::run(s, steps, &waiting[..w], &mut received[..r], &mut state[..n]);
+    let answer = run::run(
+        board,
+        s,
+        steps,
+        &waiting[..w],
+        &mut received[..r],
+        &mut state[..n],
+    );
     print_ran(answer);
 }
 
 fn ready_call(
+    board: u32,
     s: &[u8],
     l: Lent,
     words: &mut [u64],
@@ -169,6 +189,7 @@ fn ready_call(
     let n = script::part_of(state, l.state);
     let k = script::part_of_masks(words, l.ready);
     ready::ready(
+        board,
         s,
         &mut words[..k],
         &waiting[..w],
@@ -177,13 +198,14 @@ fn ready_call(
     )
 }
 
-fn ready_line(s: &[u8], l: Lent, waiting: &[u32], received: &[u32], state: &[u32]) {
+fn ready_line(board: u32, s: &[u8], l: Lent, waiting: &[u32], received: &[u32], state: &[u32]) {
     let mut words = [7u64; 32];
-    let answer = ready_call(s, l, &mut words, waiting, received, state);
+    let answer = ready_call(board, s, l, &mut words, waiting, received, state);
     print_readiness(answer, &words);
 }
 
 fn window_line<'a>(
+    board: u32,
     s: &[u8],
     pipe: u32,
     side: u32,
@@ -194,7 +216,15 @@ fn window_line<'a>(
     let w = script::part_of(waiting, l.waiting);
     let r = script::part_of(received, l.received);
     let mut number: u32 = 0;
-    let part = window::window(s, pipe, side, &waiting[..w], &received[..r], &mut number);
+    let part = window::window(
+        board,
+        s,
+        pipe,
+        side,
+        &waiting[..w],
+        &received[..r],
+        &mut number,
+    );
     if number == 0 {
         lines::print_words(b"window", part);
     } else {
@@ -203,6 +233,7 @@ fn window_line<'a>(
 }
 
 fn result_call(
+    board: u32,
     s: &[u8],
     l: Lent,
     output: &mut [u32],
@@ -215,6 +246,7 @@ fn result_call(
     let n = script::part_of(state, l.state);
     let k = script::part_of(output, l.output);
     result::result(
+        board,
         s,
         &mut output[..k],
         &waiting[..w],
@@ -223,9 +255,9 @@ fn result_call(
     )
 }
 
-fn result_line(s: &[u8], l: Lent, waiting: &[u32], received: &[u32], state: &[u32]) {
+fn result_line(board: u32, s: &[u8], l: Lent, waiting: &[u32], received: &[u32], state: &[u32]) {
     let mut output = [7u32; 32768];
-    let answer = result_call(s, l, &mut output, waiting, received, state);
+    let answer = result_call(board, s, l, &mut output, waiting, received, state);
     print_list(b"result", answer, &output, l.output);
 }
 
@@ -241,12 +273,20 @@ fn poke(l: Lent, word: u32, value: u32, state: &mut [u32]) {
 // ---- a script
 
 // The calls that write no list of the network.
-fn ask<'a>(s: &[u8], c: Call, l: Lent, waiting: &'a [u32], received: &'a [u32], state: &[u32]) {
+fn ask<'a>(
+    board: u32,
+    s: &[u8],
+    c: Call,
+    l: Lent,
+    waiting: &'a [u32],
+    received: &'a [u32],
+    state: &[u32],
+) {
     let number = c.number;
     match number {
-        2 => ready_line(s, l, waiting, received, state),
-        3 => window_line(s, c.a, c.b, l, waiting, received),
-        4 => result_line(s, l, waiting, received, state),
+        2 => ready_line(board, s, l, waiting, received, state),
+        3 => window_line(board, s, c.a, c.b, l, waiting, received),
+        4 => result_line(board, s, l, waiting, received, state),
         5 => print_part(b"state", state, l.state),
         6 => print_part(b"received", received, l.received),
         8 => lines::print_text(b"lend"),
@@ -254,14 +294,22 @@ fn ask<'a>(s: &[u8], c: Call, l: Lent, waiting: &'a [u32], received: &'a [u32], 
     }
 }
 
-fn play_call(s: &[u8], c: Call, l: Lent, waiting: &[u32], received: &mut [u32], state: &mut [u32]) {
+fn play_call(
+    board: u32,
+    s: &[u8],
+    c: Call,
+    l: Lent,
+    waiting: &[u32],
+    received: &mut [u32],
+    state: &mut [u32],
+) {
     let number = c.number;
     if number == 0 {
-        step_line(s, c, l, waiting, received, state);
+        step_line(board, s, c, l, waiting, received, state);
         return;
     }
     if number == 1 {
-        run_line(s, c.a, l, waiting, received, state);
+        run_line(board, s, c.a, l, waiting, received, state);
         return;
     }
     if number == 7 {
@@ -269,7 +317,7 @@ fn play_call(s: &[u8], c: Call, l: Lent, waiting: &[u32], received: &mut [u32], 
         lines::print_text(b"poke");
         return;
     }
-    ask(s, c, l, waiting, received, state);
+    ask(board, s, c, l, waiting, received, state);
 }
 
 // The lengths after a call.
@@ -286,6 +334,7 @@ fn ends(c: Call) -> bool {
 
 // Plays the calls in so many bytes; the answer is how many bytes are left.
 fn play_calls(
+    board: u32,
     s: &[u8],
     first: Lent,
     bytes: u64,
@@ -301,19 +350,19 @@ fn play_calls(
         if ends(c) {
             return left;
         }
-        play_call(s, c, l, waiting, received, state);
+        play_call(board, s, c, l, waiting, received, state);
         l = lent_after(c, l);
     }
     left
 }
 
-fn play_whole(s: &[u8], values: &[u32], bytes: u64) -> u64 {
-    let l = accept_line(s);
+fn play_whole(board: u32, s: &[u8], values: &[u32], bytes: u64) -> u64 {
+    let l = accept_line(board, s);
     let mut waiting = [0u32; 32768];
     let mut received = [0u32; 32768];
     let mut state = [0u32; 100000];
-    start_line(s, values, l, &mut waiting, &mut received, &mut state);
-    play_calls(s, l, bytes, &waiting, &mut received, &mut state)
+    start_line(board, s, values, l, &mut waiting, &mut received, &mut state);
+    play_calls(board, s, l, bytes, &waiting, &mut received, &mut state)
 }
 
 // Plays a script with a description of so many bytes.
@@ -321,12 +370,13 @@ fn play_script(length: u32, r: Rest) -> u64 {
     let mut bytes = [0u8; 512];
     let mut values = [0u32; 32768];
     let described = script::read_description(r, length, &mut bytes);
-    let count = script::read_word(described);
+    let board = script::read_word(described);
+    let count = script::read_word(board.rest);
     let calls = script::read_values(count.rest, count.value, &mut values);
     if calls.whole {
         let n = io::count(length as isize, &bytes);
         let m = script::part_of(&values, count.value);
-        return play_whole(&bytes[..n], &values[..m], calls.left);
+        return play_whole(board.value, &bytes[..n], &values[..m], calls.left);
     }
     lines::print_text(b"short script");
     calls.left

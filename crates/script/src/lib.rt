@@ -1,5 +1,5 @@
-// A replay script on standard input: the number of bytes of a description; its bytes, padded to a whole word; the number of values; the values;
-// then calls of four words. And the lengths at which a replay lends its lists.
+// A replay script on standard input: the number of bytes of a description; its bytes, padded to a whole word; the board word; the number of
+// values; the values; then calls of four words. And the lengths at which a replay lends its lists.
 ghost use mathlib.Core.Path.{_≡_};
 ghost use Prim.Native.Nat.{_≤_, _<_};
 ghost use lib.ListN.{length};
