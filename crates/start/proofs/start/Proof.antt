@@ -45,7 +45,8 @@ returns c =
     let b = i .before .before .before in
     let a = b .before .before .before .before .before .before .args in
     accepted-call _ (now (a .s)) (now (a .values)) (memoryOf (now (a .waiting)) (now (a .received)) (now (a .state)))
-    (i .before .refusal-of .ensures .0 ∙ ap (λ (l : Limits). refusalOf l (now (a .s))) (b .limits-of .ensures .0)) (i .if1 .taken) (d .description .ensures) (c .before .before .before .before .before .before .start-accepted .ensures)
+    (i .before .refusal-of .ensures .0 ∙ ap (λ (l : Limits). refusalOf l (now (a .s))) (b .limits-of .ensures .0))
+    (i .if1 .taken) (d .description .ensures) (c .before .before .before .before .before .before .start-accepted .ensures)
 
 returns-2 : tie.Need-returns-2
 returns-2 c =
