@@ -1,9 +1,9 @@
-// What Accept, Table and Plain run answer and leave in the lent lists, and the walk by process, for descriptions on standard input, each behind a word with its
-// number of bytes. It reads up to 65,536 descriptions; more than 508 bytes are taken as 508, and bytes that are missing as 0. For each it prints
-// Accept's answer, then `walk` with the number by which 1 to 10 refuse it, or 0, and the sum of the walk's coordinates, then `table` with three calls (one row fewer than there are processes, as many, and 1,024), then `plain` with four calls (a
-// value too few, an output too long, both wrong, and both right). A call is printed as the number by which it declines, or 0, and the sum of
-// its list, one row or word more than the call names. An array of at most 12 elements has the walk's instances, its rows, values and final values printed as well.
-// A description that is declined counts as one process and one element.
+// What Accept, Table and Plain run answer and leave in the lent lists, and the walk by process, for descriptions on standard input, each behind two words: its number
+// of bytes, and the board that every call is told. It reads up to 65,536 descriptions; more than 508 bytes are taken as 508, and bytes that are missing as 0. For each
+// it prints Accept's answer, then `walk` with the number by which 33 or 1 to 10 refuse it, or 0, and the sum of the walk's coordinates, then `table` with three calls
+// (one row fewer than there are processes, as many, and 1,024), then `plain` with four calls (a value too few, an output too long, both wrong, and both right). A call
+// is printed as the number by which it declines, or 0, and the sum of its list, one row or word more than the call names. An array of at most 12 elements has the
+// walk's instances, its rows, values and final values printed as well. A description that is declined counts as one process and one element.
 ghost use Prim.Native.Nat.{_≤_, _<_, _+_};
 ghost use lib.ListN.{length};
 use integers::V2;
@@ -261,10 +261,10 @@ fn within(x: u32, most: usize) -> usize
     if x as usize <= most { x as usize } else { most }
 }
 
-fn accept_line(s: &[u8]) -> Extents
+fn accept_line(board: u32, s: &[u8]) -> Extents
     ensures { λ r. ⌜ (1 ≤ r .processes) × (r .processes ≤ 1024) × (1 ≤ r .elements) × (r .elements ≤ 24576) ⌝ }
 {
-    let answer = accept::accept(s);
+    let answer = accept::accept(board, s);
     match answer {
         Acceptance::Accepted(f, g) => {
             print_figures(f, g);
@@ -298,10 +298,10 @@ fn print_visits(walk: &[i32], coordinates: usize, small: bool)
     }
 }
 
-fn walk_lines(s: &[u8], small: bool) {
+fn walk_lines(board: u32, s: &[u8], small: bool) {
     let mut ends = [0u32; 3072];
     let mut walk = [0i32; 12288];
-    let refusal = verdict::walk_of(s, &mut ends, &mut walk);
+    let refusal = verdict::walk_of(board, s, &mut ends, &mut walk);
     print(b"walk");
     print_number(refusal);
     if refusal == 0 {
@@ -312,49 +312,57 @@ fn walk_lines(s: &[u8], small: bool) {
     }
 }
 
-fn table_call(s: &[u8], lent: usize, seen: usize) {
-    let listed = rows::table(s, lent);
+fn table_call(board: u32, s: &[u8], lent: usize, seen: usize) {
+    let listed = rows::table(s, lent, board);
     let answer = listed.answer;
     let rows = listed.rows;
     print_call(answer, sum_of_rows(rows, seen));
 }
 
-fn table_lines(s: &[u8], e: Extents)
+fn table_lines(board: u32, s: &[u8], e: Extents)
     requires { ⌜ (1 ≤ e .processes) × (e .processes ≤ 1024) ⌝ }
 {
     let processes = e.processes;
     print(b"table");
-    table_call(s, processes - 1, processes + 1);
-    table_call(s, processes, processes + 1);
-    table_call(s, 1024, processes + 1);
+    table_call(board, s, processes - 1, processes + 1);
+    table_call(board, s, processes, processes + 1);
+    table_call(board, s, 1024, processes + 1);
     print(b"\n");
     if e.small {
-        let listed = rows::table(s, processes);
+        let listed = rows::table(s, processes, board);
         let rows = listed.rows;
         print_rows(rows, processes);
     }
 }
 
-fn plain_call(s: &[u8], values: &[u32], given: usize, output: &mut [u32], lent: usize, seen: usize)
+fn plain_call(
+    board: u32,
+    s: &[u8],
+    values: &[u32],
+    given: usize,
+    output: &mut [u32],
+    lent: usize,
+    seen: usize,
+)
     requires { ⌜ (given ≤ length (now values)) × (lent ≤ length (now output)) × (seen ≤ length (now output)) ⌝ }
 {
     mark(output, seen);
-    let answer = plain::plain_run(s, &values[..given], &mut output[..lent]);
+    let answer = plain::plain_run(board, s, &values[..given], &mut output[..lent]);
     print_call(answer, sum_of(0, output, seen));
 }
 
-fn plain_calls(s: &[u8], values: &[u32], output: &mut [u32], elements: usize)
+fn plain_calls(board: u32, s: &[u8], values: &[u32], output: &mut [u32], elements: usize)
     requires { ⌜ (1 ≤ elements) × (elements + 1 ≤ length (now values)) × (elements + 1 ≤ length (now output)) ⌝ }
 {
     let fewer = elements - 1;
     let more = elements + 1;
-    plain_call(s, values, fewer, output, elements, more);
-    plain_call(s, values, elements, output, more, more);
-    plain_call(s, values, more, output, fewer, more);
-    plain_call(s, values, elements, output, elements, more);
+    plain_call(board, s, values, fewer, output, elements, more);
+    plain_call(board, s, values, elements, output, more, more);
+    plain_call(board, s, values, more, output, fewer, more);
+    plain_call(board, s, values, elements, output, elements, more);
 }
 
-fn plain_lines(s: &[u8], e: Extents, number: u32)
+fn plain_lines(board: u32, s: &[u8], e: Extents, number: u32)
     requires { ⌜ (1 ≤ e .elements) × (e .elements ≤ 24576) ⌝ }
 {
     let elements = e.elements;
@@ -362,7 +370,7 @@ fn plain_lines(s: &[u8], e: Extents, number: u32)
     let mut output = [0u32; 24577];
     fill_values(&mut values, elements + 1, number);
     print(b"plain");
-    plain_calls(s, &values, &mut output, elements);
+    plain_calls(board, s, &values, &mut output, elements);
     print(b"\n");
     if e.small {
         print_list(b"values", &values, elements);
@@ -370,18 +378,18 @@ fn plain_lines(s: &[u8], e: Extents, number: u32)
     }
 }
 
-fn compare(s: &[u8], number: u32) {
-    let e = accept_line(s);
-    walk_lines(s, e.small);
-    table_lines(s, e);
-    plain_lines(s, e, number);
+fn compare(board: u32, s: &[u8], number: u32) {
+    let e = accept_line(board, s);
+    walk_lines(board, s, e.small);
+    table_lines(board, s, e);
+    plain_lines(board, s, e, number);
 }
 
 // ---- the input
 
 // The number of bytes of the next description.
-fn bytes_in(word: &[u8]) -> isize {
-    let n = integers::bits_at(word, 0);
+fn bytes_in(words: &[u8]) -> isize {
+    let n = integers::bits_at(words, 0);
     if n < 508 { n as isize } else { 508 }
 }
 
@@ -392,16 +400,17 @@ fn read(bytes: &mut [u8], wanted: isize) {
 
 // Whether there was a description.
 fn compare_next(number: u32) -> bool {
-    let mut word = [0u8; 4];
-    let got = io::read_full(STDIN_FILENO, &mut word);
-    if got < 4 {
+    let mut words = [0u8; 8];
+    let got = io::read_full(STDIN_FILENO, &mut words);
+    if got < 8 {
         return false;
     }
-    let wanted = bytes_in(&word);
+    let wanted = bytes_in(&words);
+    let board = integers::bits_at(&words, 1);
     let mut bytes = [0u8; 508];
     read(&mut bytes, wanted);
     let n = io::count(wanted, &bytes);
-    compare(&bytes[..n], number);
+    compare(board, &bytes[..n], number);
     true
 }
 

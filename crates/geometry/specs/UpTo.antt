@@ -4,13 +4,13 @@ use mathlib.Core.Bool.{Bool, true, false, not, cond, _&&_}
 use mathlib.Core.List.{List, [], _∷_, _++_}
 use Prim.Native.Nat.{ℕ, suc, _≤_, _<_}
 use native.Mathlib.Omega.{arith}
-use lib.Dec.{T, ltb, ltb→lt, lt→ltb}
+use lib.Dec.{T, eqb, ltb, ltb→lt, lt→ltb}
 use lib.ListN.{length}
 use Rattle.meaning.specs.declared.Limits.{Limits}
 use Rattle.meaning.specs.declared.Nest.{Nest}
 use Rattle.meaning.specs.declared.Stream.{Stream}
 use Rattle.meaning.specs.declared.Description.{Description}
-use Rattle.meaning.specs.Limits.{gaugeLimits, UpTo}
+use Rattle.meaning.specs.Limits.{limitsOf, gaugeLimits, UpTo}
 use Rattle.meaning.specs.Tests.{Test, _if_, refusal}
 use Rattle.meaning.specs.Loops.{instances}
 use Rattle.meaning.specs.Space.{processes}
@@ -89,3 +89,12 @@ module _ {l k : Limits} (u : UpTo l k) where
 -- and so under the gauge's: what is needed of sizes follows from those alone
 pub by-gauge : {l : Limits} → UpTo l gaugeLimits → (s : List ℕ) → refusalOf l s ≡ 0 → refusalOf gaugeLimits s ≡ 0
 by-gauge u s e = up-to u (omega arith) s e
+
+-- no board's limits are above the gauge's
+pub limits-up-to : (board : ℕ) → UpTo (limitsOf board) gaugeLimits
+limits-up-to board =
+    let b = eqb board 1 in record { instances = least b 1024 4096 (omega arith); processes = least b 256 1024 (omega arith); hop = omega arith }
+  where
+    least : (b : Bool) (m n : ℕ) → m ≤ n → cond b m n ≤ n
+    least true m n h = h
+    least false m n h = omega arith

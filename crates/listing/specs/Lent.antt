@@ -11,7 +11,7 @@ use borrow.Author.Tests.{eqb-true, eqb-false, eq-eqb, ne-eqb}
 use Rattle.meaning.specs.declared.Answer as Answer
 use Rattle.meaning.specs.declared.Row.{Row}
 use Rattle.meaning.specs.declared.Limits.{Limits}
-use Rattle.meaning.specs.Limits.{limitsOf, gaugeLimits, UpTo}
+use Rattle.meaning.specs.Limits.{gaugeLimits, UpTo}
 use Rattle.meaning.specs.Space.{processes}
 use Rattle.meaning.specs.Description.{descriptionOf}
 use Rattle.meaning.specs.Accept.{refusalOf}
@@ -38,15 +38,6 @@ tableWords l s n = cond (eqb (tableNumber l s n) 0) (rowsWords (rowsFor l s)) []
 -- as many rows as fit, up to as many as there can be processes
 abbrev pub room : ℕ → ℕ
 room n = min (n / 21) 1024
-
--- no board's limits are above the gauge's
-pub limits-up-to : (board : ℕ) → UpTo (limitsOf board) gaugeLimits
-limits-up-to board =
-    let b = eqb board 1 in record { instances = least b 1024 4096 (omega arith); processes = least b 256 1024 (omega arith); hop = omega arith }
-  where
-    least : (b : Bool) (m n : ℕ) → m ≤ n → cond b m n ≤ n
-    least true m n h = h
-    least false m n h = omega arith
 
 number-is : (n : ℕ) → answerNumber (answer n) ≡ n
 number-is zero = refl

@@ -1,5 +1,5 @@
-// The table of a description: its bytes on standard input, document 01's text on standard output, or `refused` and the number. It reads up
-// to 65,536 bytes, more than any description has.
+// The table of a description: its bytes on standard input, document 01's text on standard output, or `refused` and the number. The first argument names the board,
+// 0 gauge or 1 bench; without one it is the gauge. It reads up to 65,536 bytes, more than any description has.
 use libc::STDIN_FILENO;
 use meaning::Acceptance;
 use meaning::Figures;
@@ -84,25 +84,26 @@ fn print_rows(rows: [Row; 1024], count: u32, loops: u32, streams: u32) {
     }
 }
 
-fn print_accepted(s: &[u8], f: Figures) {
+fn print_accepted(board: u32, s: &[u8], f: Figures) {
     print_figures(f);
     let loops = integers::bits_at(s, 0);
     let streams = integers::bits_at(s, 1);
-    let listed = rows::table(s, 1024);
+    let listed = rows::table(s, 1024, board);
     let rows = listed.rows;
     print_rows(rows, f.processes, loops, streams);
 }
 
-fn print_table(s: &[u8]) {
-    let answer = accept::accept(s);
+fn print_table(board: u32, s: &[u8]) {
+    let answer = accept::accept(board, s);
     match answer {
-        Acceptance::Accepted(f, _) => print_accepted(s, f),
+        Acceptance::Accepted(f, _) => print_accepted(board, s, f),
         Acceptance::Refused(number) => text::print_refusal(number),
     }
 }
 
 fn main() {
+    let board = board_word::board_word();
     let mut space = io::large_buffer();
     let n = io::read_full(STDIN_FILENO, &mut space);
-    print_table(&space[..n]);
+    print_table(board, &space[..n]);
 }

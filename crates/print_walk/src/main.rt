@@ -1,6 +1,6 @@
 // The walk by process of a description: its bytes on standard input; on standard output how many processes and instances there are, then a line for each instance
-// as the walk comes to it, with its process's point (y), its step (t) and itself (x), or `refused` and the number, 1 to 10. It reads up to 65,536 bytes, more than
-// any description has.
+// as the walk comes to it, with its process's point (y), its step (t) and itself (x), or `refused` and the number, 33 or 1 to 10. The first argument names the board,
+// 0 gauge or 1 bench; without one it is the gauge. It reads up to 65,536 bytes, more than any description has.
 ghost use Rattle.vectors.specs.Within.{Within};
 ghost use Rattle.numbering.specs.Ranges.{Bounded};
 ghost use Rattle.walk.specs.Walked.{Along, Readable};
@@ -62,10 +62,10 @@ fn print_whole(n: Nest, walk: &[i32], loops: u32)
     print_visits(n, walk, instances as usize, loops);
 }
 
-fn print_walk(s: &[u8]) {
+fn print_walk(board: u32, s: &[u8]) {
     let mut ends = [0u32; 3072];
     let mut walk = [0i32; 12288];
-    let refusal = verdict::walk_of(s, &mut ends, &mut walk);
+    let refusal = verdict::walk_of(board, s, &mut ends, &mut walk);
     if refusal == 0 {
         let n = decode::description(s).nest;
         print_whole(n, &walk, integers::bits_at(s, 0));
@@ -75,7 +75,8 @@ fn print_walk(s: &[u8]) {
 }
 
 fn main() {
+    let board = board_word::board_word();
     let mut space = io::large_buffer();
     let n = io::read_full(STDIN_FILENO, &mut space);
-    print_walk(&space[..n]);
+    print_walk(board, &space[..n]);
 }

@@ -3,7 +3,6 @@ use mathlib.Core.Path.{sym, _∙_}
 use denote.Ref.{now}
 use native.Mathlib.Omega.{arith}
 use borrow.Author.Needs.{needs}
-use Rattle.meaning.specs.Limits.{gaugeLimits}
 use Rattle.refusals.specs.InRange.{nest-bounded}
 use Rattle.refusals.specs.Accepted.{walk-within}
 use Rattle.compare.proofs.walk_lines.Statement.{statement}
@@ -23,7 +22,7 @@ print-number-requires c κs = search needs
 
 description-requires : tie.Need-description-requires
 description-requires c κs =
-    walk-within gaugeLimits _ (sym (c .before .before .before .before .walk-of .ensures .0) ∙ c .if1 .taken) .0 .sized
+    walk-within _ _ (sym (c .before .before .before .before .walk-of .ensures .0) ∙ c .if1 .taken) .0 .sized
 
 slice-aggregate-print-visits : tie.Need-slice-aggregate-print-visits
 slice-aggregate-print-visits c =
@@ -34,7 +33,7 @@ instance-count-requires c κs =
     let b = c .before .before .before in
     let a = b .before .before .before .before in
     nest-bounded (rw (← c .before .before .description .ensures) at
-    (walk-within gaugeLimits (now (a .before .before .before .before .args .s)) (sym (a .walk-of .ensures .0) ∙ b .if1 .taken) .0 .ranged .nest))
+    (walk-within _ (now (a .before .before .before .before .args .s)) (sym (a .walk-of .ensures .0) ∙ b .if1 .taken) .0 .ranged .nest))
 
 cast-print-visits : tie.Need-cast-print-visits
 cast-print-visits c = search needs

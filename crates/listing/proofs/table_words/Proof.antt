@@ -2,7 +2,8 @@
 use mathlib.Core.Path.{refl, sym, _∙_}
 use lib.ListN.{length}
 use denote.Ref.{now}
-use Rattle.listing.specs.Lent.{limits-up-to, room-number, table-accepts, table-fits, table-left, table-declined}
+use Rattle.geometry.specs.UpTo.{limits-up-to}
+use Rattle.listing.specs.Lent.{room-number, table-accepts, table-fits, table-left, table-declined}
 use borrow.Author.Needs.{needs}
 use Rattle.listing.proofs.table_words.Statement.{statement}
 use Rattle.listing.proofs.table_words.Tie as tie

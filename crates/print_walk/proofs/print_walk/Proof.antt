@@ -2,7 +2,6 @@
 use mathlib.Core.Path.{sym, _∙_}
 use denote.Ref.{now}
 use borrow.Author.Needs.{needs}
-use Rattle.meaning.specs.Limits.{gaugeLimits}
 use Rattle.refusals.specs.InRange.{nest-bounded}
 use Rattle.refusals.specs.Accepted.{walk-within}
 use Rattle.print_walk.proofs.print_walk.Statement.{statement}
@@ -13,7 +12,7 @@ walk-of-requires c κs = search needs
 
 description-requires : tie.Need-description-requires
 description-requires c κs =
-    walk-within gaugeLimits _ (sym (c .before .walk-of .ensures .0) ∙ c .if1 .taken) .0 .sized
+    walk-within _ _ (sym (c .before .walk-of .ensures .0) ∙ c .if1 .taken) .0 .sized
 
 slice-aggregate-print-whole : tie.Need-slice-aggregate-print-whole
 slice-aggregate-print-whole c = sym (c .before .before .before .before .walk-of .ensures .1 (c .before .before .before .if1 .taken) .1 .room)
@@ -25,7 +24,7 @@ print-whole-requires : tie.Need-print-whole-requires
 print-whole-requires c κs =
     let b = c .before .before .before .before in
     let e = b .before .walk-of .ensures in
-    let w = walk-within gaugeLimits (now (b .before .before .before .before .before .args .s)) (sym (e .0) ∙ b .if1 .taken) .0 .ranged .nest in
+    let w = walk-within _ (now (b .before .before .before .before .before .args .s)) (sym (e .0) ∙ b .if1 .taken) .0 .ranged .nest in
     let d = c .before .before .before .description .ensures in
     (nest-bounded (rw (← d) at w), rw (← d) at (e .1 (b .if1 .taken) .1))
 
