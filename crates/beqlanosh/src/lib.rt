@@ -76,7 +76,12 @@ pub extern "C" fn beqlanosh_table(board: u32, bytes: &[u8], words: &mut [u32]) -
 
 // PLAIN RUN: the final values, of the values given, both in element order.
 #[no_mangle]
-pub extern "C" fn beqlanosh_plain_run(board: u32, bytes: &[u8], values: &[u32], output: &mut [u32]) -> u32
+pub extern "C" fn beqlanosh_plain_run(
+    board: u32,
+    bytes: &[u8],
+    values: &[u32],
+    output: &mut [u32],
+) -> u32
     ensures { λ r. ⌜ (r ≡ answerNumber (plainRun (limitsOf board) (now (bytes .entry)) (now (values .entry)) (now (output .entry)) .answer))
         × (now (output .exit) ≡ plainRun (limitsOf board) (now (bytes .entry)) (now (values .entry)) (now (output .entry)) .output) ⌝ }
 {

@@ -28,15 +28,15 @@
 //   States      `says-sound`; `sound-kept`: every granted step keeps a sound state sound, reached or not
 //   Kept        `kept`: of lists of granted steps, and that they write to slots only; `written-beyond`: what stands past the words is kept
 //   Finish      `final-word`, `finish-words`: when all values are out, every count is its total and every other word 0, whatever the order
-//   Calls       `calls-granted`, `calls-leave`: calls do granted steps only, and nothing else changes
+//   Calls       `calls-granted`, `calls-leave`: calls do granted steps only, whatever limits each is told, and nothing else changes
 //   Declined    `numbers-are`: a call is declined by its tests; `usable`: what a call that is not declined was lent;
-//               `not-by-memory`: no call is declined by 20, 26, 21 or 22 on a memory that passes the tests
+//               `not-by-memory`: no call is declined by 20, 26, 21 or 22 on a memory that passes the tests, whatever limits it is told
 //   Plain       `plain-is`: the plain run on the flat store is the abstract one; the record `Described` of what geometry has to show
 //   Figures     `words-are`, `steps-are`: the figures that Accept answers
 //   Starts      `proper`, `cleared`: what a start that is not declined leaves; `passes-after`: after any calls the memory passes its tests
 //   Results     `result-early`, `result-only-early`, `result-late`: what Result answers; `in-element-order`
 //   Beyond      `call-beyond`: no call changes what stands past the words, on any memory
-//   Demand      `demand3`: demand 3, from `Wired` and `Described`; `guarantee`: for every accepted description, from what geometry owes
+//   Demand      `after-start`: demand 3 after every list of calls, from `Wired` and `Described`; `guarantee`: for every accepted description, from what geometry owes
 
 pub fn one() -> usize {
     1

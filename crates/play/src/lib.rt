@@ -90,22 +90,8 @@ fn make_call(
             received,
             state,
         )),
-        1 => answer_words::of_ran(run::run(
-            board,
-            s,
-            calls[5 * k + 1],
-            waiting,
-            received,
-            state,
-        )),
-        2 => answer_words::of_readiness(ready::ready(
-            board,
-            s,
-            words,
-            waiting,
-            received,
-            state,
-        )),
+        1 => answer_words::of_ran(run::run(board, s, calls[5 * k + 1], waiting, received, state)),
+        2 => answer_words::of_readiness(ready::ready(board, s, words, waiting, received, state)),
         3 => see(
             board,
             s,
@@ -115,14 +101,7 @@ fn make_call(
             waiting,
             received,
         ),
-        _ => answer_words::of_answer(result::result(
-            board,
-            s,
-            output,
-            waiting,
-            received,
-            state,
-        )),
+        _ => answer_words::of_answer(result::result(board, s, output, waiting, received, state)),
     }
 }
 

@@ -5,7 +5,7 @@
 //
 //   InRange     what the refusals 1 to 5 leave of a nest and of a stream, in the words of the crates that compute with them
 //   Small       tests on small words as the code makes them; the step of a line is not negative
-//   Stages      the refusals 6 to 17 in stages, each a test or two and the stage after them; lists of tests one after the other
+//   Stages      the refusals 33 and 6 to 17 in stages, each a test or two and the stage after them; lists of tests one after the other
 //   Accepted    `accepted-within`: what a refusal of 0 leaves of ranges, instances, processes, moves and hops
 //   StateWords  `process-words`, `end-words`: how many words processes and pipes have at most
 ghost use mathlib.Core.Path.{_≡_};
