@@ -164,7 +164,7 @@ pub fn accept(board: u32, s: &[u8]) -> Acceptance
     ensures { λ r. ⌜ r ≡ accept (limitsOf board) (now (s .entry)) ⌝ }
 {
     let mut ends = [0u32; 3072];
-    let refusal = verdict::refusal_of(s, boards::limits_of(board), &mut ends);
+    let refusal = verdict::refusal_of(board, s, &mut ends);
     if refusal == 0 {
         let d = decode::description(s);
         let ends = &ends;

@@ -212,14 +212,7 @@ pub extern "C" fn beqlanosh_window(
         × (now (answer .exit) ≡ orKept (windowValues (now (bytes .entry)) pipe
         (window (limitsOf board) (now (bytes .entry)) pipe side (now (waiting .entry)) (now (received .entry)) .refusal)) (now (answer .entry))) ⌝ }
 {
-    let piece = window::piece_of(
-        bytes,
-        boards::limits_of(board),
-        pipe,
-        side,
-        waiting.len(),
-        received.len(),
-    );
+    let piece = window::piece_of(board, bytes, pipe, side, waiting.len(), received.len());
     let refusal = piece.refusal;
     if refusal == 0 {
         *answer = [piece.from, piece.length];

@@ -98,3 +98,6 @@ limits-up-to board =
     least : (b : Bool) (m n : ℕ) → m ≤ n → cond b m n ≤ n
     least true m n h = h
     least false m n h = omega arith
+
+pub by-board : (board : ℕ) (s : List ℕ) → refusalOf (limitsOf board) s ≡ 0 → refusalOf gaugeLimits s ≡ 0
+by-board board s e = by-gauge (limits-up-to board) s e

@@ -20,7 +20,7 @@
 //   two loops          TwoLoops: that the padded third loop changes nothing
 //   divisors           Divisors: those of a description's streams in their list
 //   from Accept        Descriptions: `walk-layout`: what the refusals 33 and 1 to 10 leave; `laid`: what all leave
-//   limits             UpTo: `up-to`: what is accepted under some limits is accepted under higher ones; `by-gauge`: under the gauge's; `limits-up-to`
+//   limits             UpTo: `up-to`: what is accepted under some limits is accepted under higher ones; `by-gauge`, `by-board`: under the gauge's
 //   for the network    Wiring: `wired`, `flowing`, `keeping`, `meeting`; Arrays: `pipe-is`, `pipe-of`, `through`, `place-on`
 //
 // Members, Sorting, Best, Numbers, Places, Reach and BoxLines are what these use; Tests is for the crates above. No theorem uses that an increment's

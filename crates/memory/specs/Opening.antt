@@ -217,8 +217,3 @@ module _ {l : Limits} (u : UpTo l gaugeLimits) (s : List ℕ) (M : Memory) {b : 
   pub refused : {n : ℕ} {z : Size} → n ≡ refusalOf l s → (n ≡ 0 → ⊥)
       → (n ≡ refusedBy l s (memoryTests (descriptionOf s) M)) × (n ≡ 0 → Opened s M b z)
   refused {n} e g = (rw (← e, ne-eqb n 0 g) refl, λ h. absurd (g h))
-
--- the same refusal by limits that are equal
-pub told : {l k : Limits} → l ≡ k → (s : List ℕ) (M : Memory) {n : ℕ} → n ≡ refusedBy l s (memoryTests (descriptionOf s) M)
-    → n ≡ refusedBy k s (memoryTests (descriptionOf s) M)
-told e s M h = h ∙ ap (λ (l : Limits). refusedBy l s (memoryTests (descriptionOf s) M)) e

@@ -11,7 +11,7 @@ ghost use mathlib.Core.List.{[], _∷_};
 ghost use Prim.Native.Nat.{_≤_};
 ghost use lib.ListN.{length};
 ghost use Rattle.meaning.specs.Tests.{_if_, refusal};
-ghost use Rattle.meaning.specs.Limits.{gaugeLimits, UpTo};
+ghost use Rattle.meaning.specs.Limits.{limitsOf, gaugeLimits, UpTo};
 ghost use Rattle.meaning.specs.Description.{descriptionOf};
 ghost use Rattle.meaning.specs.Array.{arrayOf};
 ghost use Rattle.meaning.specs.Rules.{sound, memoryOf};
@@ -93,7 +93,7 @@ fn open_accepted(
 }
 
 // All refusals that the four calls share, in their order.
-pub fn open(
+fn open_within(
     s: &[u8],
     limits: Limits,
     waiting: &[u32],
@@ -108,7 +108,7 @@ pub fn open(
         × (r .refusal ≡ 0 → Opened (now (s .entry)) (memoryOf (now (waiting .entry)) (now (received .entry)) (now (state .entry))) (now (book .exit)) (r .size))
         × (r .refusal ≡ 0 → Ends (descriptionOf (now (s .entry)) .nest) (now (ends .exit))) ⌝ }
 {
-    let r = verdict::refusal_of(s, limits, ends);
+    let r = verdict::refusal_within(s, limits, ends);
     if r == 0 {
         open_accepted(decode::description(s), waiting, received, state, ends, book)
     } else {
@@ -121,4 +121,24 @@ pub fn open(
             },
         }
     }
+}
+
+// The same on a board.
+pub fn open(
+    board: u32,
+    s: &[u8],
+    waiting: &[u32],
+    received: &[u32],
+    state: &[u32],
+    ends: &mut [u32; 3072],
+    book: &mut [u32],
+) -> Opening
+    requires { ⌜ length (now book) ≡ 116736 ⌝ }
+    ensures { λ r. ⌜ (r .refusal ≡ refusedBy (limitsOf board) (now (s .entry)) (memoryTests (descriptionOf (now (s .entry)))
+        (memoryOf (now (waiting .entry)) (now (received .entry)) (now (state .entry)))))
+        × (r .refusal ≡ 0 → Opened (now (s .entry)) (memoryOf (now (waiting .entry)) (now (received .entry)) (now (state .entry))) (now (book .exit)) (r .size))
+        × (r .refusal ≡ 0 → Ends (descriptionOf (now (s .entry)) .nest) (now (ends .exit))) ⌝ }
+{
+    let limits = boards::limits_of(board);
+    open_within(s, limits, waiting, received, state, ends, book)
 }

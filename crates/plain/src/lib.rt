@@ -168,7 +168,7 @@ pub fn plain_run(board: u32, s: &[u8], values: &[u32], output: &mut [u32]) -> An
         × (now (output .exit) ≡ plainRun (limitsOf board) (now (s .entry)) (now (values .entry)) (now (output .entry)) .output) ⌝ }
 {
     let mut ends = [0u32; 3072];
-    let r = verdict::refusal_of(s, boards::limits_of(board), &mut ends);
+    let r = verdict::refusal_of(board, s, &mut ends);
     if r == 0 {
         run_accepted(decode::description(s), values, output)
     } else {

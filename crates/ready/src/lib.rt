@@ -97,15 +97,7 @@ pub fn ready(
 {
     let mut ends = [0u32; 3072];
     let mut book = [0u32; 116736];
-    let o = memory::open(
-        s,
-        boards::limits_of(board),
-        waiting,
-        received,
-        state,
-        &mut ends,
-        &mut book,
-    );
+    let o = memory::open(board, s, waiting, received, state, &mut ends, &mut book);
     let r = o.refusal;
     if r == 0 {
         let z = o.size;

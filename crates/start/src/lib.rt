@@ -108,7 +108,7 @@ pub fn start(
         ≡ start (limitsOf board) (now (s .entry)) (now (values .entry)) (memoryOf (now (waiting .entry)) (now (received .entry)) (now (state .entry))) .memory) ⌝ }
 {
     let mut ends = [0u32; 3072];
-    let r = verdict::refusal_of(s, boards::limits_of(board), &mut ends);
+    let r = verdict::refusal_of(board, s, &mut ends);
     if r == 0 {
         let ends = &ends;
         start_accepted(

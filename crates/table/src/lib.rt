@@ -182,7 +182,7 @@ fn refusal_for(s: &[u8], limits: Limits, room: usize, ends: &mut [u32; 3072]) ->
     requires { ⌜ UpTo limits gaugeLimits ⌝ }
     ensures { λ r. ⌜ (r ≡ refusedFor limits (now (s .entry)) room) × (r ≡ 0 → Ends (descriptionOf (now (s .entry)) .nest) (now (ends .exit))) ⌝ }
 {
-    let r = verdict::refusal_of(s, limits, ends);
+    let r = verdict::refusal_within(s, limits, ends);
     if r == 0 {
         let n = decode::description(s).nest;
         if room < process_count(n) { 18 } else { 0 }

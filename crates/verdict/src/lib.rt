@@ -101,7 +101,7 @@ fn streams_refusal(d: Description, limits: Limits, walk: &[i32]) -> u32
 }
 
 // The refusal of a description by its number, 0 if it is accepted; then count, first and last instance of its processes are filled.
-pub fn refusal_of(s: &[u8], limits: Limits, ends: &mut [u32; 3072]) -> u32
+pub fn refusal_within(s: &[u8], limits: Limits, ends: &mut [u32; 3072]) -> u32
     requires { ⌜ UpTo limits gaugeLimits ⌝ }
     ensures { λ r. ⌜ (r ≡ refusalOf limits (now (s .entry))) × (r ≡ 0 → Ends (descriptionOf (now (s .entry)) .nest) (now (ends .exit))) ⌝ }
 {
@@ -112,4 +112,11 @@ pub fn refusal_of(s: &[u8], limits: Limits, ends: &mut [u32; 3072]) -> u32
     } else {
         r
     }
+}
+
+// The same on a board.
+pub fn refusal_of(board: u32, s: &[u8], ends: &mut [u32; 3072]) -> u32
+    ensures { λ r. ⌜ (r ≡ refusalOf (limitsOf board) (now (s .entry))) × (r ≡ 0 → Ends (descriptionOf (now (s .entry)) .nest) (now (ends .exit))) ⌝ }
+{
+    refusal_within(s, boards::limits_of(board), ends)
 }

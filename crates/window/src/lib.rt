@@ -187,7 +187,7 @@ fn accepted_piece(
 }
 
 // Where the part lies, by the bytes of the description, of lists of so many words.
-pub fn piece_of(
+fn piece_within(
     s: &[u8],
     limits: Limits,
     pipe: u32,
@@ -201,13 +201,29 @@ pub fn piece_of(
         × (Within r waiting received) ⌝ }
 {
     let mut ends = [0u32; 3072];
-    let number = verdict::refusal_of(s, limits, &mut ends);
+    let number = verdict::refusal_within(s, limits, &mut ends);
     if number == 0 {
         let ends = &ends;
         accepted_piece(decode::description(s), ends, pipe, side, waiting, received)
     } else {
         refused(number)
     }
+}
+
+// The same on a board.
+pub fn piece_of(
+    board: u32,
+    s: &[u8],
+    pipe: u32,
+    side: u32,
+    waiting: usize,
+    received: usize,
+) -> Piece
+    ensures { λ r. ⌜ (r ≡ pieceOf (descriptionOf (now (s .entry))) pipe
+        (refusedBy (limitsOf board) (now (s .entry)) (ownTests (descriptionOf (now (s .entry))) pipe side waiting received)))
+        × (Within r waiting received) ⌝ }
+{
+    piece_within(s, boards::limits_of(board), pipe, side, waiting, received)
 }
 
 // A part of the one list or of the other.
@@ -241,14 +257,7 @@ pub fn window<'a>(
     ensures { λ r. ⌜ (now (number .exit) ≡ window (limitsOf board) (now (s .entry)) pipe side (now (waiting .entry)) (now (received .entry)) .refusal)
         × (now r ≡ window (limitsOf board) (now (s .entry)) pipe side (now (waiting .entry)) (now (received .entry)) .part) ⌝ }
 {
-    let piece = piece_of(
-        s,
-        boards::limits_of(board),
-        pipe,
-        side,
-        waiting.len(),
-        received.len(),
-    );
+    let piece = piece_of(board, s, pipe, side, waiting.len(), received.len());
     *number = piece.refusal;
     let from = piece.from as usize;
     let to = from + piece.length as usize;

@@ -3,9 +3,8 @@ use borrow.Author.Needs.{needs}
 use mathlib.Core.Path.{sym, _∙_, ap, subst}
 use native.Mathlib.Omega.{arith}
 use denote.Ref.{now}
-use Rattle.meaning.specs.declared.Limits.{Limits}
-use Rattle.meaning.specs.Accept.{figures, divisors, accept}
-use Rattle.geometry.specs.UpTo.{by-gauge}
+use Rattle.meaning.specs.Accept.{figures, divisors}
+use Rattle.geometry.specs.UpTo.{by-board}
 use Rattle.refusals.specs.Accepted.{accepted-within}
 use Rattle.divisors.specs.Used.{Used}
 use Rattle.pipes.specs.Accepted.{streams-used}
@@ -13,25 +12,21 @@ use Rattle.accept.specs.Shares.{described, accepts, refuses}
 use Rattle.accept.proofs.accept.Statement.{statement}
 use Rattle.accept.proofs.accept.Tie as tie
 
-limits-of-requires : tie.Need-limits-of-requires
-limits-of-requires c κs = search needs
-
 refusal-of-requires : tie.Need-refusal-of-requires
-refusal-of-requires c κs = c .before .limits-of .ensures .1
+refusal-of-requires c κs = search needs
 
 description-requires : tie.Need-description-requires
 description-requires c κs =
-    accepted-within _ (now (c .before .before .before .before .before .args .s)) (sym (c .before .refusal-of .ensures .0) ∙ c .if1 .taken) .0 .sized
+    accepted-within _ (now (c .before .before .before .before .args .s)) (sym (c .before .refusal-of .ensures .0) ∙ c .if1 .taken) .0 .sized
 
 figures-of-requires : tie.Need-figures-of-requires
 figures-of-requires c κs =
     let b = c .before .before .before .before in
+    let a = b .before .before .before .args in
     let z = c .before .before .before .if1 .taken in
-    let e = c .before .before .description .ensures in
-    let h = b .refusal-of .ensures in
-    let s = now (b .before .before .before .before .args .s) in (
-      rw (← e) at (described s (by-gauge (b .before .before .limits-of .ensures .1) s (sym (h .0) ∙ z))),
-      rw (← e) at (h .1 z),
+    let e = c .before .before .description .ensures in (
+      rw (← e) at (described (now (a .s)) (by-board (a .board) (now (a .s)) (sym (b .refusal-of .ensures .0) ∙ z))),
+      rw (← e) at (b .refusal-of .ensures .1 z),
       omega arith,
     )
 
@@ -39,7 +34,7 @@ divisors-of-requires : tie.Need-divisors-of-requires
 divisors-of-requires c κs =
     let k = c .before .before .before in
     let b = k .before .before in
-    let s = now (b .before .before .before .before .args .s) in
+    let s = now (b .before .before .before .args .s) in
     let a = accepted-within _ s (sym (b .refusal-of .ensures .0) ∙ k .before .if1 .taken) in
     subst Used (sym (k .description .ensures)) (record { ranged = a .0 .ranged; streams = streams-used s })
 
@@ -47,17 +42,13 @@ returns : tie.Need-returns
 returns c =
     let k = c .before .before .before .before in
     let b = k .before .before in
-    let s = now (b .before .before .before .before .args .s) in
-    accepts _ s (sym (b .refusal-of .ensures .0) ∙ k .before .if1 .taken)
+    accepts _ (now (b .before .before .before .args .s)) (sym (b .refusal-of .ensures .0) ∙ k .before .if1 .taken)
     (c .before .figures-of .ensures ∙ ap figures (k .description .ensures)) (c .divisors-of .ensures ∙ ap divisors (k .description .ensures))
-    ∙ ap (λ (l : Limits). accept l s) (b .before .before .limits-of .ensures .0)
 
 returns-2 : tie.Need-returns-2
-returns-2 c =
-    let s = now (c .before .before .before .before .before .args .s) in
-    refuses _ s (c .before .refusal-of .ensures .0) (c .if1 .left) ∙ ap (λ (l : Limits). accept l s) (c .before .before .before .limits-of .ensures .0)
+returns-2 c = refuses _ (now (c .before .before .before .before .args .s)) (c .before .refusal-of .ensures .0) (c .if1 .left)
 
 pub accept-spec : {M : Type 1} → statement M
 accept-spec =
     tie.close
-    (tie.spec limits-of-requires refusal-of-requires description-requires figures-of-requires divisors-of-requires returns returns-2)
+    (tie.spec refusal-of-requires description-requires figures-of-requires divisors-of-requires returns returns-2)

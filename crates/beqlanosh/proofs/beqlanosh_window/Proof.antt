@@ -1,39 +1,29 @@
 -- `beqlanosh::beqlanosh_window` meets its contract. Assumes nothing.
-use mathlib.Core.Path.{_∙_, ap}
 use denote.Ref.{now}
-use Rattle.meaning.specs.declared.Limits.{Limits}
-use Rattle.meaning.specs.Calls.{window}
 use Rattle.window.specs.Pieces.{number-is}
 use Rattle.beqlanosh.specs.Kept.{window-left, window-declined}
 use borrow.Author.Needs.{needs}
 use Rattle.beqlanosh.proofs.beqlanosh_window.Statement.{statement}
 use Rattle.beqlanosh.proofs.beqlanosh_window.Tie as tie
 
-limits-of-requires : tie.Need-limits-of-requires
-limits-of-requires c κs = search needs
-
 piece-of-requires : tie.Need-piece-of-requires
-piece-of-requires c κs = c .limits-of .ensures .1
+piece-of-requires c κs = search needs
 
 returns : tie.Need-returns
 returns c =
     let p = c .before .before in
-    let a = p .before .before .before .before .before .args in
+    let a = p .before .before .before .before .args in
     let e = p .piece-of .ensures .0 in
-    let q =
-    number-is _ (now (a .bytes)) (a .pipe) (a .side) (now (a .waiting)) (now (a .received)) e
-    ∙ ap (λ (l : Limits). window l (now (a .bytes)) (a .pipe) (a .side) (now (a .waiting)) (now (a .received)) .refusal) (p .before .limits-of .ensures .0) in
+    let q = number-is _ (now (a .bytes)) (a .pipe) (a .side) (now (a .waiting)) (now (a .received)) e in
     (q, window-left (now (a .bytes)) (a .pipe) (now (a .answer)) e q (c .before .if1 .taken))
 
 returns-2 : tie.Need-returns-2
 returns-2 c =
     let p = c .before in
-    let a = p .before .before .before .before .before .args in
+    let a = p .before .before .before .before .args in
     let e = p .piece-of .ensures .0 in
-    let q =
-    number-is _ (now (a .bytes)) (a .pipe) (a .side) (now (a .waiting)) (now (a .received)) e
-    ∙ ap (λ (l : Limits). window l (now (a .bytes)) (a .pipe) (a .side) (now (a .waiting)) (now (a .received)) .refusal) (p .before .limits-of .ensures .0) in
+    let q = number-is _ (now (a .bytes)) (a .pipe) (a .side) (now (a .waiting)) (now (a .received)) e in
     (q, window-declined (now (a .bytes)) (a .pipe) (now (a .answer)) e q (c .if1 .left))
 
 pub beqlanosh-window-spec : {M : Type 1} → statement M
-beqlanosh-window-spec = tie.close (tie.spec limits-of-requires piece-of-requires returns returns-2)
+beqlanosh-window-spec = tie.close (tie.spec piece-of-requires returns returns-2)

@@ -1,21 +1,16 @@
 -- `plain::plain_run` meets its contract. Assumes nothing.
-use mathlib.Core.Path.{sym, _∙_, ap, subst}
+use mathlib.Core.Path.{sym, _∙_, subst}
 use denote.Ref.{now}
 use borrow.Author.Needs.{needs}
-use Rattle.meaning.specs.declared.Limits.{Limits}
-use Rattle.meaning.specs.Accept.{refusalOf}
-use Rattle.geometry.specs.UpTo.{by-gauge}
+use Rattle.geometry.specs.UpTo.{by-board}
 use Rattle.refusals.specs.Accepted.{accepted-within}
 use Rattle.plain.specs.Places.{Fitting}
 use Rattle.plain.specs.Run.{accepted-fitting, accepted-call, refused-call}
 use Rattle.plain.proofs.plain_run.Statement.{statement}
 use Rattle.plain.proofs.plain_run.Tie as tie
 
-limits-of-requires : tie.Need-limits-of-requires
-limits-of-requires c κs = search needs
-
 refusal-of-requires : tie.Need-refusal-of-requires
-refusal-of-requires c κs = c .before .limits-of .ensures .1
+refusal-of-requires c κs = search needs
 
 description-requires : tie.Need-description-requires
 description-requires c κs =
@@ -24,9 +19,7 @@ description-requires c κs =
 run-accepted-requires : tie.Need-run-accepted-requires
 run-accepted-requires c κs =
     let d = c .before in
-    let r = d .before .before in
-    subst Fitting (sym (d .description .ensures))
-    (accepted-fitting _ (by-gauge (r .before .before .limits-of .ensures .1) _ (sym (r .refusal-of .ensures .0) ∙ d .before .if1 .taken)))
+    subst Fitting (sym (d .description .ensures)) (accepted-fitting _ (by-board _ _ (sym (d .before .before .refusal-of .ensures .0) ∙ d .before .if1 .taken)))
 
 same-length : tie.Need-same-length
 same-length c = search needs
@@ -36,24 +29,19 @@ returns c =
     let r = c .before .before in
     let d = r .before .before in
     let i = d .before in
-    let l = i .before .before .before in
-    let a = l .before .before .before .before .args in
-    let e = i .before .refusal-of .ensures .0 ∙ ap (λ (l : Limits). refusalOf l (now (a .s))) (l .limits-of .ensures .0) in
-    accepted-call _ (now (a .s)) (now (a .values)) (now (a .output)) (sym e ∙ i .if1 .taken) (d .description .ensures)
+    let a = i .before .before .before .before .before .before .args in
+    accepted-call _ (now (a .s)) (now (a .values)) (now (a .output)) (sym (i .before .refusal-of .ensures .0) ∙ i .if1 .taken) (d .description .ensures)
     (r .run-accepted .ensures)
 
 returns-2 : tie.Need-returns-2
 returns-2 c =
-    let l = c .before .before .before in
-    let a = l .before .before .before .before .args in
-    let e = c .before .refusal-of .ensures .0 ∙ ap (λ (l : Limits). refusalOf l (now (a .s))) (l .limits-of .ensures .0) in
-    refused-call _ (now (a .s)) (now (a .values)) (now (a .output)) e (c .if1 .left)
+    let a = c .before .before .before .before .before .before .args in
+    refused-call _ (now (a .s)) (now (a .values)) (now (a .output)) (c .before .refusal-of .ensures .0) (c .if1 .left)
 
 pub plain-run-spec : {M : Type 1} → statement M
 plain-run-spec =
     tie.close
     (tie.spec
-    limits-of-requires
     refusal-of-requires
     description-requires
     run-accepted-requires

@@ -3,13 +3,9 @@ use borrow.Author.Needs.{needs}
 use native.Mathlib.Omega.{arith}
 use denote.Ref.{now}
 use Rattle.meaning.specs.Rules.{memoryOf}
-use Rattle.memory.specs.Opening.{told}
 use Rattle.result.specs.Call.{drawable, opened-call, refused-call}
 use Rattle.result.proofs.result.Statement.{statement}
 use Rattle.result.proofs.result.Tie as tie
-
-limits-of-requires : tie.Need-limits-of-requires
-limits-of-requires c κs = search needs
 
 slice-aggregate-open : tie.Need-slice-aggregate-open
 slice-aggregate-open c = search needs
@@ -33,25 +29,20 @@ returns : tie.Need-returns
 returns c =
     let i = c .before .before .before .before .before .before .before .before in
     let o = i .before .before in
-    let b = o .before .before .before in
-    let a = b .before .before .before .before .before .before .args in
-    let M = memoryOf (now (a .waiting)) (now (a .received)) (now (a .state)) in
-    opened-call _ (now (a .s)) (now (a .output)) M (told (b .limits-of .ensures .0) (now (a .s)) M (o .«open» .ensures .0)) (i .if1 .taken)
+    let a = o .before .before .before .before .before .before .before .before .args in
+    opened-call _ (now (a .s)) (now (a .output)) (memoryOf (now (a .waiting)) (now (a .received)) (now (a .state))) (o .«open» .ensures .0) (i .if1 .taken)
     (c .before .before .result-opened .ensures)
 
 returns-2 : tie.Need-returns-2
 returns-2 c =
     let o = c .before .before in
-    let b = o .before .before .before in
-    let a = b .before .before .before .before .before .before .args in
-    let M = memoryOf (now (a .waiting)) (now (a .received)) (now (a .state)) in
-    refused-call _ (now (a .s)) (now (a .output)) M (told (b .limits-of .ensures .0) (now (a .s)) M (o .«open» .ensures .0)) (c .if1 .left)
+    let a = o .before .before .before .before .before .before .before .before .args in
+    refused-call _ (now (a .s)) (now (a .output)) (memoryOf (now (a .waiting)) (now (a .received)) (now (a .state))) (o .«open» .ensures .0) (c .if1 .left)
 
 pub result-spec : {M : Type 1} → statement M
 result-spec =
     tie.close
     (tie.spec
-    limits-of-requires
     slice-aggregate-open
     open-requires
     slice-aggregate-result-opened

@@ -1,23 +1,18 @@
 -- `start::start` meets its contract. Assumes nothing.
-use mathlib.Core.Path.{sym, _∙_, ap}
+use mathlib.Core.Path.{sym, _∙_}
 use native.Mathlib.Omega.{arith}
 use denote.Ref.{now}
 use borrow.Author.Needs.{needs}
-use Rattle.meaning.specs.declared.Limits.{Limits}
+use Rattle.geometry.specs.UpTo.{by-board}
 use Rattle.refusals.specs.Accepted.{accepted-within}
 use Rattle.places.specs.Order.{placeable}
 use Rattle.meaning.specs.Rules.{memoryOf}
-use Rattle.meaning.specs.Accept.{refusalOf}
-use Rattle.geometry.specs.UpTo.{by-gauge}
 use Rattle.start.specs.Call.{accepted-call, refused-call}
 use Rattle.start.proofs.start.Statement.{statement}
 use Rattle.start.proofs.start.Tie as tie
 
-limits-of-requires : tie.Need-limits-of-requires
-limits-of-requires c κs = search needs
-
 refusal-of-requires : tie.Need-refusal-of-requires
-refusal-of-requires c κs = c .before .limits-of .ensures .1
+refusal-of-requires c κs = search needs
 
 description-requires : tie.Need-description-requires
 description-requires c κs = accepted-within _ _ (sym (c .before .before .refusal-of .ensures .0) ∙ c .before .if1 .taken) .0 .sized
@@ -27,7 +22,7 @@ start-accepted-requires c κs =
     let d = c .before .before .before .before in
     let z = d .before .before .if1 .taken in
     let r = d .before .before .before .refusal-of .ensures in
-    rw (d .description .ensures) (placeable _ (by-gauge (d .before .before .before .before .before .limits-of .ensures .1) _ (sym (r .0) ∙ z)), r .1 z, omega arith)
+    rw (d .description .ensures) (placeable _ (by-board _ _ (sym (r .0) ∙ z)), r .1 z, omega arith)
 
 same-length : tie.Need-same-length
 same-length c = search needs
@@ -42,24 +37,19 @@ returns : tie.Need-returns
 returns c =
     let d = c .before .before .before .before .before .before .before .before .before .before .before in
     let i = d .before .before in
-    let b = i .before .before .before in
-    let a = b .before .before .before .before .before .before .args in
+    let a = i .before .before .before .before .before .before .before .before .args in
     accepted-call _ (now (a .s)) (now (a .values)) (memoryOf (now (a .waiting)) (now (a .received)) (now (a .state)))
-    (i .before .refusal-of .ensures .0 ∙ ap (λ (l : Limits). refusalOf l (now (a .s))) (b .limits-of .ensures .0))
-    (i .if1 .taken) (d .description .ensures) (c .before .before .before .before .before .before .start-accepted .ensures)
+    (i .before .refusal-of .ensures .0) (i .if1 .taken) (d .description .ensures) (c .before .before .before .before .before .before .start-accepted .ensures)
 
 returns-2 : tie.Need-returns-2
 returns-2 c =
-    let b = c .before .before .before in
-    let a = b .before .before .before .before .before .before .args in
-    refused-call _ (now (a .s)) (now (a .values)) (memoryOf (now (a .waiting)) (now (a .received)) (now (a .state)))
-    (c .before .refusal-of .ensures .0 ∙ ap (λ (l : Limits). refusalOf l (now (a .s))) (b .limits-of .ensures .0)) (c .if1 .left)
+    let a = c .before .before .before .before .before .before .before .before .args in
+    refused-call _ (now (a .s)) (now (a .values)) (memoryOf (now (a .waiting)) (now (a .received)) (now (a .state))) (c .before .refusal-of .ensures .0) (c .if1 .left)
 
 pub start-spec : {M : Type 1} → statement M
 start-spec =
     tie.close
     (tie.spec
-    limits-of-requires
     refusal-of-requires
     description-requires
     start-accepted-requires

@@ -3,13 +3,9 @@ use native.Mathlib.Omega.{arith}
 use denote.Ref.{now}
 use borrow.Author.Needs.{needs}
 use Rattle.meaning.specs.Rules.{memoryOf}
-use Rattle.memory.specs.Opening.{told}
 use Rattle.step.specs.Call.{opened-call, refused-call}
 use Rattle.step.proofs.step.Statement.{statement}
 use Rattle.step.proofs.step.Tie as tie
-
-limits-of-requires : tie.Need-limits-of-requires
-limits-of-requires c κs = search needs
 
 slice-aggregate-open : tie.Need-slice-aggregate-open
 slice-aggregate-open c = search needs
@@ -34,11 +30,9 @@ same-length-2 c = search needs
 returns : tie.Need-returns
 returns c =
     let k = c .before .before .before .before .before .before .before .before .before .before .before .before .before in
-    let b = k .before .before .before .before .before in
-    let a = b .before .before .before .before .before .args in
-    let M = memoryOf (now (a .waiting)) (now (a .received)) (now (a .state)) in
-    opened-call _ (now (a .s)) (a .kind) (a .number) (a .stream) M (told (b .limits-of .ensures .0) (now (a .s)) M (k .«open» .ensures .0))
-    (c .before .before .before .before .before .before .before .before .before .before .before .if1 .taken) (c .before .before .before .before .step-opened .ensures)
+    let a = k .before .before .before .before .before .before .before .before .before .args in
+    opened-call _ (now (a .s)) (a .kind) (a .number) (a .stream) (memoryOf (now (a .waiting)) (now (a .received)) (now (a .state)))
+    (k .«open» .ensures .0) (c .before .before .before .before .before .before .before .before .before .before .before .if1 .taken) (c .before .before .before .before .step-opened .ensures)
 
 same-length-3 : tie.Need-same-length-3
 same-length-3 c = search needs
@@ -48,17 +42,14 @@ same-length-4 c = search needs
 
 returns-2 : tie.Need-returns-2
 returns-2 c =
-    let k = c .before .before in
-    let b = k .before .before .before .before .before in
-    let a = b .before .before .before .before .before .args in
-    let M = memoryOf (now (a .waiting)) (now (a .received)) (now (a .state)) in
-    refused-call _ (now (a .s)) (a .kind) (a .number) (a .stream) M (told (b .limits-of .ensures .0) (now (a .s)) M (k .«open» .ensures .0)) (c .if1 .left)
+    let a = c .before .before .before .before .before .before .before .before .before .before .before .args in
+    refused-call _ (now (a .s)) (a .kind) (a .number) (a .stream) (memoryOf (now (a .waiting)) (now (a .received)) (now (a .state))) (c .before .before .«open» .ensures .0)
+    (c .if1 .left)
 
 pub step-spec : {M : Type 1} → statement M
 step-spec =
     tie.close
     (tie.spec
-    limits-of-requires
     slice-aggregate-open
     open-requires
     slice-aggregate-step-opened

@@ -10,23 +10,23 @@ use borrow.Author.Needs.{needs}
 use Rattle.table.proofs.refusal_for.Statement.{statement}
 use Rattle.table.proofs.refusal_for.Tie as tie
 
-refusal-of-requires : tie.Need-refusal-of-requires
-refusal-of-requires c κs = search needs
+refusal-within-requires : tie.Need-refusal-within-requires
+refusal-within-requires c κs = search needs
 
 description-requires : tie.Need-description-requires
-description-requires c κs = accepted-sized _ _ (sym (c .before .refusal-of .ensures .0) ∙ c .if1 .taken)
+description-requires c κs = accepted-sized _ _ (sym (c .before .refusal-within .ensures .0) ∙ c .if1 .taken)
 
 process-count-requires : tie.Need-process-count-requires
 process-count-requires c κs =
     let t = c .before .before in
     subst (λ (d : Description). Bounded (d .nest)) (sym (c .before .description .ensures))
-    (accepted-bounded _ _ (sym (t .before .refusal-of .ensures .0) ∙ t .if1 .taken))
+    (accepted-bounded _ _ (sym (t .before .refusal-within .ensures .0) ∙ t .if1 .taken))
 
 returns : tie.Need-returns
 returns c =
     let b = c .before .before .before in
     let t = b .before in
-    let r = t .before .refusal-of .ensures in
+    let r = t .before .refusal-within .ensures in
     let n = c .before .process-count .ensures ∙ ap (λ (d : Description). length (processes (d .nest))) (b .description .ensures) in
     (refused-18 _ _ _ (sym (r .0) ∙ t .if1 .taken) (omega (arith, n, c .if2 .taken)), λ z. r .1 (t .if1 .taken))
 
@@ -34,18 +34,18 @@ returns-2 : tie.Need-returns-2
 returns-2 c =
     let b = c .before .before .before in
     let t = b .before in
-    let r = t .before .refusal-of .ensures in
+    let r = t .before .refusal-within .ensures in
     let n = c .before .process-count .ensures ∙ ap (λ (d : Description). length (processes (d .nest))) (b .description .ensures) in
     (refused-none _ _ _ (sym (r .0) ∙ t .if1 .taken) (omega (arith, n, c .if2 .left)), λ z. r .1 (t .if1 .taken))
 
 returns-3 : tie.Need-returns-3
-returns-3 c = let r = c .before .refusal-of .ensures in (refused-first _ _ _ (r .0) (c .if1 .left), r .1)
+returns-3 c = let r = c .before .refusal-within .ensures in (refused-first _ _ _ (r .0) (c .if1 .left), r .1)
 
 pub refusal-for-spec : {M : Type 1} → statement M
 refusal-for-spec =
     tie.close
     (tie.spec
-    refusal-of-requires
+    refusal-within-requires
     description-requires
     process-count-requires
     returns
