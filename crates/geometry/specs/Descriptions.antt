@@ -180,15 +180,20 @@ pub walk-passes : (l : Limits) (s : List ℕ) → refusalOf l s ≡ 0 → walkRe
 unfolding refusalOf walkRefusal descriptionOf tests-numbered
 walk-passes l s e = both-pass (walkTests l s) (testsFrom l (descriptionOf s) 0 (streamsOf (descriptionOf s))) tt e .0
 
--- what has one has all that the geometry asks of a nest
+-- to what has one, none of the tests before any stream applies
+pub walk-tests : (l : Limits) (s : List ℕ) → walkRefusal l s ≡ 0 → {t : Test} → In t (walkTests l s) → T (not (t .applies))
+unfolding walkRefusal every
+walk-tests l s e i = unrefused (walkTests l s) tt e i
+
+-- and it has all that the geometry asks of a nest
 pub walk-layout : (l : Limits) (s : List ℕ) → walkRefusal l s ≡ 0 → Layout (descriptionOf s .nest)
-unfolding walkRefusal descriptionOf every
+unfolding descriptionOf
 walk-layout l s e =
     layout-of (directed s (sizesOf s) (of (there (there (here refl)))) (of (there (there (there (there (here refl)))))))
     (of (there (there (there (there (there (there (there (here refl))))))))) (of (there (there (there (there (there (there (there (there (here refl))))))))))
   where
     of : {t : Test} → In t (walkTests l s) → T (not (t .applies))
-    of i = unrefused (walkTests l s) tt e i
+    of i = walk-tests l s e i
 
 -- ---- all of it
 
@@ -233,7 +238,7 @@ laid l s e =
         (every-append (nestTests l n) (testsFrom l d 0 (streamsOf d)) tt (streams-numbered l d 0 (streamsOf d)))
 
     of-nest : {t : Test} → In t (nestTests l n) → T (not (t .applies))
-    of-nest i = unrefused all all-numbered e (Memᴰ·append-right before (Memᴰ·append-left (testsFrom l d 0 (streamsOf d)) i))
+    of-nest i = walk-tests l s (walk-passes l s e) (Memᴰ·append-right before i)
 
     of-stream : (i : ℕ) → i < length (streamsOf d) → {t : Test}
         → In t (streamTests l n (written d i) (getD (streamsOf d) i noStream)) → T (not (t .applies))

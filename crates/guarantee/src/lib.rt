@@ -7,8 +7,8 @@
 //                      Demand2: `demand-two`: what Table leaves, that every pass of the loops is run by one processor, and what Plain run leaves, for every
 //                      description that Accept accepts; TableRows: `table-says`; its mathematics is in `geometry`
 //   demand 3           Guarantee: `guarantee`: for every start that is not declined and every list of calls after it, each told any limits
-//   two limits         Alike: `same-refusal`: every call answers and leaves the same where the refusals are the same; `declined`: every call declines what is
-//                      refused; `serves`: told other limits, a call is declined and changes nothing, or does the same
+//   two limits         Alike: `same-refusal`: every call answers and leaves the same where the refusals are the same; `serves`: told other limits, a call is
+//                      declined and changes nothing, or does the same
 //   the wiring         Wired: `wired`: the array of an accepted description is wired as the network asks; `wired-instances`, `wired-instance`,
 //                      `wired-touched`, `wired-number`: its instances and elements are those of the plain run
 //

@@ -1,5 +1,5 @@
 -- By which number a call is declined: that of its tests. A memory that passes the tests of a memory leaves a call's own. Assumes nothing.
-use mathlib.Core.Path.{_≡_, refl, sym, _∙_, subst}
+use mathlib.Core.Path.{_≡_, refl, sym, _∙_, ap, subst}
 use mathlib.Core.Bool.{Bool, true, false, not, cond, _||_}
 use mathlib.Core.List.{List, [], _∷_, _++_}
 use Prim.Native.Nat.{ℕ, suc, _≤_, _<_}
@@ -13,12 +13,13 @@ use Rattle.meaning.specs.declared.Description.{Description}
 use Rattle.meaning.specs.declared.Stream.{Stream}
 use Rattle.meaning.specs.Tests.{Test, _if_, refusal}
 use Rattle.meaning.specs.Description.{descriptionOf, streamsOf}
-use Rattle.meaning.specs.Accept.{testsFrom, refusalOf, accept}
+use Rattle.meaning.specs.Accept.{testsFrom, refusalOf, answerOf, accept}
 use Rattle.meaning.specs.Array.{arrayOf, pipeNumber}
 use Rattle.meaning.specs.Rules.{sound, Memory}
 use Rattle.meaning.specs.Answers.{acceptNumber, answerNumber, ranNumber, readyNumber}
 use Rattle.meaning.specs.Calls.{lengthOf, stateLength, orElse, memoryTests, refusedBy, tableTests, table, startTests, start, stepOf, isNothing, readyAt, stepTests, step, run, readyTests, readyCall, window, allOut, resultTests, result, plainTests, plainRun}
 use Rattle.meaning.specs.Demand1.{Numbers}
+use Rattle.meaning.specs.Alike.{DeclinedBy}
 use Rattle.meaning.specs.Demand3.{Call, CallStep, CallRun, CallReady, CallWindow, CallResult, declinedBy, NotByMemory}
 use Rattle.network.specs.Calls.{refusal-none, or-else}
 
@@ -46,6 +47,28 @@ numbers-are l s =
       result = λ output M. chosen answerNumber (refusedBy l s (resultTests l s output M)) refl refl;
       plain = λ values output. chosen answerNumber (refusedBy l s (plainTests l s values output)) refl refl;
     }
+
+-- what is refused is declined by every call
+pub declined : (l : Limits) (s : List ℕ) (k : ℕ) → (k ≡ 0 → ⊥) → refusalOf l s ≡ k → DeclinedBy l s k
+unfolding accept
+declined l s k n e =
+    record {
+      accept = ap (answerOf s) e ∙ rw (ne-eqb k 0 n);
+      table = λ rows. by _ (m .table rows);
+      start = λ values M. by _ (m .start values M);
+      step = λ kind number stream M. by _ (m .step kind number stream M);
+      run = λ n M. by _ (m .run n M);
+      ready = λ words M. by _ (m .ready words M);
+      window = λ pipe side waiting received. by _ (m .window pipe side waiting received);
+      result = λ output M. by _ (m .result output M);
+      plain = λ values output. by _ (m .plain values output);
+    }
+  where
+    m : Numbers l s
+    m = numbers-are l s
+
+    by : {a : ℕ} (r : ℕ) → a ≡ orElse (refusalOf l s) r → a ≡ k
+    by r h = h ∙ ap (λ (c : ℕ). orElse c r) e ∙ ap (λ (b : Bool). cond b r k) (ne-eqb k 0 n)
 
 -- ---- a memory that a call is not declined by
 
@@ -170,19 +193,19 @@ accept-fine l s =
 
 -- ---- so no call on such a memory is declined by it, whatever limits it is told
 
--- a description that is refused declines every call
+-- such a call of a list on a description that is refused
 declined-first : (l : Limits) (s : List ℕ) (M : Memory) → (refusalOf l s ≡ 0 → ⊥) → (c : Call) → declinedBy l s M c ≡ refusalOf l s
 declined-first l s M f c = go c
   where
-    first : (r : ℕ) → orElse (refusalOf l s) r ≡ refusalOf l s
-    first r = rw (ne-eqb (refusalOf l s) 0 f) refl
+    by : DeclinedBy l s (refusalOf l s)
+    by = declined l s (refusalOf l s) f refl
 
     go : (c : Call) → declinedBy l s M c ≡ refusalOf l s
-    go (CallStep kind number stream) = numbers-are l s .step kind number stream M ∙ first _
-    go (CallRun n) = numbers-are l s .run n M ∙ first _
-    go (CallReady words) = numbers-are l s .ready words M ∙ first _
-    go (CallWindow pipe side) = numbers-are l s .window pipe side (M .waiting) (M .received) ∙ first _
-    go (CallResult output) = numbers-are l s .result output M ∙ first _
+    go (CallStep kind number stream) = by .step kind number stream M
+    go (CallRun n) = by .run n M
+    go (CallReady words) = by .ready words M
+    go (CallWindow pipe side) = by .window pipe side (M .waiting) (M .received)
+    go (CallResult output) = by .result output M
 
 pub not-by-memory : (l : Limits) (s : List ℕ) {M : Memory} → Passes (descriptionOf s) M → (c : Call) → NotByMemory (declinedBy l s M c)
 not-by-memory l s {M} p c = go (ℕ-discrete (refusalOf l s) 0)

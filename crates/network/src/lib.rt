@@ -29,7 +29,8 @@
 //   Kept        `kept`: of lists of granted steps, and that they write to slots only; `written-beyond`: what stands past the words is kept
 //   Finish      `final-word`, `finish-words`: when all values are out, every count is its total and every other word 0, whatever the order
 //   Calls       `calls-granted`, `calls-leave`: calls do granted steps only, whatever limits each is told, and nothing else changes
-//   Declined    `numbers-are`: a call is declined by its tests; `usable`: what a call that is not declined was lent;
+//   Declined    `numbers-are`: a call is declined by its tests; `declined`: every call declines what is refused; `usable`: what a call that
+//               is not declined was lent;
 //               `not-by-memory`: no call is declined by 20, 26, 21 or 22 on a memory that passes the tests, whatever limits it is told
 //   Plain       `plain-is`: the plain run on the flat store is the abstract one; the record `Described` of what geometry has to show
 //   Figures     `words-are`, `steps-are`: the figures that Accept answers

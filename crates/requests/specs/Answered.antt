@@ -12,9 +12,10 @@ use Rattle.meaning.specs.Accept.{refusalOf, accept, figures, divisors}
 use Rattle.meaning.specs.Answers.{acceptNumber}
 use Rattle.meaning.specs.Conditions.{Meets, Condition, Asks, conditions, FirstFails}
 use Rattle.meaning.specs.Alike.{AnsweredAlike, DeclinedBy}
+use Rattle.network.specs.Declined.{declined}
 use Rattle.guarantee.specs.Acceptance.{meets-of, of-meets, accepted-exactly, refused-exactly}
 use Rattle.guarantee.specs.Demand1.{demand-one}
-use Rattle.guarantee.specs.Alike.{same-refusal, declined}
+use Rattle.guarantee.specs.Alike.{same-refusal}
 
 -- ---- Accept's answer, with the conditions that it stands for
 

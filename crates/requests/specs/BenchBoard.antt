@@ -1,30 +1,33 @@
 -- Request 2.9, "the bench board": another board word is 33, the gauge answers as before, the bench accepts what the gauge accepts and the bench can hold, and what is
 -- accepted under some limits every call answers alike under higher ones. Assumes nothing.
 use mathlib.Core.Path.{_≡_, refl, sym, _∙_, ap, subst}
-use mathlib.Core.List.{List, [], _∷_, _++_}
+use mathlib.Core.Bool.{not}
+use mathlib.Core.List.{List, [], _∷_, _++_, List·Memᴰ as In, List·Memᴰ·head as here, List·Memᴰ·tail as there, Memᴰ·append-right}
 use Prim.Native.Nat.{ℕ, suc, _≤_, _<_}
 use native.Mathlib.Omega.{arith}
+use lib.Dec.{T, T-not, ltb, lt→ltb}
 use lib.ListN.{length}
-use borrow.Author.Tests.{lt-ltb, le-ltb, ltb-false}
+use borrow.Author.Tests.{lt-ltb, le-ltb}
 use Rattle.meaning.specs.declared.Limits.{Limits}
 use Rattle.meaning.specs.declared.Stream.{Stream}
 use Rattle.meaning.specs.declared.Description.{Description}
 use Rattle.meaning.specs.declared.Nest.{Nest}
 use Rattle.meaning.specs.declared.Acceptance.the-variants.{Refused}
 use Rattle.meaning.specs.Limits.{limitsOf, gaugeLimits, benchLimits, UpTo}
-use Rattle.meaning.specs.Tests.{Test, refusal}
+use Rattle.meaning.specs.Tests.{Test, _if_, refusal}
 use Rattle.meaning.specs.Loops.{instances}
 use Rattle.meaning.specs.Space.{processes}
 use Rattle.meaning.specs.Description.{descriptionOf, streamsOf, written}
-use Rattle.meaning.specs.Accept.{streamTests, testsFrom, refusalOf, accept, Accepts}
+use Rattle.meaning.specs.Accept.{refused33, byteTests, nestTests, streamTests, testsFrom, refusalOf, accept, Accepts}
 use Rattle.meaning.specs.Conditions.{Known, Condition, Condition.Board, Condition.Begins, Condition.Sizes-fit, Condition.Long, Condition.Words-fit, Condition.Bounds-fit, Condition.Instances, Condition.Place-rank, Condition.Increment, Condition.Processes, Condition.Rank, Condition.Line, Condition.Move, Condition.Hop, Condition.Order, Condition.Loading, Condition.Touched, Asks, numberOf}
 use Rattle.meaning.specs.Alike.{DeclinedBy}
 use Rattle.meaning.specs.BenchBoard.{formerAccept, OnBench, TheBenchBoard}
+use Rattle.geometry.specs.Descriptions.{walk-passes, walk-tests}
 use Rattle.geometry.specs.UpTo.{up-to}
-use Rattle.network.specs.Calls.{refusal-none}
+use Rattle.network.specs.Declined.{declined}
 use Rattle.guarantee.specs.Demand1.{demand-one}
 use Rattle.guarantee.specs.Acceptance.{accepted-not-refused, refused-exactly}
-use Rattle.guarantee.specs.Alike.{same-refusal, declined}
+use Rattle.guarantee.specs.Alike.{same-refusal}
 
 -- ---- 33
 
@@ -69,19 +72,13 @@ module _ (s : List ℕ) where
   -- ---- what the bench can hold
 
   held : (l : Limits) → refusalOf l s ≡ 0 → (length (instances n) ≤ l .instances) × (length (processes n) ≤ l .processes)
-  unfolding refusalOf
-  held l e =
-      let a = refusal-none _ _ (omega arith) e in
-      let b = refusal-none _ _ (omega arith) (a .1) in
-      let c = refusal-none _ _ (omega arith) (b .1) in
-      let d = refusal-none _ _ (omega arith) (c .1) in
-      let f = refusal-none _ _ (omega arith) (d .1) in
-      let g = refusal-none _ _ (omega arith) (f .1) in
-      let h = refusal-none _ _ (omega arith) (g .1) in
-      let i = refusal-none _ _ (omega arith) (h .1) in
-      let j = refusal-none _ _ (omega arith) (i .1) in
-      let k = refusal-none _ _ (omega arith) (j .1) in
-      (ltb-false (l .instances) (length (instances n)) (h .0), ltb-false (l .processes) (length (processes n)) (k .0))
+  held l e = (at-most _ _ (of (there (here refl))), at-most _ _ (of (there (there (there (there (here refl)))))))
+    where
+      of : {t : Test} → In t (nestTests l n) → T (not (t .applies))
+      of i = walk-tests l s (walk-passes l s e) (Memᴰ·append-right ((33 if refused33 l) ∷ byteTests s) i)
+
+      at-most : (a b : ℕ) → T (not (ltb a b)) → b ≤ a
+      at-most a b t = let more : a < b → ⊥ = λ h. T-not (ltb a b) t (lt→ltb a b h) in omega (arith, more)
 
   -- 11 to 17 are the same on both boards
   streams-same : (d : Description) (i : ℕ) (ss : List Stream) → testsFrom benchLimits d i ss ≡ testsFrom gaugeLimits d i ss
