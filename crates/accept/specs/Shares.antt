@@ -25,15 +25,15 @@ use Rattle.meaning.specs.Calls.{lengthOf}
 use Rattle.meaning.specs.Accept.{refusalOf, figures, divisors, accept}
 use Rattle.numbering.specs.Ranges.{Bounded}
 use Rattle.geometry.specs.Members.{total-next}
-use Rattle.refusals.specs.Accepted.{accepted-within}
-use Rattle.refusals.specs.InRange.{nest-bounded}
-use Rattle.refusals.specs.StateWords.{end-words}
+use Rattle.stream_lines.specs.Accepted.{accepted-within}
+use Rattle.stream_lines.specs.InRange.{nest-bounded}
+use Rattle.stream_lines.specs.StateWords.{end-words}
 use Rattle.elements.specs.Counts.{Few, total-most}
 use Rattle.elements.specs.Few.{accepted-few}
 use Rattle.pipes.specs.declared.Flow.{Flow}
 use Rattle.pipes.specs.Flow.{Laid, Seen}
 use Rattle.pipes.specs.Accepted.{streams-used, laid-stream}
-use Rattle.parts.specs.Starts.{entering, filter-fewer}
+use Rattle.pipe_parts.specs.Starts.{entering, filter-fewer}
 use Rattle.accept.specs.declared.Share.{Share}
 use Rattle.accept.specs.declared.Sums.{Sums}
 use Rattle.accept.specs.declared.Totals.{Totals}
@@ -42,8 +42,8 @@ use Rattle.accept.specs.Sums.{stepsOn, sumsOver, Under, under}
 -- ---- one stream
 
 -- what the sums are lent
-pub record Summing (f : Flow) (count : ℕ) (ends lanes : List ℕ) : Type 0 where
-  pub seen : Seen f ends lanes
+pub record Summing (f : Flow) (count : ℕ) (spans lanes : List ℕ) : Type 0 where
+  pub seen : Seen f spans lanes
   pub counted : count ≡ length (processes (f .nest))
   pub small : Under (f .nest) (f .stream)
 

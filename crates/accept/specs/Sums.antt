@@ -23,8 +23,8 @@ use Rattle.geometry.specs.Boxes.{inside-points}
 use Rattle.geometry.specs.Pipes.{Accepted, in-pipe}
 use Rattle.geometry.specs.Positions.{pipe-distinct}
 use Rattle.geometry.specs.Elements.{entries-entry, pipes-total}
-use Rattle.layout.specs.Ends.{processOf}
-use Rattle.parts.specs.Starts.{entering, total-next, total-part, filter-fewer}
+use Rattle.layout.specs.Spans.{processOf}
+use Rattle.pipe_parts.specs.Starts.{entering, total-next, total-part, filter-fewer}
 use Rattle.accept.specs.declared.Sums.{Sums}
 
 -- ---- lists

@@ -11,7 +11,7 @@ ghost use lib.ListN.{length};
 ghost use Rattle.meaning.specs.Limits.{limitsOf};
 ghost use Rattle.meaning.specs.Pipes.{isEntry, entries};
 ghost use Rattle.meaning.specs.Accept.{figures, accept};
-ghost use Rattle.layout.specs.Ends.{processOf, Ends};
+ghost use Rattle.layout.specs.Spans.{processOf, Spans};
 ghost use Rattle.pipes.specs.Elements.{Near};
 ghost use Rattle.accept.specs.Sums.{stepsOn, Under, sumsOver, sumsAt};
 ghost use Rattle.accept.specs.Shares.{Summing, Sharing, Small, shareOf, join, Room, totalsOf, Described};
@@ -46,26 +46,26 @@ struct Totals {
 // ---- one stream
 
 // The steps of the pipe that enters at process p: twice its elements times one more than its processes.
-fn pipe_steps(f: Flow, ends: &[u32], lanes: &[u32], p: usize) -> u32
-    requires { ⌜ (Near f (now ends) (now lanes) p) × (isEntry (f .nest) (f .stream) (processOf (f .nest) p) ≡ true) ⌝ }
+fn pipe_steps(f: Flow, spans: &[u32], lanes: &[u32], p: usize) -> u32
+    requires { ⌜ (Near f (now spans) (now lanes) p) × (isEntry (f .nest) (f .stream) (processOf (f .nest) p) ≡ true) ⌝ }
     ensures { λ r. ⌜ r ≡ stepsOn (f .nest) (f .stream) (processOf (f .nest) p) ⌝ }
 {
     let space = f.space;
     let way = f.way;
     let y = layout::point_at(space, p as u32);
-    let elements = pipes::total_at(f, ends, lanes, p);
+    let elements = pipes::total_at(f, spans, lanes, p);
     2 * (elements * (layout::reach_of(space, way, y) + 2))
 }
 
 // With the pipe of process p, if it is an entry.
-fn added(f: Flow, ends: &[u32], lanes: &[u32], p: usize, sums: Sums) -> Sums
-    requires { ⌜ (Near f (now ends) (now lanes) p) × (sums ≡ sumsAt (f .nest) (f .stream) p) × (Under (f .nest) (f .stream)) ⌝ }
+fn added(f: Flow, spans: &[u32], lanes: &[u32], p: usize, sums: Sums) -> Sums
+    requires { ⌜ (Near f (now spans) (now lanes) p) × (sums ≡ sumsAt (f .nest) (f .stream) p) × (Under (f .nest) (f .stream)) ⌝ }
     ensures { λ r. ⌜ r ≡ sumsAt (f .nest) (f .stream) (suc p) ⌝ }
 {
-    if parts::is_entry(f, ends, lanes, p) {
+    if pipe_parts::is_entry(f, spans, lanes, p) {
         Sums {
             pipes: sums.pipes + 1,
-            steps: sums.steps + pipe_steps(f, ends, lanes, p),
+            steps: sums.steps + pipe_steps(f, spans, lanes, p),
         }
     } else {
         sums
@@ -73,32 +73,32 @@ fn added(f: Flow, ends: &[u32], lanes: &[u32], p: usize, sums: Sums) -> Sums
 }
 
 // Over all processes.
-fn sums_of(f: Flow, processes: u32, ends: &[u32], lanes: &[u32]) -> Sums
-    requires { ⌜ Summing f processes (now ends) (now lanes) ⌝ }
+fn sums_of(f: Flow, processes: u32, spans: &[u32], lanes: &[u32]) -> Sums
+    requires { ⌜ Summing f processes (now spans) (now lanes) ⌝ }
     ensures { λ r. ⌜ r ≡ sumsOver (f .nest) (f .stream) (entries (f .nest) (f .stream)) ⌝ }
 {
     let mut sums = Sums { pipes: 0, steps: 0 };
     let mut p: u32 = 0;
     while p < processes {
-        sums = added(f, ends, lanes, p as usize, sums);
+        sums = added(f, spans, lanes, p as usize, sums);
         p += 1;
     }
     sums
 }
 
 // A stream's part of the figures.
-fn share_of(n: Nest, s: Stream, ends: &[u32]) -> Share
-    requires { ⌜ (Sharing n s) × (Ends n (now ends)) × (3072 ≤ length (now ends)) ⌝ }
+fn share_of(n: Nest, s: Stream, spans: &[u32]) -> Share
+    requires { ⌜ (Sharing n s) × (Spans n (now spans)) × (3072 ≤ length (now spans)) ⌝ }
     ensures { λ r. ⌜ (r ≡ shareOf n s) × (Small r) ⌝ }
 {
     let f = pipes::flow_of(n, s);
     let space = f.space;
     let processes = numbering::size_of(space);
     let mut lanes = [0u32; 4096];
-    pipes::fill_lanes(f, processes, ends, &mut lanes);
-    let sums = sums_of(f, processes, ends, &lanes);
+    pipes::fill_lanes(f, processes, spans, &mut lanes);
+    let sums = sums_of(f, processes, spans, &lanes);
     Share {
-        hop: refusals::hop_of(n, s),
+        hop: stream_lines::hop_of(n, s),
         pipes: sums.pipes,
         steps: sums.steps,
     }
@@ -119,8 +119,8 @@ fn joined(t: Totals, s: Share) -> Totals
     }
 }
 
-fn totals_of(d: Description, ends: &[u32]) -> Totals
-    requires { ⌜ (Described d) × (Ends (d .nest) (now ends)) × (3072 ≤ length (now ends)) ⌝ }
+fn totals_of(d: Description, spans: &[u32]) -> Totals
+    requires { ⌜ (Described d) × (Spans (d .nest) (now spans)) × (3072 ≤ length (now spans)) ⌝ }
     ensures { λ r. ⌜ (r ≡ totalsOf d (d .sizes .streams)) × (Room r) ⌝ }
 {
     let n = d.nest;
@@ -133,22 +133,22 @@ fn totals_of(d: Description, ends: &[u32]) -> Totals
     };
     let mut i: u32 = 0;
     while i < m {
-        totals = joined(totals, share_of(n, decode::stream(d, i as usize), ends));
+        totals = joined(totals, share_of(n, decode::stream(d, i as usize), spans));
         i += 1;
     }
     totals
 }
 
 // The six figures.
-pub fn figures_of(d: Description, ends: &[u32]) -> Figures
-    requires { ⌜ (Described d) × (Ends (d .nest) (now ends)) × (3072 ≤ length (now ends)) ⌝ }
+pub fn figures_of(d: Description, spans: &[u32]) -> Figures
+    requires { ⌜ (Described d) × (Spans (d .nest) (now spans)) × (3072 ≤ length (now spans)) ⌝ }
     ensures { λ r. ⌜ r ≡ figures d ⌝ }
 {
     let n = d.nest;
     let place = n.place;
     let processes = numbering::size_of(numbering::extent_of(n, place));
     let instances = numbering::instance_count(n);
-    let t = totals_of(d, ends);
+    let t = totals_of(d, spans);
     Figures {
         processes: processes,
         instances: instances,
@@ -163,12 +163,12 @@ pub fn figures_of(d: Description, ends: &[u32]) -> Figures
 pub fn accept(board: u32, s: &[u8]) -> Acceptance
     ensures { λ r. ⌜ r ≡ accept (limitsOf board) (now (s .entry)) ⌝ }
 {
-    let mut ends = [0u32; 3072];
-    let refusal = verdict::refusal_of(board, s, &mut ends);
+    let mut spans = [0u32; 3072];
+    let refusal = refuse::refusal_of(board, s, &mut spans);
     if refusal == 0 {
         let d = decode::description(s);
-        let ends = &ends;
-        Acceptance::Accepted(figures_of(d, ends), divisors::divisors_of(d))
+        let spans = &spans;
+        Acceptance::Accepted(figures_of(d, spans), divisors::divisors_of(d))
     } else {
         Acceptance::Refused(refusal)
     }

@@ -13,8 +13,8 @@ ghost use Rattle.meaning.specs.Accept.{accept};
 ghost use Rattle.meaning.specs.Rules.{memoryOf};
 ghost use Rattle.meaning.specs.Answers.{acceptNumber, acceptValues, answerNumber, ranNumber, ranValues, readyNumber, readyValues};
 ghost use Rattle.meaning.specs.Calls.{start, step, run, readyCall, window, result, plainRun};
-ghost use Rattle.listing.specs.Words.{laid};
-ghost use Rattle.listing.specs.Lent.{tableNumber, tableWords};
+ghost use Rattle.table_words.specs.Words.{laid};
+ghost use Rattle.table_words.specs.Lent.{tableNumber, tableWords};
 ghost use Rattle.beqlanosh.specs.Kept.{orKept, windowValues};
 use meaning::Acceptance;
 use meaning::Divisors;
@@ -69,7 +69,7 @@ pub extern "C" fn beqlanosh_table(board: u32, bytes: &[u8], words: &mut [u32]) -
     ensures { λ r. ⌜ (r ≡ tableNumber (limitsOf board) (now (bytes .entry)) (length (now (words .entry))))
         × (now (words .exit) ≡ laid (tableWords (limitsOf board) (now (bytes .entry)) (length (now (words .entry)))) (now (words .entry))) ⌝ }
 {
-    listing::table_words(board, bytes, words)
+    table_words::table_words(board, bytes, words)
 }
 
 // ---- plain run

@@ -18,8 +18,8 @@ passes b = b
 abbrev pub howMany : List Bool → ℕ
 howMany l = length (filter passes l)
 
-abbrev pub firstOf : List Bool → ℕ
-firstOf l = position passes l
+abbrev pub firstTrue : List Bool → ℕ
+firstTrue l = position passes l
 
 -- members that pass a test are counted and found by the outcomes
 module _ {A : Type 0} (f : A → Bool) where
@@ -33,7 +33,7 @@ module _ {A : Type 0} (f : A → Bool) where
       go true e = ap suc e
       go false e = e
 
-  pub position-map : (l : List A) → position f l ≡ firstOf (map f l)
+  pub position-map : (l : List A) → position f l ≡ firstTrue (map f l)
   unfolding position
   position-map [] = refl
   position-map (x ∷ l) = ap (λ (n : ℕ). cond (f x) 0 (suc n)) (position-map l)
@@ -117,25 +117,25 @@ unfolding filter
 many-false zero = refl
 many-false (suc n) = many-false n
 
-pub first-le : (l : List Bool) → firstOf l ≤ length l
+pub first-le : (l : List Bool) → firstTrue l ≤ length l
 unfolding position
 first-le [] = omega arith
 first-le (true ∷ l) = omega arith
 first-le (false ∷ l) = omega (arith, first-le l)
 
-pub first-in : (l r : List Bool) → firstOf l < length l → firstOf (l ++ r) ≡ firstOf l
+pub first-in : (l r : List Bool) → firstTrue l < length l → firstTrue (l ++ r) ≡ firstTrue l
 unfolding position
 first-in [] r h = absurd (omega arith)
 first-in (true ∷ l) r h = refl
 first-in (false ∷ l) r h = ap suc (first-in l r (omega arith))
 
-pub first-past : (l r : List Bool) → firstOf l ≡ length l → firstOf (l ++ r) ≡ length l + firstOf r
+pub first-past : (l r : List Bool) → firstTrue l ≡ length l → firstTrue (l ++ r) ≡ length l + firstTrue r
 unfolding position
-first-past [] r h = sym (zero-add (firstOf r))
+first-past [] r h = sym (zero-add (firstTrue r))
 first-past (true ∷ l) r h = absurd (omega arith)
-first-past (false ∷ l) r h = ap suc (first-past l r (omega arith)) ∙ sym (suc-add (length l) (firstOf r))
+first-past (false ∷ l) r h = ap suc (first-past l r (omega arith)) ∙ sym (suc-add (length l) (firstTrue r))
 
-pub first-false : (n : ℕ) → firstOf (replicate n false) ≡ n
+pub first-false : (n : ℕ) → firstTrue (replicate n false) ≡ n
 unfolding position
 first-false zero = refl
 first-false (suc n) = ap suc (first-false n)

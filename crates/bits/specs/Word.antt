@@ -13,7 +13,7 @@ use lib.Dec.{lit<}
 use lib.ListN.{length, set}
 use lib.Pow.{shl-exact}
 use Rattle.meaning.specs.Lists.{filter, position, total, numbersFrom}
-use Rattle.bits.specs.Numbers.{howMany, firstOf}
+use Rattle.bits.specs.Numbers.{howMany, firstTrue}
 
 -- what a bit counts at the lowest place
 abbrev digit : Bool → ℕ
@@ -71,24 +71,24 @@ value-ones (false ∷ l) = ones-cat 1 (value l) 0 (lit< tt) ∙ add-zero (ones (
 
 -- ---- the lowest
 
-pub value-trailing : (l : List Bool) → trailingZeros (length l) (value l) ≡ firstOf l
+pub value-trailing : (l : List Bool) → trailingZeros (length l) (value l) ≡ firstTrue l
 unfolding value trailingZeros position
 value-trailing [] = refl
 value-trailing (b ∷ l) =
     ap₂ (λ (r v : ℕ). under r (trailingZeros (length l) v)) (digits-mod (value l) (digit-lt b)) (digits-div (value l) (digit-lt b)) ∙ go b (value-trailing l)
   where
-    go : (b : Bool) → trailingZeros (length l) (value l) ≡ firstOf l → under (digit b) (trailingZeros (length l) (value l)) ≡ cond b 0 (suc (firstOf l))
+    go : (b : Bool) → trailingZeros (length l) (value l) ≡ firstTrue l → under (digit b) (trailingZeros (length l) (value l)) ≡ cond b 0 (suc (firstTrue l))
     go true e = refl
     go false e = ap suc e
 
 -- no bit is set in 0, and one is in any other
-pub value-zero : (l : List Bool) → value l ≡ 0 → firstOf l ≡ length l
+pub value-zero : (l : List Bool) → value l ≡ 0 → firstTrue l ≡ length l
 unfolding value position
 value-zero [] h = refl
 value-zero (true ∷ l) h = absurd (omega arith)
 value-zero (false ∷ l) h = ap suc (value-zero l (omega arith))
 
-pub value-some : (l : List Bool) → (value l ≡ 0 → ⊥) → firstOf l < length l
+pub value-some : (l : List Bool) → (value l ≡ 0 → ⊥) → firstTrue l < length l
 unfolding value position
 value-some [] h = absurd (h refl)
 value-some (true ∷ l) h = omega arith

@@ -13,7 +13,7 @@ use lib.ListN.{length, getD, drop, set, replicate, List·getD-append}
 use lib.Seq.{set-append-left}
 use borrow.Author.Tests.{eq-eqb, ne-eqb}
 use Rattle.meaning.specs.Lists.{filter, position, total, numbersFrom, numbers}
-use Rattle.bits.specs.Numbers.{howMany, firstOf, below, count-map, position-map, length-numbers, getD-numbers, numbers-add, numbers-agree, numbers-set, below-outcomes, many-append, many-false, first-le, first-in, first-past, first-false}
+use Rattle.bits.specs.Numbers.{howMany, firstTrue, below, count-map, position-map, length-numbers, getD-numbers, numbers-add, numbers-agree, numbers-set, below-outcomes, many-append, many-false, first-le, first-in, first-past, first-false}
 use Rattle.bits.specs.Word.{value, value-sum, value-set, value-ones, value-trailing, value-zero, value-some}
 
 -- process 64 k + b is bit b of word k
@@ -159,15 +159,15 @@ module _ (f : ℕ → Bool) (k : ℕ) where
   length-bits : length (bitsOf f k) ≡ 64
   length-bits = length-numbers f (64 * k) 64
 
-  word-first : trailingZeros 64 (wordOf f k) ≡ firstOf (bitsOf f k)
+  word-first : trailingZeros 64 (wordOf f k) ≡ firstTrue (bitsOf f k)
   word-first = ap (trailingZeros 64) (word-is f k) ∙ ap (λ (n : ℕ). trailingZeros n (value (bitsOf f k))) (sym length-bits) ∙ value-trailing (bitsOf f k)
 
-  first-further : (m : ℕ) → wordOf f k ≡ 0 → firstOf (bitsFrom f k (suc m)) ≡ 64 + firstOf (bitsFrom f (suc k) m)
+  first-further : (m : ℕ) → wordOf f k ≡ 0 → firstTrue (bitsFrom f k (suc m)) ≡ 64 + firstTrue (bitsFrom f (suc k) m)
   first-further m e =
-      ap firstOf (bits-step f k m) ∙ first-past (bitsOf f k) (bitsFrom f (suc k) m) (value-zero (bitsOf f k) (sym (word-is f k) ∙ e))
-      ∙ ap (λ (n : ℕ). n + firstOf (bitsFrom f (suc k) m)) length-bits
+      ap firstTrue (bits-step f k m) ∙ first-past (bitsOf f k) (bitsFrom f (suc k) m) (value-zero (bitsOf f k) (sym (word-is f k) ∙ e))
+      ∙ ap (λ (n : ℕ). n + firstTrue (bitsFrom f (suc k) m)) length-bits
 
-  first-there : (wordOf f k ≡ 0 → ⊥) → firstOf (bitsOf f k) < length (bitsOf f k)
+  first-there : (wordOf f k ≡ 0 → ⊥) → firstTrue (bitsOf f k) < length (bitsOf f k)
   first-there n = value-some (bitsOf f k) (λ e. n (word-is f k ∙ e))
 
 -- r is `first` places past `at` if those are fewer than n, and none if they are n
@@ -175,13 +175,13 @@ record Lowest (first n at none r : ℕ) : Type 0 where
   some : first < n → r ≡ at + first
   nowhere : first ≡ n → r ≡ none
 
-lowest-from : (none : ℕ) (f : ℕ → Bool) (k m : ℕ) → Lowest (firstOf (bitsFrom f k m)) (64 * m) (64 * k) none (lowestFrom none k (wordsFrom f k m))
+lowest-from : (none : ℕ) (f : ℕ → Bool) (k m : ℕ) → Lowest (firstTrue (bitsFrom f k m)) (64 * m) (64 * k) none (lowestFrom none k (wordsFrom f k m))
 unfolding lowestFrom numbersFrom position
 lowest-from none f k zero = record { some = λ h. absurd (omega arith); nowhere = λ h. refl }
 lowest-from none f k (suc m) = go (eq-zero-or-pos (wordOf f k)) (lowest-from none f (suc k) m)
   where
-    go : (wordOf f k ≡ 0) ⊎ (0 < wordOf f k) → Lowest (firstOf (bitsFrom f (suc k) m)) (64 * m) (64 * suc k) none (lowestFrom none (suc k) (wordsFrom f (suc k) m))
-        → Lowest (firstOf (bitsFrom f k (suc m))) (64 * suc m) (64 * k) none (lowestFrom none k (wordOf f k ∷ wordsFrom f (suc k) m))
+    go : (wordOf f k ≡ 0) ⊎ (0 < wordOf f k) → Lowest (firstTrue (bitsFrom f (suc k) m)) (64 * m) (64 * suc k) none (lowestFrom none (suc k) (wordsFrom f (suc k) m))
+        → Lowest (firstTrue (bitsFrom f k (suc m))) (64 * suc m) (64 * k) none (lowestFrom none k (wordOf f k ∷ wordsFrom f (suc k) m))
     go (inl e) rest =
         let p = first-further f k m e in
         let q = lowest-past none k (wordOf f k) (wordsFrom f (suc k) m) e in
@@ -189,7 +189,7 @@ lowest-from none f k (suc m) = go (eq-zero-or-pos (wordOf f k)) (lowest-from non
     go (inr l) rest =
         let n : wordOf f k ≡ 0 → ⊥ = λ e. omega arith in
         let b = first-there f k n in
-        let p = ap firstOf (bits-step f k m) ∙ first-in (bitsOf f k) (bitsFrom f (suc k) m) b in
+        let p = ap firstTrue (bits-step f k m) ∙ first-in (bitsOf f k) (bitsFrom f (suc k) m) b in
         record {
           some = λ h. lowest-here none k (wordOf f k) (wordsFrom f (suc k) m) n ∙ ap (λ (t : ℕ). 64 * k + t) (word-first f k ∙ sym p);
           nowhere = λ h. absurd (omega (arith, p, b, length-bits f k));
@@ -209,14 +209,14 @@ module _ (f : ℕ → Bool) (n : ℕ) (h : n ≤ 1024) where
   pub words-lowest : lowestFrom n 0 (wordsOf (below n f)) ≡ position f (numbers n)
   words-lowest = go (eq-or-lt-of-le (first-le (map f (numbers n)))) ∙ sym (position-map f (numbers n))
     where
-      found : Lowest (firstOf (map (below n f) (numbers 1024))) 1024 0 n (lowestFrom n 0 (wordsOf (below n f)))
+      found : Lowest (firstTrue (map (below n f) (numbers 1024))) 1024 0 n (lowestFrom n 0 (wordsOf (below n f)))
       found = lowest-from n (below n f) 0 16
 
-      go : (firstOf (map f (numbers n)) ≡ length (map f (numbers n))) ⊎ (firstOf (map f (numbers n)) < length (map f (numbers n)))
-          → lowestFrom n 0 (wordsOf (below n f)) ≡ firstOf (map f (numbers n))
+      go : (firstTrue (map f (numbers n)) ≡ length (map f (numbers n))) ⊎ (firstTrue (map f (numbers n)) < length (map f (numbers n)))
+          → lowestFrom n 0 (wordsOf (below n f)) ≡ firstTrue (map f (numbers n))
       go (inl e) =
-          let p = ap firstOf outcomes ∙ first-past (map f (numbers n)) (replicate (1024 - n) false) e in
+          let p = ap firstTrue outcomes ∙ first-past (map f (numbers n)) (replicate (1024 - n) false) e in
           found .nowhere (omega (arith, p, first-false (1024 - n), length-numbers f 0 n)) ∙ omega (arith, e, length-numbers f 0 n)
       go (inr l) =
-          let p = ap firstOf outcomes ∙ first-in (map f (numbers n)) (replicate (1024 - n) false) l in
+          let p = ap firstTrue outcomes ∙ first-in (map f (numbers n)) (replicate (1024 - n) false) l in
           found .some (omega (arith, p, length-numbers f 0 n)) ∙ omega (arith, p)

@@ -299,9 +299,9 @@ fn print_visits(walk: &[i32], coordinates: usize, small: bool)
 }
 
 fn walk_lines(board: u32, s: &[u8], small: bool) {
-    let mut ends = [0u32; 3072];
+    let mut spans = [0u32; 3072];
     let mut walk = [0i32; 12288];
-    let refusal = verdict::walk_of(board, s, &mut ends, &mut walk);
+    let refusal = refuse::walk_of(board, s, &mut spans, &mut walk);
     print(b"walk");
     print_number(refusal);
     if refusal == 0 {
@@ -313,7 +313,7 @@ fn walk_lines(board: u32, s: &[u8], small: bool) {
 }
 
 fn table_call(board: u32, s: &[u8], lent: usize, seen: usize) {
-    let listed = rows::table(s, lent, board);
+    let listed = table_rows::table(s, lent, board);
     let answer = listed.answer;
     let rows = listed.rows;
     print_call(answer, sum_of_rows(rows, seen));
@@ -329,7 +329,7 @@ fn table_lines(board: u32, s: &[u8], e: Extents)
     table_call(board, s, 1024, processes + 1);
     print(b"\n");
     if e.small {
-        let listed = rows::table(s, processes, board);
+        let listed = table_rows::table(s, processes, board);
         let rows = listed.rows;
         print_rows(rows, processes);
     }

@@ -11,34 +11,34 @@ use Rattle.meaning.specs.Loops.{instances, increment}
 use Rattle.meaning.specs.Space.{processes, count, first}
 use Rattle.numbering.specs.Ranges.{Bounded}
 use Rattle.vectors.specs.Within.{Within}
-use Rattle.layout.specs.Ends.{processOf, numbered, Ends}
+use Rattle.layout.specs.Spans.{processOf, numbered, Spans}
 
 -- process p has an instance; the words of the processes hold the number of its first one
-pub record Computes (n : Nest) (ends : List ℕ) (p : ℕ) : Type 0 where
+pub record Computes (n : Nest) (spans : List ℕ) (p : ℕ) : Type 0 where
   pub nest : Bounded n
-  pub held : Ends n ends
-  pub words : length ends ≡ 3072
+  pub held : Spans n spans
+  pub words : length spans ≡ 3072
   pub few : length (processes n) ≤ 1024
   pub process : p < length (processes n)
   pub some : 0 < count n (processOf n p)
 
 -- and it has one of number f
-pub record Runs (n : Nest) (i : V3) (ends : List ℕ) (p f : ℕ) : Type 0 where
-  pub computes : Computes n ends p
+pub record Runs (n : Nest) (i : V3) (spans : List ℕ) (p f : ℕ) : Type 0 where
+  pub computes : Computes n spans p
   pub increment : i ≡ increment n
   pub within : Within 200 i
   pub firing : f ≤ 4096
 
 -- the number of its first instance, less one
-module _ {n : Nest} {ends : List ℕ} {p : ℕ} (c : Computes n ends p) where
-  pub first-some : 0 < getD ends (1024 + p) 0
+module _ {n : Nest} {spans : List ℕ} {p : ℕ} (c : Computes n spans p) where
+  pub first-some : 0 < getD spans (1024 + p) 0
   first-some = c .held .first-some p (c .process) (c .some)
 
-  pub first-lt : getD ends (1024 + p) 0 - 1 < length (instances n)
+  pub first-lt : getD spans (1024 + p) 0 - 1 < length (instances n)
   first-lt = omega (arith, first-some, c .held .first-le p (c .process))
 
-  pub first-is : getD (instances n) (getD ends (1024 + p) 0 - 1) zero3 ≡ first n (processOf n p)
-  first-is = go (getD ends (1024 + p) 0) first-some (c .held .firsts p (c .process))
+  pub first-is : getD (instances n) (getD spans (1024 + p) 0 - 1) zero3 ≡ first n (processOf n p)
+  first-is = go (getD spans (1024 + p) 0) first-some (c .held .firsts p (c .process))
     where
       go : (k : ℕ) → 0 < k → numbered n k ≡ first n (processOf n p) → getD (instances n) (k - 1) zero3 ≡ first n (processOf n p)
       go zero h e = absurd (omega arith)

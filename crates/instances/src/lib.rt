@@ -6,7 +6,7 @@ ghost use Rattle.integers.specs.Vectors.{shift3};
 ghost use Rattle.meaning.specs.Space.{first};
 ghost use Rattle.geometry.specs.Processes.{runAt};
 ghost use Rattle.vectors.specs.Within.{Within};
-ghost use Rattle.layout.specs.Ends.{processOf};
+ghost use Rattle.layout.specs.Spans.{processOf};
 ghost use Rattle.instances.specs.Runs.{Computes, Runs};
 use integers::V3;
 use meaning::Nest;
@@ -24,17 +24,17 @@ pub fn later(x: V3, d: V3, k: u32) -> V3
 }
 
 // The first instance of process p.
-pub fn first_of(n: Nest, ends: &[u32], p: usize) -> V3
-    requires { ⌜ Computes n (now ends) p ⌝ }
+pub fn first_of(n: Nest, spans: &[u32], p: usize) -> V3
+    requires { ⌜ Computes n (now spans) p ⌝ }
     ensures { λ r. ⌜ (r ≡ first n (processOf n p)) × (Within 64 r) ⌝ }
 {
-    numbering::instance(n, ends[1024 + p] - 1)
+    numbering::instance(n, spans[1024 + p] - 1)
 }
 
 // Its instance f, counted from 0.
-pub fn instance_of(n: Nest, increment: V3, ends: &[u32], p: usize, f: usize) -> V3
-    requires { ⌜ Runs n increment (now ends) p f ⌝ }
+pub fn instance_of(n: Nest, increment: V3, spans: &[u32], p: usize, f: usize) -> V3
+    requires { ⌜ Runs n increment (now spans) p f ⌝ }
     ensures { λ r. ⌜ r ≡ runAt n (processOf n p) f ⌝ }
 {
-    later(first_of(n, ends, p), increment, f as u32)
+    later(first_of(n, spans, p), increment, f as u32)
 }

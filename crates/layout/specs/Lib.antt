@@ -2,4 +2,4 @@
 pub mod Rays
 pub mod Points
 pub mod Parts
-pub mod Ends
+pub mod Spans

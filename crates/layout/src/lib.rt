@@ -6,7 +6,7 @@
 //   Rays      how often one can go on is the least that either coordinate allows
 //   Points    the point of a row number; points moved on
 //   Parts     what stands where a part of a list was replaced
-//   Ends      what the words say of the processes: `Ends`
+//   Ends      what the words say of the processes: `Spans`
 ghost use mathlib.Core.Path.{_≡_};
 ghost use Prim.Native.Nat.{_≤_, _<_};
 ghost use lib.IntN.{pos};
@@ -19,7 +19,7 @@ ghost use Rattle.vectors.specs.Within.{Within2};
 ghost use Rattle.numbering.specs.Ranges.{Bounded};
 ghost use Rattle.numbering.specs.Extents.{Spanning, boxed};
 ghost use Rattle.layout.specs.Rays.{roomOf, Along, firstRay, secondRay, Going};
-ghost use Rattle.layout.specs.Ends.{Sweepable, Swept, Ends};
+ghost use Rattle.layout.specs.Spans.{Sweepable, Swept, Spans};
 use integers::V2;
 use meaning::Nest;
 use numbering::Extent;
@@ -112,19 +112,19 @@ pub fn point_at(e: Extent, p: u32) -> V2
 }
 
 // The counts, the first and the last instances, from the numbers of the instances' processes and their steps.
-fn fill_ends(numbers: &[u32], count: u32, steps: &[i32], processes: u32, ends: &mut [u32])
-    requires { ⌜ Sweepable (now numbers) count (now steps) processes (now ends) ⌝ }
-    ensures { λ r. ⌜ Swept (now (numbers .entry)) count (now (steps .entry)) processes (now (ends .exit)) ⌝ }
+fn fill_spans(numbers: &[u32], count: u32, steps: &[i32], processes: u32, spans: &mut [u32])
+    requires { ⌜ Sweepable (now numbers) count (now steps) processes (now spans) ⌝ }
+    ensures { λ r. ⌜ Swept (now (numbers .entry)) count (now (steps .entry)) processes (now (spans .exit)) ⌝ }
 {
-    tables::fill_counts(numbers, count, processes, &mut ends[0..1024]);
-    tables::fill_firsts(numbers, count, steps, processes, &mut ends[1024..2048]);
-    tables::fill_lasts(numbers, count, steps, processes, &mut ends[2048..3072]);
+    sweeps::fill_counts(numbers, count, processes, &mut spans[0..1024]);
+    sweeps::fill_firsts(numbers, count, steps, processes, &mut spans[1024..2048]);
+    sweeps::fill_lasts(numbers, count, steps, processes, &mut spans[2048..3072]);
 }
 
 // Of each process its count, its first and its last instance; how many processes there are.
-pub fn fill_processes(n: Nest, ends: &mut [u32]) -> u32
-    requires { ⌜ (Bounded n) × (length (instances n) ≤ 4096) × (length (processes n) ≤ 1024) × (length (now ends) ≡ 3072) ⌝ }
-    ensures { λ r. ⌜ (r ≡ length (processes n)) × (Ends n (now (ends .exit))) ⌝ }
+pub fn fill_processes(n: Nest, spans: &mut [u32]) -> u32
+    requires { ⌜ (Bounded n) × (length (instances n) ≤ 4096) × (length (processes n) ≤ 1024) × (length (now spans) ≡ 3072) ⌝ }
+    ensures { λ r. ⌜ (r ≡ length (processes n)) × (Spans n (now (spans .exit))) ⌝ }
 {
     let place = n.place;
     let space = numbering::extent_of(n, place);
@@ -133,7 +133,7 @@ pub fn fill_processes(n: Nest, ends: &mut [u32]) -> u32
     let mut numbers = [0u32; 4096];
     numbering::fill_numbers(n, place, space, &mut numbers);
     let mut steps = [0i32; 4096];
-    tables::fill_steps(n, &mut steps);
-    fill_ends(&numbers, count, &steps, processes, ends);
+    sweeps::fill_steps(n, &mut steps);
+    fill_spans(&numbers, count, &steps, processes, spans);
     processes
 }

@@ -133,15 +133,15 @@ module _ (l : Limits) (s : List ℕ) where
   abbrev pub ifThere : Bool → Step → Found
   ifThere b a = cond b (at a) nothing
 
-  abbrev pub seated : ℕ → ℕ → Bool
-  seated p t = ltb p (processCount A) && ltb t (streamCount A) && onPipe A p t
+  abbrev pub hasPort : ℕ → ℕ → Bool
+  hasPort p t = ltb p (processCount A) && ltb t (streamCount A) && onPipe A p t
 
   abbrev pub stepOf : ℕ → ℕ → ℕ → Found
   stepOf kind number stream =
       cond (eqb kind 0) (ifThere (ltb number (pipeNumber A)) (Send number))
-      (cond (eqb kind 1) (ifThere (seated number stream) (Take number stream))
+      (cond (eqb kind 1) (ifThere (hasPort number stream) (Take number stream))
       (cond (eqb kind 2) (ifThere (ltb number (processCount A)) (Fire number))
-      (cond (eqb kind 3) (ifThere (seated number stream) (Give number stream))
+      (cond (eqb kind 3) (ifThere (hasPort number stream) (Give number stream))
       (cond (eqb kind 4) (ifThere (ltb number (pipeNumber A)) (Receive number))
       nothing))))
 

@@ -19,7 +19,7 @@ use Rattle.meaning.specs.Description.{nestOf, streamOf, bodyLine, descri
 use Rattle.meaning.specs.Body.{runLines, touchedFrom, scatter, execute, executeAll}
 use Rattle.meaning.specs.Accept.{streamTests, testsFrom, refusalOf, accept}
 use Rattle.meaning.specs.Array.{insertByStep, byStep, pipesFrom, arrayOf}
-use Rattle.meaning.specs.Rules.{moveDown, sound, writeAll, apply, firstOf as firstReady, runSteps, applyAll}
+use Rattle.meaning.specs.Rules.{moveDown, sound, writeAll, apply, firstReady, runSteps, applyAll}
 use Rattle.meaning.specs.Answers.{acceptNumber, acceptValues}
 use Rattle.meaning.specs.Calls.{table, start, run, result, plainRun}
 use Rattle.meaning.specs.LongerStrides.{formerAccept}

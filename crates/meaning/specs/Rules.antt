@@ -94,11 +94,11 @@ module _ (A : Array) where
   soundPipe st q =
       soundCount st (Sent q) && soundCount st (Received q) && every (soundStop st q) (numbers (stopsOn A q)) && soundLink st q (stopsOn A q)
 
-  abbrev pub soundSeat : List ℕ → ℕ → ℕ → Bool
-  soundSeat st p s = soundCount st (Taken p s) && soundCount st (Given p s)
+  abbrev pub soundPort : List ℕ → ℕ → ℕ → Bool
+  soundPort st p s = soundCount st (Taken p s) && soundCount st (Given p s)
 
   abbrev pub soundProcess : List ℕ → ℕ → Bool
-  soundProcess st p = soundCount st (Firings p) && every (soundSeat st p) (numbers (streamCount A))
+  soundProcess st p = soundCount st (Firings p) && every (soundPort st p) (numbers (streamCount A))
 
   unfoldable pub sound : List ℕ → Bool
   sound st = every (soundProcess st) (numbers (processCount A)) && every (soundPipe st) (numbers (pipeNumber A))
@@ -263,13 +263,13 @@ pub data Found : Type 0 where
   at : Step → Found
   nothing : Found
 
-unfoldable pub firstOf : (Step → Bool) → List Step → Found
-firstOf f [] = nothing
-firstOf f (a ∷ l) = cond (f a) (at a) (firstOf f l)
+unfoldable pub firstReady : (Step → Bool) → List Step → Found
+firstReady f [] = nothing
+firstReady f (a ∷ l) = cond (f a) (at a) (firstReady f l)
 
 module _ (A : Array) where
   abbrev pub lowest : List ℕ → Found
-  lowest st = firstOf (ready A st) (inOrder A)
+  lowest st = firstReady (ready A st) (inOrder A)
 
   -- the steps that Run does, at most n of them, and what a list of steps leaves
   abbrev next : Found → (Step → List Step) → List Step

@@ -17,7 +17,7 @@ use Rattle.meaning.specs.Description.{nestOf, streamOf, bodyLine, descri
 use Rattle.meaning.specs.Body.{runLines, touchedFrom, scatter, execute, executeAll}
 use Rattle.meaning.specs.Accept.{testsFrom, refusalOf, accept}
 use Rattle.meaning.specs.Array.{Array, insertByStep, byStep, pipesFrom, arrayOf}
-use Rattle.meaning.specs.Rules.{moveDown, sound, writeAll, Memory, Step, ready, inOrder, apply, Found, at, nothing, firstOf as firstReady, runSteps, applyAll}
+use Rattle.meaning.specs.Rules.{moveDown, sound, writeAll, Memory, Step, ready, inOrder, apply, Found, at, nothing, firstReady, runSteps, applyAll}
 use Rattle.meaning.specs.Answers.{acceptValues, answerNumber, ranValues, readyValues}
 use Rattle.meaning.specs.Calls.{start, run, readyCall, window, result, plainRun}
 use Rattle.meaning.specs.Comparison.{Case, _is_, naturals, number, eqList, firstWrong, agree-after}

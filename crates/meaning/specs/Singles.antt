@@ -18,7 +18,7 @@ use Rattle.meaning.specs.Description.{nestOf, streamOf, bodyLine, descri
 use Rattle.meaning.specs.Body.{runLines, touchedFrom, scatter, execute, executeAll}
 use Rattle.meaning.specs.Accept.{testsFrom, refusalOf, accept}
 use Rattle.meaning.specs.Array.{insertByStep, byStep, pipesFrom, arrayOf}
-use Rattle.meaning.specs.Rules.{moveDown, sound, writeAll, Memory, apply, firstOf as firstReady, runSteps, applyAll}
+use Rattle.meaning.specs.Rules.{moveDown, sound, writeAll, Memory, apply, firstReady, runSteps, applyAll}
 use Rattle.meaning.specs.Answers.{acceptNumber, acceptValues, answerNumber, ranNumber, readyNumber}
 use Rattle.meaning.specs.Calls.{table, start, step, run, readyCall, window, result, plainRun}
 use Rattle.meaning.specs.Comparison.{Case, _is_, naturals, number, planar, rowWords, eqList, firstWrong, agree}

@@ -26,8 +26,8 @@ stride A = 1 + total (λ h. 4 + h) (A .hops)
 abbrev pub processStart : Array → ℕ → ℕ
 processStart A p = p * stride A
 
-abbrev pub seatStart : Array → ℕ → ℕ → ℕ
-seatStart A p s = processStart A p + 1 + total (λ h. 4 + h) (take s (A .hops))
+abbrev pub portStart : Array → ℕ → ℕ → ℕ
+portStart A p s = processStart A p + 1 + total (λ h. 4 + h) (take s (A .hops))
 
 abbrev pub endStart : Array → ℕ → ℕ
 endStart A q = processStart A (processCount A) + total (λ r. 2 + r .hop) (take q (A .pipes))
@@ -35,11 +35,11 @@ endStart A q = processStart A (processCount A) + total (λ r. 2 + r .hop) (take 
 -- the place of a word (that different words stand at different places, `layout` of network says)
 abbrev pub index : Array → Word → ℕ
 index A (Firings p) = processStart A p
-index A (Taken p s) = seatStart A p s
-index A (Given p s) = seatStart A p s + 1
-index A (Hand p s) = seatStart A p s + 2
-index A (Keep p s) = seatStart A p s + 3
-index A (Place p s i) = seatStart A p s + 4 + i
+index A (Taken p s) = portStart A p s
+index A (Given p s) = portStart A p s + 1
+index A (Hand p s) = portStart A p s + 2
+index A (Keep p s) = portStart A p s + 3
+index A (Place p s i) = portStart A p s + 4 + i
 index A (Sent q) = endStart A q
 index A (Received q) = endStart A q + 1
 index A (End q i) = endStart A q + 2 + i
@@ -49,11 +49,11 @@ abbrev pub wordCount : Array → ℕ
 wordCount A = processStart A (processCount A) + total (λ r. 2 + r .hop) (A .pipes)
 
 -- the words one after the other, as they stand (that the i-th of them stands at place i, `words-stand` of network says)
-abbrev pub seatWords : Array → ℕ → ℕ → List Word
-seatWords A p s = Taken p s ∷ Given p s ∷ Hand p s ∷ Keep p s ∷ map (Place p s) (numbers (getD (A .hops) s 0))
+abbrev pub portWords : Array → ℕ → ℕ → List Word
+portWords A p s = Taken p s ∷ Given p s ∷ Hand p s ∷ Keep p s ∷ map (Place p s) (numbers (getD (A .hops) s 0))
 
 abbrev pub processWords : Array → ℕ → List Word
-processWords A p = Firings p ∷ each (seatWords A p) (numbers (streamCount A))
+processWords A p = Firings p ∷ each (portWords A p) (numbers (streamCount A))
 
 abbrev pub pipeWords : Array → ℕ → List Word
 pipeWords A q = Sent q ∷ Received q ∷ map (End q) (numbers (pipeAt A q .hop))

@@ -9,7 +9,7 @@ use Rattle.meaning.specs.Rules.{Step}
 use Rattle.network.specs.Counters.{put, get, fire}
 use Rattle.network.specs.Counters as Abstract
 use Rattle.network.specs.Layout.{layout}
-use Rattle.network.specs.Wiring.{Wired, stop-pipe, seated, placeAt}
+use Rattle.network.specs.Wiring.{Wired, stop-pipe, has-port, placeAt}
 use Rattle.network.specs.Slots.{Slot, sent, taken, given, fired, hand, kept, place, Has, slot-word, word-live}
 use Rattle.network.specs.Slots as Slots
 use Rattle.network.specs.Ready.{stepOf, There}
@@ -45,10 +45,10 @@ module _ (A : Array) where
   across-has : {b : Step} → Moves b → There A b → Has A (Slots.counter (across (stepOf A b)))
   across-has sends h = (h, omega arith)
   across-has (takes {p} {s}) h =
-      let l = seated A p s h .place-lt in
+      let l = has-port A p s h .place-lt in
       put-has (pipeThrough A p s) (placeAt A p s) (stop-pipe A (pipeThrough A p s) (placeAt A p s) l, omega arith)
   across-has (gives {p} {s}) h =
-      let l = seated A p s h .place-lt in (stop-pipe A (pipeThrough A p s) (placeAt A p s) l, l)
+      let l = has-port A p s h .place-lt in (stop-pipe A (pipeThrough A p s) (placeAt A p s) l, l)
   across-has (receives {q}) h = put-has q (stopsOn A q) (h, le-refl (stopsOn A q))
 
 module _ {A : Array} (W : Wired A) where

@@ -14,7 +14,7 @@ use Rattle.meaning.specs.Rules.{processOn, streamOn, putIn, takenOut, sound, St
 use Rattle.network.specs.Counters.{put, get, fire, put≢fire, get≢fire}
 use Rattle.network.specs.Counters as Abstract
 use Rattle.network.specs.Layout.{layout}
-use Rattle.network.specs.Wiring.{netOf, Wired, stop-pipe, seated, seat-is, placeAt}
+use Rattle.network.specs.Wiring.{netOf, Wired, stop-pipe, has-port, port-is, placeAt}
 use Rattle.network.specs.Slots.{Has, wordOf, word-live}
 use Rattle.network.specs.Slots as Slots
 use Rattle.network.specs.Decide.{Says, holds, fails, said}
@@ -96,17 +96,17 @@ module _ (A : Array) where
   counter-has : (a : Step) → There A a → Has A (Slots.counter (stepOf A a))
   counter-has (Send q) h = h
   counter-has (Take p s) h =
-      let l = seated A p s h .place-lt in (stop-pipe A (pipeThrough A p s) (placeAt A p s) l, omega arith)
+      let l = has-port A p s h .place-lt in (stop-pipe A (pipeThrough A p s) (placeAt A p s) l, omega arith)
   counter-has (Fire p) h = h
-  counter-has (Give p s) h = seated A p s h .place-lt
+  counter-has (Give p s) h = has-port A p s h .place-lt
   counter-has (Receive q) h = (h, le-refl (stopsOn A q))
 
   counted-is : (a : Step) → There A a → wordAt (stepOf A a) ≡ counted a
   counted-is (Send q) h = refl
   counted-is (Take p s) h =
-      let z = seated A p s h in rw (lt-ltb (placeAt A p s) (stopsOn A (pipeThrough A p s)) (z .place-lt)) (ap₂ Taken (z .process) (z .stream))
+      let z = has-port A p s h in rw (lt-ltb (placeAt A p s) (stopsOn A (pipeThrough A p s)) (z .place-lt)) (ap₂ Taken (z .process) (z .stream))
   counted-is (Fire p) h = refl
-  counted-is (Give p s) h = let z = seated A p s h in ap₂ Given (z .process) (z .stream)
+  counted-is (Give p s) h = let z = has-port A p s h in ap₂ Given (z .process) (z .stream)
   counted-is (Receive q) h = rw (le-ltb (stopsOn A q) (stopsOn A q) (le-refl (stopsOn A q)))
 
   -- different steps of the array are different steps of the abstract network
@@ -148,11 +148,11 @@ module _ {A : Array} (W : Wired A) where
 
     take-at : (a : Step) → There A a → stepOf A a ≡ get q k → Take (processOn A q k) (streamOn A q) ≡ a
     take-at a h e =
-        let z = seat-is W q k l in step-apart A (Take (processOn A q k) (streamOn A q)) a on-pipe h (ap₂ get (z .1) (z .2) ∙ sym e)
+        let z = port-is W q k l in step-apart A (Take (processOn A q k) (streamOn A q)) a on-pipe h (ap₂ get (z .1) (z .2) ∙ sym e)
 
     give-at : (a : Step) → There A a → stepOf A a ≡ put q (suc k) → Give (processOn A q k) (streamOn A q) ≡ a
     give-at a h e =
-        let z = seat-is W q k l in
+        let z = port-is W q k l in
         step-apart A (Give (processOn A q k) (streamOn A q)) a on-pipe h (ap₂ (λ (q k : ℕ). put q (suc k)) (z .1) (z .2) ∙ sym e)
 
     fire-at : (a : Step) → There A a → stepOf A a ≡ fire (processOn A q k) → Fire (processOn A q k) ≡ a

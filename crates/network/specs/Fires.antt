@@ -13,7 +13,7 @@ use Rattle.meaning.specs.Rules.{processOn, streamOn, usedWord, usedWords, write
 use Rattle.network.specs.Lists.{length-numbers, same-numbers}
 use Rattle.network.specs.Counters.{fire, OneMore}
 use Rattle.network.specs.Firing.{Firing, hand-used, keep-used, Fires}
-use Rattle.network.specs.Wiring.{kindOf, netOf, Wired, Seated, seat-is, rankedOf, placeAt, keepsAt}
+use Rattle.network.specs.Wiring.{kindOf, netOf, Wired, HasPort, port-is, rankedOf, placeAt, keepsAt}
 use Rattle.network.specs.Programs.{length-body}
 use Rattle.network.specs.Slots.{Slot, fired, hand, kept, place, sort, first, second, counter, Has, wordOf, view, view-is, view-same, view-other, countsOf, wordsOf}
 use Rattle.network.specs.Links.{counter-sort, Written, nothing, also, written-length, more-other, more-written, one-more}
@@ -71,7 +71,7 @@ module _ {A : Array} (W : Wired A) where
 
   -- ---- a firing of process p, which stands on a pipe of every stream
 
-  module _ (st : List ℕ) (long : wordCount A ≤ length st) (p : ℕ) (there : p < processCount A) (seat : (s : ℕ) → s < streamCount A → Seated A p s)
+  module _ (st : List ℕ) (long : wordCount A ≤ length st) (p : ℕ) (there : p < processCount A) (port : (s : ℕ) → s < streamCount A → HasPort A p s)
     where
       -- the slot that a stop uses, and that of p and stream s
       abbrev own : ℕ → ℕ → Slot
@@ -94,10 +94,10 @@ module _ {A : Array} (W : Wired A) where
       lands-at s d l e =
           let q = ap first (sym e) ∙ own-at (pipeThrough A p s) (placeAt A p s) .0 in
           let k = ap second (sym e) ∙ own-at (pipeThrough A p s) (placeAt A p s) .1 in
-          (ap₂ (processOn A) q k ∙ seat s l .process, ap (streamOn A) q ∙ seat s l .stream)
+          (ap₂ (processOn A) q k ∙ port s l .process, ap (streamOn A) q ∙ port s l .stream)
 
       slot-has : (s : ℕ) → s < streamCount A → Has A (slot s)
-      slot-has s l = chosen-has A (pipeThrough A p s) (placeAt A p s) (keepsAt A p s) (seat s l .place-lt)
+      slot-has s l = chosen-has A (pipeThrough A p s) (placeAt A p s) (keepsAt A p s) (port s l .place-lt)
 
       slot-sort : (s : ℕ) → (3 < sort (slot s)) × (sort (slot s) < 6)
       slot-sort s = chosen-sort (pipeThrough A p s) (placeAt A p s) (keepsAt A p s)
@@ -106,7 +106,7 @@ module _ {A : Array} (W : Wired A) where
           → usedWord A (keepsAt A p s) p s ≡ wordOf A (slot s)
       slot-word s l =
           let b : Bool = keepsAt A p s in
-          ap₂ (λ (p s : ℕ). cond b (Keep p s) (Hand p s)) (sym (seat s l .process)) (sym (seat s l .stream))
+          ap₂ (λ (p s : ℕ). cond b (Keep p s) (Hand p s)) (sym (port s l .process)) (sym (port s l .stream))
           ∙ sym (chosen-word A (pipeThrough A p s) (placeAt A p s) b)
 
       -- the values found, what the body makes of them, and the state after it
@@ -188,7 +188,7 @@ module _ {A : Array} (W : Wired A) where
         where
           o : (streamOn A q < streamCount A) × (pipeThrough A p (streamOn A q) ≡ q) × (placeAt A p (streamOn A q) ≡ k)
           o = subst (λ (p : ℕ). (streamOn A q < streamCount A) × (pipeThrough A p (streamOn A q) ≡ q) × (placeAt A p (streamOn A q) ≡ k)) e
-              (seat-is W q k l)
+              (port-is W q k l)
 
           used : view A after (own q k) ≡ v
           used =

@@ -18,7 +18,7 @@ use Rattle.network.specs.Decide.{said, says-true}
 use Rattle.network.specs.Ready.{says-ready}
 use Rattle.network.specs.Links.{Written, nothing, also, written-length}
 use Rattle.network.specs.Steps.{step-written}
-use Rattle.network.specs.States.{Off, Seat, says-sound, sound-kept}
+use Rattle.network.specs.States.{Off, Port, says-sound, sound-kept}
 use Rattle.network.specs.Runs.{Grants, none, step, Cleared, reached-start, sound-of}
 
 module _ {A : Array} (W : Wired A) where
@@ -48,7 +48,7 @@ module _ {A : Array} (W : Wired A) where
 
   -- a cleared state is sound
   pub cleared-sound : (values : List ℕ) (M : Memory) → Cleared W values M → sound A (M .state) ≡ true
-  unfolding Off Seat
+  unfolding Off Port
   cleared-sound values M C =
       says-true (says-sound W (M .state)) (
         sound-of W values (reached-start W values M C),

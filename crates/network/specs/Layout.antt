@@ -72,16 +72,16 @@ module _ (A : Array) where
 -- a word by its block and its number there: of process p; of process p and stream s; of pipe q
 data Cell : Type 0 where
   ofProcess : ℕ → Cell
-  ofSeat : ℕ → ℕ → ℕ → Cell
+  ofPort : ℕ → ℕ → ℕ → Cell
   ofEnd : ℕ → ℕ → Cell
 
 abbrev cell : Word → Cell
 cell (Firings p) = ofProcess p
-cell (Taken p s) = ofSeat p s 0
-cell (Given p s) = ofSeat p s 1
-cell (Hand p s) = ofSeat p s 2
-cell (Keep p s) = ofSeat p s 3
-cell (Place p s i) = ofSeat p s (suc (suc (suc (suc i))))
+cell (Taken p s) = ofPort p s 0
+cell (Given p s) = ofPort p s 1
+cell (Hand p s) = ofPort p s 2
+cell (Keep p s) = ofPort p s 3
+cell (Place p s i) = ofPort p s (suc (suc (suc (suc i))))
 cell (Sent q) = ofEnd q 0
 cell (Received q) = ofEnd q 1
 cell (End q i) = ofEnd q (suc (suc i))
@@ -89,11 +89,11 @@ cell (End q i) = ofEnd q (suc (suc i))
 -- and back
 abbrev word : Cell → Word
 word (ofProcess p) = Firings p
-word (ofSeat p s zero) = Taken p s
-word (ofSeat p s (suc zero)) = Given p s
-word (ofSeat p s (suc (suc zero))) = Hand p s
-word (ofSeat p s (suc (suc (suc zero)))) = Keep p s
-word (ofSeat p s (suc (suc (suc (suc i))))) = Place p s i
+word (ofPort p s zero) = Taken p s
+word (ofPort p s (suc zero)) = Given p s
+word (ofPort p s (suc (suc zero))) = Hand p s
+word (ofPort p s (suc (suc (suc zero)))) = Keep p s
+word (ofPort p s (suc (suc (suc (suc i))))) = Place p s i
 word (ofEnd q zero) = Sent q
 word (ofEnd q (suc zero)) = Received q
 word (ofEnd q (suc (suc i))) = End q i
@@ -111,20 +111,20 @@ word-cell (End q i) = refl
 
 module _ (A : Array) where
   -- where stream s begins within a process, and pipe q among the pipes
-  seatOffset : ℕ → ℕ
-  seatOffset s = total (λ h. 4 + h) (take s (A .hops))
+  portOffset : ℕ → ℕ
+  portOffset s = total (λ h. 4 + h) (take s (A .hops))
 
   endOffset : ℕ → ℕ
   endOffset q = total (λ r. 2 + r .hop) (take q (A .pipes))
 
   Valid : Cell → Type 0
   Valid (ofProcess p) = p < processCount A
-  Valid (ofSeat p s o) = (p < processCount A) × (s < streamCount A) × (o < 4 + getD (A .hops) s 0)
+  Valid (ofPort p s o) = (p < processCount A) × (s < streamCount A) × (o < 4 + getD (A .hops) s 0)
   Valid (ofEnd q o) = (q < pipeNumber A) × (o < 2 + pipeAt A q .hop)
 
   place : Cell → ℕ
   place (ofProcess p) = p * stride A + 0
-  place (ofSeat p s o) = p * stride A + suc (seatOffset s + o)
+  place (ofPort p s o) = p * stride A + suc (portOffset s + o)
   place (ofEnd q o) = processCount A * stride A + (endOffset q + o)
 
   valid : (w : Word) → Live A w → Valid (cell w)
@@ -140,7 +140,7 @@ module _ (A : Array) where
   valid (End q i) (h, k) = (h, omega arith)
 
   index-place : (w : Word) → index A w ≡ place (cell w)
-  unfolding place seatOffset endOffset
+  unfolding place portOffset endOffset
   index-place (Firings p) = omega arith
   index-place (Taken p s) = omega arith
   index-place (Given p s) = omega arith
@@ -151,31 +151,31 @@ module _ (A : Array) where
   index-place (Received q) = omega arith
   index-place (End q i) = omega arith
 
-  inside : (s o : ℕ) → s < streamCount A → o < 4 + getD (A .hops) s 0 → suc (seatOffset s + o) < stride A
-  unfolding seatOffset
+  inside : (s o : ℕ) → s < streamCount A → o < 4 + getD (A .hops) s 0 → suc (portOffset s + o) < stride A
+  unfolding portOffset
   inside s o h l = omega (arith, block-below (λ h. 4 + h) 0 (A .hops) s h)
 
   place-below : (a : Cell) → Valid a → place a < wordCount A
   unfolding Valid place endOffset
   place-below (ofProcess p) h = omega (arith, row-end (stride A) p (processCount A) h)
-  place-below (ofSeat p s o) (h, l, k) = omega (arith, row-end (stride A) p (processCount A) h, inside s o l k)
+  place-below (ofPort p s o) (h, l, k) = omega (arith, row-end (stride A) p (processCount A) h, inside s o l k)
   place-below (ofEnd q o) (h, k) = omega (arith, block-below (λ (r : Pipe). 2 + r .hop) noPipe (A .pipes) q h)
 
   place-apart : (a b : Cell) → Valid a → Valid b → place a ≡ place b → a ≡ b
-  unfolding Valid place seatOffset endOffset
+  unfolding Valid place portOffset endOffset
   place-apart (ofProcess p) (ofProcess p') h h' e = ap ofProcess (row-apart (stride A) p 0 p' 0 (omega arith) (omega arith) e .0)
-  place-apart (ofProcess p) (ofSeat p' s o) h (h', l, k) e =
-      absurd (omega (arith, row-apart (stride A) p 0 p' (suc (seatOffset s + o)) (omega arith) (inside s o l k) e .1))
+  place-apart (ofProcess p) (ofPort p' s o) h (h', l, k) e =
+      absurd (omega (arith, row-apart (stride A) p 0 p' (suc (portOffset s + o)) (omega arith) (inside s o l k) e .1))
   place-apart (ofProcess p) (ofEnd q o) h l e = absurd (omega (arith, row-end (stride A) p (processCount A) h))
-  place-apart (ofSeat p s o) (ofProcess p') (h, l, k) h' e =
-      absurd (omega (arith, row-apart (stride A) p (suc (seatOffset s + o)) p' 0 (inside s o l k) (omega arith) e .1))
-  place-apart (ofSeat p s o) (ofSeat p' s' o') (h, l, k) (h', l', k') e =
-      let r = row-apart (stride A) p (suc (seatOffset s + o)) p' (suc (seatOffset s' + o')) (inside s o l k) (inside s' o' l' k') e in
+  place-apart (ofPort p s o) (ofProcess p') (h, l, k) h' e =
+      absurd (omega (arith, row-apart (stride A) p (suc (portOffset s + o)) p' 0 (inside s o l k) (omega arith) e .1))
+  place-apart (ofPort p s o) (ofPort p' s' o') (h, l, k) (h', l', k') e =
+      let r = row-apart (stride A) p (suc (portOffset s + o)) p' (suc (portOffset s' + o')) (inside s o l k) (inside s' o' l' k') e in
       let z = block-apart (λ h. 4 + h) 0 (A .hops) s o s' o' l l' k k' (omega arith) in
-      λ i. ofSeat (r .0 i) (z .0 i) (z .1 i)
-  place-apart (ofSeat p s o) (ofEnd q o') (h, l, k) h' e = absurd (omega (arith, row-end (stride A) p (processCount A) h, inside s o l k))
+      λ i. ofPort (r .0 i) (z .0 i) (z .1 i)
+  place-apart (ofPort p s o) (ofEnd q o') (h, l, k) h' e = absurd (omega (arith, row-end (stride A) p (processCount A) h, inside s o l k))
   place-apart (ofEnd q o) (ofProcess p) h l e = absurd (omega (arith, row-end (stride A) p (processCount A) l))
-  place-apart (ofEnd q o) (ofSeat p s o') h (h', l, k) e = absurd (omega (arith, row-end (stride A) p (processCount A) h', inside s o' l k))
+  place-apart (ofEnd q o) (ofPort p s o') h (h', l, k) e = absurd (omega (arith, row-end (stride A) p (processCount A) h', inside s o' l k))
   place-apart (ofEnd q o) (ofEnd q' o') (h, l) (h', l') e =
       let z = block-apart (λ (r : Pipe). 2 + r .hop) noPipe (A .pipes) q o q' o' h h' l l' (omega arith) in λ i. ofEnd (z .0 i) (z .1 i)
 

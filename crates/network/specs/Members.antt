@@ -7,7 +7,7 @@ use Prim.Native.Nat.{ℕ, zero, suc, _+_, _≤_, _<_}
 use native.Mathlib.Omega.{arith}
 use Rattle.meaning.specs.Lists.{any, each, numbers, numbersFrom}
 use Rattle.meaning.specs.Array.{Array, processCount, streamCount, pipeNumber, pipeThrough, onPipe}
-use Rattle.meaning.specs.Rules.{Step, Send, Take, Fire, Give, Receive, readyToTake, readyToGive, ready, stepsOf, inOrder, at, firstOf}
+use Rattle.meaning.specs.Rules.{Step, Send, Take, Fire, Give, Receive, readyToTake, readyToGive, ready, stepsOf, inOrder, at, firstReady}
 use Rattle.network.specs.Wiring.{placeAt}
 use Rattle.network.specs.Cases.{Order, less, atLeast, order}
 use Rattle.network.specs.Lists.{both-true}
@@ -130,15 +130,15 @@ module _ (A : Array) where
       gives p h (inl e) = subst Listed (sym e) h
       gives p h (inr j) = let r = numbers-in (Give p) 0 (streamCount A) a j in subst Listed (sym (r .2)) (h, omega (arith, r .1))
 
-      seat : (p : ℕ) → p < processCount A → In a (map (Take p) (numbers (streamCount A))) ⊎ In a (Fire p ∷ map (Give p) (numbers (streamCount A)))
+      port : (p : ℕ) → p < processCount A → In a (map (Take p) (numbers (streamCount A))) ⊎ In a (Fire p ∷ map (Give p) (numbers (streamCount A)))
           → Listed a
-      seat p h (inl j) = let r = numbers-in (Take p) 0 (streamCount A) a j in subst Listed (sym (r .2)) (h, omega (arith, r .1))
-      seat p h (inr j) = gives p h (in-cons j)
+      port p h (inl j) = let r = numbers-in (Take p) 0 (streamCount A) a j in subst Listed (sym (r .2)) (h, omega (arith, r .1))
+      port p h (inr j) = gives p h (in-cons j)
 
       rest : In a (each (stepsOf A) (numbers (processCount A))) ⊎ In a (map Receive (numbers (pipeNumber A))) → Listed a
       rest (inl j) =
           let r = each-in (stepsOf A) 0 (processCount A) a j in
-          seat (r .0) (omega (arith, r .1)) (in-append (map (Take (r .0)) (numbers (streamCount A)))
+          port (r .0) (omega (arith, r .1)) (in-append (map (Take (r .0)) (numbers (streamCount A)))
           (Fire (r .0) ∷ map (Give (r .0)) (numbers (streamCount A))) (r .2))
       rest (inr j) = let r = numbers-in Receive 0 (pipeNumber A) a j in subst Listed (sym (r .2)) (omega (arith, r .1))
 
@@ -156,11 +156,11 @@ module _ (A : Array) where
   ready-there st (Receive q) h e = h
 
 -- what is found passes, and is a member
-pub found-passes : (f : Step → Bool) (l : List Step) (a : Step) → firstOf f l ≡ at a → In a l × (f a ≡ true)
-unfolding firstOf
+pub found-passes : (f : Step → Bool) (l : List Step) (a : Step) → firstReady f l ≡ at a → In a l × (f a ≡ true)
+unfolding firstReady
 found-passes f [] a e = absurd (let z : _≡_ {A = ℕ} 0 1 = cc in omega arith)
 found-passes f (b ∷ l) a e = go (f b) refl e (found-passes f l a)
   where
-    go : (c : Bool) → f b ≡ c → cond c (at b) (firstOf f l) ≡ at a → (firstOf f l ≡ at a → In a l × (f a ≡ true)) → In a (b ∷ l) × (f a ≡ true)
+    go : (c : Bool) → f b ≡ c → cond c (at b) (firstReady f l) ≡ at a → (firstReady f l ≡ at a → In a l × (f a ≡ true)) → In a (b ∷ l) × (f a ≡ true)
     go true d e ih = let z : b ≡ a = cc in subst (λ (a : Step). In a (b ∷ l) × (f a ≡ true)) z (first, d)
     go false d e ih = let r = ih e in (next (r .0), r .1)

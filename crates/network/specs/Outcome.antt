@@ -24,7 +24,7 @@ use Rattle.network.specs.System.{System}
 use Rattle.network.specs.Claims.{Out, stretch, stretch-rest, not-ready}
 use Rattle.network.specs.Claims as Claims
 use Rattle.network.specs.Count.{stepSum, totals, totals-add, granted-most, out-granted, granted-out}
-use Rattle.network.specs.Wiring.{netOf, elementAt, Wired, stop-pipe, element-pipe, seat-is}
+use Rattle.network.specs.Wiring.{netOf, elementAt, Wired, stop-pipe, element-pipe, port-is}
 use Rattle.network.specs.Programs.{programOf, systemOf}
 use Rattle.network.specs.Slots.{taken, countsOf}
 use Rattle.network.specs.Decide.{Says, holds, fails, said, says-true, says-as, says-eq, says-every}
@@ -66,7 +66,7 @@ module _ {A : Array} (W : Wired A) where
     named (put q zero) g =
         let l = element-pipe A q (countsOf A st (put q 0)) (g .0) in record { name = Send q; inside = l; there = l; is = refl }
     named (put q (suc k)) g =
-        let z = seat-is W q k (g .0) in
+        let z = port-is W q k (g .0) in
         let l = stop-pipe A q k (g .0) in
         record {
           name = Give (processOn A q k) (streamOn A q);
@@ -78,7 +78,7 @@ module _ {A : Array} (W : Wired A) where
       where
         go : Order k (stopsOn A q) → Named (get q k)
         go (less m) =
-            let z = seat-is W q k m in
+            let z = port-is W q k m in
             let l = stop-pipe A q k m in
             record {
               name = Take (processOn A q k) (streamOn A q);

@@ -18,7 +18,7 @@ use Rattle.meaning.specs.Rules.{processOn, streamOn, bodyAt}
 use Rattle.network.specs.Lists.{length-numbers, getD-first, same-numbers}
 use Rattle.network.specs.Values.{Program, Body}
 use Rattle.network.specs.Firing.{Own, in-hand, in-keep}
-use Rattle.network.specs.Wiring.{kindOf, rankAt, netOf, elementAt, writes, UsedAt, Wired, element-pipe, seated, rankedOf, linedOf, laidOf, clockOf}
+use Rattle.network.specs.Wiring.{kindOf, rankAt, netOf, elementAt, writes, UsedAt, Wired, element-pipe, has-port, rankedOf, linedOf, laidOf, clockOf}
 use Rattle.network.specs.System.{Spot, Geometry, System}
 
 -- ---- lines
@@ -95,7 +95,7 @@ module _ {A : Array} (W : Wired A) (values : List ℕ) where
       index-of false (in-hand e) = sym e
 
   pub stream-at : (p s : ℕ) → 0 < countAt A p → s < streamCount A → (s < streamCount A) × (streamOn A (pipeThrough A p s) ≡ s)
-  stream-at p s h l = (l, seated A p s (W .on-all p s h l) .stream)
+  stream-at p s h l = (l, has-port A p s (W .on-all p s h l) .stream)
 
   abbrev pub geometryOf : Geometry (netOf A) (rankedOf W) (laidOf W) programOf
   geometryOf =

@@ -15,7 +15,7 @@ use Rattle.meaning.specs.Rules.{processOn, streamOn, putIn, takenOut, fill, has
 use Rattle.meaning.specs.Rules as Rules
 use Rattle.network.specs.Counters.{Use, Step, put, get, fire, Counts, At, Guard}
 use Rattle.network.specs.Sound.{Sound}
-use Rattle.network.specs.Wiring.{netOf, Wired, stop-pipe, Seated, seated, seat-is, placeAt}
+use Rattle.network.specs.Wiring.{netOf, Wired, stop-pipe, HasPort, has-port, port-is, placeAt}
 use Rattle.network.specs.Slots.{sent, taken, given, fired, view-is, countsOf}
 use Rattle.network.specs.Decide.{Says, holds, fails, said, says-true, says-and, says-as, says-lt, says-given, says-every, says-hand, says-use, says-offer}
 
@@ -105,7 +105,7 @@ module _ (A : Array) where
           (taken-is q k l) (given-is q k l) (fired-is (processOn A q k) (W .process-lt q k l)) (stopAt A q k .keeps) (S .balance q k l)))
 
       -- the use of stream s by a process that stands on its pipe
-      says-used : (p s : ℕ) → p < processCount A → Seated A p s
+      says-used : (p s : ℕ) → p < processCount A → HasPort A p s
           → Says (At (netOf A) Use c (pipeThrough A p s) (placeAt A p s)) (readyToUse A st p s)
       unfolding c
       says-used p s h z =
@@ -129,7 +129,7 @@ module _ (A : Array) where
 
           spread : Uses p → (q k : ℕ) → k < stopsOn A q → processOn A q k ≡ p → At (netOf A) Use (countsOf A st) q k
           spread f q k l e =
-              let o = seat-is W q k l in
+              let o = port-is W q k l in
               let u = subst Uses (sym e) f (streamOn A q) (o .0) in
               subst₂ (λ (q k : ℕ). At (netOf A) Use (countsOf A st) q k) (o .1) (o .2) u
 
@@ -138,8 +138,8 @@ module _ (A : Array) where
           go (fails n) = fails (λ g. n (omega (arith, fired-is p h, g .0)))
           go (holds l) =
               says-as (λ f. (omega (arith, fired-is p h), spread f))
-              (λ g s m. let z = seated A p s (W .on-all p s (omega arith) m) in g .1 (pipeThrough A p s) (placeAt A p s) (z .place-lt) (z .process))
-              (says-every (readyToUse A st p) (streamCount A) (λ s m. says-used p s h (seated A p s (W .on-all p s (omega arith) m))))
+              (λ g s m. let z = has-port A p s (W .on-all p s (omega arith) m) in g .1 (pipeThrough A p s) (placeAt A p s) (z .place-lt) (z .process))
+              (says-every (readyToUse A st p) (streamCount A) (λ s m. says-used p s h (has-port A p s (W .on-all p s (omega arith) m))))
 
       -- ready says whether the abstract network may grant the step
       pub says-ready : (a : Rules.Step) → There a → Says (Guard (netOf A) (countsOf A st) (stepOf a)) (ready A st a)
@@ -148,12 +148,12 @@ module _ (A : Array) where
           let x = put-is q 0 h (omega arith) in
           says-and (says-as (λ a. omega arith) (λ a. omega arith) (says-lt (read A st (Sent q)) (elementsOn A q))) (says-room q 0 h (omega arith))
       says-ready (Take p s) h =
-          let z = seated A p s h in
+          let z = has-port A p s h in
           says-given (onPipe A p s) (readyToTake A st (pipeThrough A p s) (placeAt A p s)) h
           (says-take (pipeThrough A p s) (placeAt A p s) (z .place-lt))
       says-ready (Fire p) h = says-fire p h
       says-ready (Give p s) h =
-          let z = seated A p s h in
+          let z = has-port A p s h in
           says-given (onPipe A p s) (readyToGive A st (pipeThrough A p s) (placeAt A p s)) h
           (says-give (pipeThrough A p s) (placeAt A p s) (z .place-lt))
       says-ready (Receive q) h =

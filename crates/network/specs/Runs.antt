@@ -20,7 +20,7 @@ use Rattle.network.specs.Sound.{Sound, inv-sound}
 use Rattle.network.specs.Good.{Good}
 use Rattle.network.specs.Claims.{Reach, start, more, reach-good}
 use Rattle.network.specs.Layout.{layout}
-use Rattle.network.specs.Wiring.{netOf, Wired, seated, placeAt}
+use Rattle.network.specs.Wiring.{netOf, Wired, has-port, placeAt}
 use Rattle.network.specs.Programs.{systemOf}
 use Rattle.network.specs.Slots.{Slot, place, counter, Has, has, wordOf, word-live, view, view-is, view-none, countsOf, outOf, wordsOf}
 use Rattle.network.specs.Slots as Slots
@@ -134,7 +134,7 @@ module _ {A : Array} (W : Wired A) (values : List ℕ) where
       inner e =
           let z : pipeThrough A p s ≡ q = cc in
           let k : placeAt A p s ≡ stopsOn A q = cc in
-          omega (arith, seated A p s h .place-lt, ap (stopsOn A) z, k)
+          omega (arith, has-port A p s h .place-lt, ap (stopsOn A) z, k)
   receive-counts {c} q (Fire p) h B = omega (arith, B .rest (get q (stopsOn A q)) (λ e. get≢fire (sym e)))
   receive-counts {c} q (Give p s) h B = omega (arith, B .rest (get q (stopsOn A q)) put≢get)
   receive-counts {c} {c'} q (Receive r) h B = go (eqb r q) refl

@@ -16,7 +16,7 @@ use Rattle.network.specs.Cases.{Order, less, atLeast, order}
 use Rattle.network.specs.Counters.{Step, put, get, fire, Counts}
 use Rattle.network.specs.Words.{Words}
 use Rattle.network.specs.Layout.{Live, read-same, read-other}
-use Rattle.network.specs.Wiring.{Wired, stop-pipe, Seated, seated, seat-is, placeAt}
+use Rattle.network.specs.Wiring.{Wired, stop-pipe, HasPort, has-port, port-is, placeAt}
 
 -- of pipe q what was sent; of its place k what was taken out of the link there, what was given, hand, keep, and the link's places; of process p its firings
 pub data Slot : Type 0 where
@@ -166,10 +166,10 @@ module _ (A : Array) where
   slotOf (End q i) = place q (stopsOn A q) i
 
   -- a process whose pipe is there has its place on it
-  pub on : (p s : ℕ) → pipeThrough A p s < pipeNumber A → Seated A p s
-  on p s h = seated A p s (lt-ltb (pipeThrough A p s) (pipeNumber A) h)
+  pub on : (p s : ℕ) → pipeThrough A p s < pipeNumber A → HasPort A p s
+  on p s h = has-port A p s (lt-ltb (pipeThrough A p s) (pipeNumber A) h)
 
-  stop-on : (p s : ℕ) → placeAt A p s < stopsOn A (pipeThrough A p s) → Seated A p s
+  stop-on : (p s : ℕ) → placeAt A p s < stopsOn A (pipeThrough A p s) → HasPort A p s
   stop-on p s h = on p s (stop-pipe A (pipeThrough A p s) (placeAt A p s) h)
 
   -- and the word of that slot, if it has one
@@ -194,16 +194,16 @@ module _ (A : Array) where
     slot-word (taken q k) (h, l) = go (order k (stopsOn A q))
       where
         go : Order k (stopsOn A q) → slotOf (takenOut A q k) ≡ taken q k
-        go (less m) = let z = seat-is W q k m in rw (lt-ltb k (stopsOn A q) m) (ap₂ taken (z .1) (z .2))
+        go (less m) = let z = port-is W q k m in rw (lt-ltb k (stopsOn A q) m) (ap₂ taken (z .1) (z .2))
         go (atLeast m) = let e : stopsOn A q ≡ k = omega arith in rw (le-ltb k (stopsOn A q) m) (ap (taken q) e)
-    slot-word (given q k) h = let z = seat-is W q k h in ap₂ given (z .1) (z .2)
+    slot-word (given q k) h = let z = port-is W q k h in ap₂ given (z .1) (z .2)
     slot-word (fired p) h = refl
-    slot-word (hand q k) h = let z = seat-is W q k h in ap₂ hand (z .1) (z .2)
-    slot-word (kept q k) h = let z = seat-is W q k h in ap₂ kept (z .1) (z .2)
+    slot-word (hand q k) h = let z = port-is W q k h in ap₂ hand (z .1) (z .2)
+    slot-word (kept q k) h = let z = port-is W q k h in ap₂ kept (z .1) (z .2)
     slot-word (place q k i) (h, l, r) = go (order k (stopsOn A q))
       where
         go : Order k (stopsOn A q) → slotOf (linkPlace A q k i) ≡ place q k i
-        go (less m) = let z = seat-is W q k m in rw (lt-ltb k (stopsOn A q) m) (ap₂ (λ (q k : ℕ). place q k i) (z .1) (z .2))
+        go (less m) = let z = port-is W q k m in rw (lt-ltb k (stopsOn A q) m) (ap₂ (λ (q k : ℕ). place q k i) (z .1) (z .2))
         go (atLeast m) = let e : stopsOn A q ≡ k = omega arith in rw (le-ltb k (stopsOn A q) m) (ap (λ (k : ℕ). place q k i) e)
 
     -- so a word whose slot has none is no slot's word

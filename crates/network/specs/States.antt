@@ -10,12 +10,12 @@ use lib.ListN.{length}
 use borrow.Author.Tests.{lt-ltb}
 use Rattle.meaning.specs.Array.{Array, countAt, processCount, streamCount, pipeNumber, pipeAt, stopsOn, elementsOn, stopAt, pipeThrough, onPipe}
 use Rattle.meaning.specs.State.{Firings, Taken, Given, Sent, Received, wordCount, read}
-use Rattle.meaning.specs.Rules.{processOn, streamOn, putIn, takenOut, soundLink, soundStop, soundPipe, soundSeat, soundProcess, sound, Memory, ready, apply}
+use Rattle.meaning.specs.Rules.{processOn, streamOn, putIn, takenOut, soundLink, soundStop, soundPipe, soundPort, soundProcess, sound, Memory, ready, apply}
 use Rattle.meaning.specs.Rules as Rules
 use Rattle.network.specs.Cases.{Order, less, atLeast, order}
 use Rattle.network.specs.Counters.{put, get, fire}
 use Rattle.network.specs.Sound.{Balance, Sound, sound-step}
-use Rattle.network.specs.Wiring.{kindOf, netOf, Wired, stop-pipe, seated, placeAt}
+use Rattle.network.specs.Wiring.{kindOf, netOf, Wired, stop-pipe, has-port, placeAt}
 use Rattle.network.specs.Slots.{sent, taken, given, fired, Has, slotOf, no-slot, view-none, countsOf}
 use Rattle.network.specs.Decide.{Says, said, says-true, says-and, says-then, says-as, says-le, says-every, says-balance}
 use Rattle.network.specs.Ready.{There, put-is, get-is, end-is, taken-is, given-is, fired-is, says-ready}
@@ -24,11 +24,11 @@ use Rattle.network.specs.Steps.{step-written, step-more}
 
 module _ {A : Array} (W : Wired A) where
   -- the counts of a process and a stream are within the elements of its pipe, 0 without one; said of those without one
-  unfoldable pub Seat : List ℕ → ℕ → ℕ → Type 0
-  Seat st p s = (read A st (Taken p s) ≤ elementsOn A (pipeThrough A p s)) × (read A st (Given p s) ≤ elementsOn A (pipeThrough A p s))
+  unfoldable pub Port : List ℕ → ℕ → ℕ → Type 0
+  Port st p s = (read A st (Taken p s) ≤ elementsOn A (pipeThrough A p s)) × (read A st (Given p s) ≤ elementsOn A (pipeThrough A p s))
 
   unfoldable pub Off : List ℕ → Type 0
-  Off st = (p s : ℕ) → p < processCount A → s < streamCount A → onPipe A p s ≡ false → Seat st p s
+  Off st = (p s : ℕ) → p < processCount A → s < streamCount A → onPipe A p s ≡ false → Port st p s
 
   module _ (st : List ℕ) where
     Link : ℕ → ℕ → Type 0
@@ -46,14 +46,14 @@ module _ {A : Array} (W : Wired A) where
 
     -- of all processes
     Process : ℕ → Type 0
-    Process p = (countsOf A st (fire p) ≤ countAt A p) × ((s : ℕ) → s < streamCount A → Seat st p s)
+    Process p = (countsOf A st (fire p) ≤ countAt A p) × ((s : ℕ) → s < streamCount A → Port st p s)
 
     says-process : (p : ℕ) → p < processCount A → Says (Process p) (soundProcess A st p)
-    unfolding Process Seat
+    unfolding Process Port
     says-process p h =
         let x = fired-is A st p h in
         says-and (says-as (λ l. omega arith) (λ l. omega arith) (says-le (read A st (Firings p)) (countAt A p)))
-        (says-every (soundSeat A st p) (streamCount A) (λ s l.
+        (says-every (soundPort A st p) (streamCount A) (λ s l.
         says-and (says-le (read A st (Taken p s)) (elementsOn A (pipeThrough A p s)))
         (says-le (read A st (Given p s)) (elementsOn A (pipeThrough A p s)))))
 
@@ -62,7 +62,7 @@ module _ {A : Array} (W : Wired A) where
 
     -- so of all stops
     within : Processes → (q k : ℕ) → k < stopsOn A q → (countsOf A st (get q k) ≤ elementsOn A q) × (countsOf A st (put q (suc k)) ≤ elementsOn A q)
-    unfolding Processes Process Seat
+    unfolding Processes Process Port
     within f q k l =
         let z = f (processOn A q k) (W .process-lt q k l) .1 (streamOn A q) (W .stream-lt q (stop-pipe A q k l)) in
         let e = ap (elementsOn A) (W .pipe-is q k l) in
@@ -151,15 +151,15 @@ module _ {A : Array} (W : Wired A) where
                 (countsOf A st (put q k) ≤ countsOf A st (get q k) + pipeAt A q .hop)) e (w q h .1)
             go (atLeast h) m = omega (arith, no-get q k h, no-put q k h)
 
-    seat-of : Sound (netOf A) (countsOf A st) → Off st → (p s : ℕ) → p < processCount A → s < streamCount A → Seat st p s
-    unfolding Off Seat
-    seat-of S o p s h l = go (onPipe A p s) refl
+    port-of : Sound (netOf A) (countsOf A st) → Off st → (p s : ℕ) → p < processCount A → s < streamCount A → Port st p s
+    unfolding Off Port
+    port-of S o p s h l = go (onPipe A p s) refl
       where
         go : (b : Bool) → onPipe A p s ≡ b → (read A st (Taken p s) ≤ elementsOn A (pipeThrough A p s)) ×
             (read A st (Given p s) ≤ elementsOn A (pipeThrough A p s))
         go false e = o p s h l e
         go true e =
-            let z = seated A p s e in
+            let z = has-port A p s e in
             let x = ap₂ (λ (p s : ℕ). read A st (Taken p s)) (z .process) (z .stream) in
             let y = ap₂ (λ (p s : ℕ). read A st (Given p s)) (z .process) (z .stream) in
             let k : ℕ = placeAt A p s in (
@@ -185,7 +185,7 @@ module _ {A : Array} (W : Wired A) where
     says-sound =
         says-as (λ w. (sound-of-tests (w .0) (w .1), λ p s h l e. w .0 p h .1 s l))
         (λ z. (
-          λ p h. (z .0 .fires p, λ s l. seat-of (z .0) (z .1) p s h l),
+          λ p h. (z .0 .fires p, λ s l. port-of (z .0) (z .1) p s h l),
           λ q h. (
             (
               (z .0 .puts q 0 (omega arith), z .0 .gets q (stopsOn A q) (le-refl (stopsOn A q))),
@@ -211,7 +211,7 @@ module _ {A : Array} (W : Wired A) where
   pub sound-kept : (M : Memory) (a : Rules.Step) → wordCount A ≤ length (M .state) → sound A (M .state) ≡ true → There A a
       → ready A (M .state) a ≡ true
       → sound A (apply A M a .state) ≡ true
-  unfolding Off Seat
+  unfolding Off Port
   sound-kept M a l e h r =
       let z = said (says-sound (M .state)) e in
       let g = said (says-ready A (M .state) W (z .0) a h) r in

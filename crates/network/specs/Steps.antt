@@ -16,7 +16,7 @@ use Rattle.network.specs.Counters.{fire, Guard, OneMore, put≢fire, get
 use Rattle.network.specs.Sound.{Sound}
 use Rattle.network.specs.System.{word}
 use Rattle.network.specs.Good.{Granted, moves, fires, uses}
-use Rattle.network.specs.Wiring.{kindOf, netOf, elementAt, Wired, Seated, seated, placeAt, keepsAt}
+use Rattle.network.specs.Wiring.{kindOf, netOf, elementAt, Wired, HasPort, has-port, placeAt, keepsAt}
 use Rattle.network.specs.Programs.{bodyOf, systemOf}
 use Rattle.network.specs.Slots.{sent, taken, view, countsOf, outOf, wordsOf}
 use Rattle.network.specs.Slots as Slots
@@ -69,16 +69,16 @@ module _ {A : Array} (W : Wired A) where
   -- ---- on any sound state
 
   module _ (M : Memory) (long : wordCount A ≤ length (M .state)) (S : Sound (netOf A) (countsOf A (M .state))) where
-    seats : (p : ℕ) → countsOf A (M .state) (fire p) < countAt A p → (s : ℕ) → s < streamCount A → Seated A p s
-    seats p h s l = seated A p s (W .on-all p s (omega arith) l)
+    ports : (p : ℕ) → countsOf A (M .state) (fire p) < countAt A p → (s : ℕ) → s < streamCount A → HasPort A p s
+    ports p h s l = has-port A p s (W .on-all p s (omega arith) l)
 
     -- a step writes to slots only
     pub step-written : (a : Rules.Step) → There A a → Guard (netOf A) (countsOf A (M .state)) (stepOf A a) → Written W (M .state) (apply A M a .state)
     unfolding apply
     step-written (Send q) h g = send-written W (M .state) long S q h (g .1) (M .waiting)
-    step-written (Take p s) h g = take-written W (M .state) long S (pipeThrough A p s) (placeAt A p s) (seated A p s h .place-lt) (g .1)
-    step-written (Fire p) h g = fire-written W (M .state) long p h (seats p (g .0))
-    step-written (Give p s) h g = give-written W (M .state) long S (pipeThrough A p s) (placeAt A p s) (seated A p s h .place-lt) (g .1)
+    step-written (Take p s) h g = take-written W (M .state) long S (pipeThrough A p s) (placeAt A p s) (has-port A p s h .place-lt) (g .1)
+    step-written (Fire p) h g = fire-written W (M .state) long p h (ports p (g .0))
+    step-written (Give p s) h g = give-written W (M .state) long S (pipeThrough A p s) (placeAt A p s) (has-port A p s h .place-lt) (g .1)
     step-written (Receive q) h g = receive-written W (M .state) long S q h (g .1)
 
     -- and adds one to its counter, to no other
@@ -86,9 +86,9 @@ module _ {A : Array} (W : Wired A) where
         → OneMore (countsOf A (M .state)) (countsOf A (apply A M a .state)) (stepOf A a)
     unfolding apply
     step-more (Send q) h g = send-more W (M .state) long S q h (g .1) (M .waiting)
-    step-more (Take p s) h g = take-more W (M .state) long S (pipeThrough A p s) (placeAt A p s) (seated A p s h .place-lt) (g .1)
-    step-more (Fire p) h g = fire-more W (M .state) long p h (seats p (g .0))
-    step-more (Give p s) h g = give-more W (M .state) long S (pipeThrough A p s) (placeAt A p s) (seated A p s h .place-lt) (g .1)
+    step-more (Take p s) h g = take-more W (M .state) long S (pipeThrough A p s) (placeAt A p s) (has-port A p s h .place-lt) (g .1)
+    step-more (Fire p) h g = fire-more W (M .state) long p h (ports p (g .0))
+    step-more (Give p s) h g = give-more W (M .state) long S (pipeThrough A p s) (placeAt A p s) (has-port A p s h .place-lt) (g .1)
     step-more (Receive q) h g = receive-more W (M .state) long S q h (g .1)
 
     pub step-length : (a : Rules.Step) → There A a → Guard (netOf A) (countsOf A (M .state)) (stepOf A a)
@@ -139,15 +139,15 @@ module _ {A : Array} (W : Wired A) where
         (ap (λ (j : ℕ). getD (M .waiting) (partStart A q + j) 0) (put-is A (M .state) q 0 h (omega arith))
         ∙ F .waits q (view A (M .state) (sent q)) (g .0)))
     step-granted (Take p s) h g =
-        let l = seated A p s h .place-lt in
+        let l = has-port A p s h .place-lt in
         moves (λ p. get≢fire) g (step-more M (F .long) S (Take p s) h g)
         (take-moves W (M .state) (F .long) S (pipeThrough A p s) (placeAt A p s) l (g .1) waiting out
         (spare (pipeThrough A p s) (placeAt A p s) (omega arith)))
     step-granted (Fire p) h g =
         fires p refl g (step-more M (F .long) S (Fire p) h g)
-        (fire-fires W (M .state) (F .long) p h (seats M (F .long) S p (g .0)) out _ (λ q k l e. made p h (g .0) q))
+        (fire-fires W (M .state) (F .long) p h (ports M (F .long) S p (g .0)) out _ (λ q k l e. made p h (g .0) q))
     step-granted (Give p s) h g =
-        let l = seated A p s h .place-lt in
+        let l = has-port A p s h .place-lt in
         moves (λ p. put≢fire) g (step-more M (F .long) S (Give p s) h g)
         (give-moves W (M .state) (F .long) S (pipeThrough A p s) (placeAt A p s) l (g .1) waiting out _ _ _ _ (g .2))
     step-granted (Receive q) h g =

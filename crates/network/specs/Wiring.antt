@@ -148,14 +148,14 @@ module _ (A : Array) where
       go (atLeast l) = absurd (omega (arith, ap (λ (r : Pipe). length (r .elements)) (no-pipe q l)))
 
   -- where a process on a pipe of stream s stands
-  pub record Seated (p s : ℕ) : Type 0 where
+  pub record HasPort (p s : ℕ) : Type 0 where
     pub stream : streamOn A (pipeThrough A p s) ≡ s
     pub place-lt : placeAt A p s < stopsOn A (pipeThrough A p s)
     pub process : processOn A (pipeThrough A p s) (placeAt A p s) ≡ p
 
   -- what the search for a process's pipe and place found
-  pub seated : (p s : ℕ) → onPipe A p s ≡ true → Seated p s
-  seated p s h =
+  pub has-port : (p s : ℕ) → onPipe A p s ≡ true → HasPort p s
+  has-port p s h =
       let l : pipeThrough A p s < pipeNumber A = ltb-true (pipeThrough A p s) (pipeNumber A) h in
       let b =
       both-true (eqb (streamOn A (pipeThrough A p s)) s) (any (isStop p) (pipeAt A (pipeThrough A p s) .stops))
@@ -235,12 +235,12 @@ module _ {A : Array} (W : Wired A) where
 
   pub stands : (p s : ℕ) → 0 < countAt A p → s < streamCount A
       → (placeAt A p s < stopsOn A (pipeThrough A p s)) × (processOn A (pipeThrough A p s) (placeAt A p s) ≡ p)
-  stands p s h l = let z = seated A p s (W .on-all p s h l) in (z .place-lt, z .process)
+  stands p s h l = let z = has-port A p s (W .on-all p s h l) in (z .place-lt, z .process)
 
-  pub seat-is : (q k : ℕ) → k < stopsOn A q
+  pub port-is : (q k : ℕ) → k < stopsOn A q
       → (streamOn A q < streamCount A) × (pipeThrough A (processOn A q k) (streamOn A q) ≡ q)
       × (placeAt A (processOn A q k) (streamOn A q) ≡ k)
-  seat-is q k h =
+  port-is q k h =
       (W .stream-lt q (stop-pipe A q k h), W .pipe-is q k h, ap (λ (r : ℕ). placeOn A (processOn A q k) r) (W .pipe-is q k h) ∙ W .place-is q k h)
 
   pub shape : (q k : ℕ) → k < stopsOn A q
@@ -259,7 +259,7 @@ module _ {A : Array} (W : Wired A) where
         placeOn = λ p s. placeAt A p s;
         on = stands;
         streamOn = streamOn A;
-        only = λ q k h c. seat-is q k h;
+        only = λ q k h c. port-is q k h;
         shapes = shape;
       }
 

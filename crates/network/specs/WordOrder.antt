@@ -8,7 +8,7 @@ use lib.ListN.{length, getD, take, length-map}
 use lib.Seq.{take-length, length-take-le, getD-take, ext-getD}
 use Rattle.meaning.specs.Lists.{each, total, numbers, numbersFrom}
 use Rattle.meaning.specs.Array.{Array, Pipe, processCount, streamCount, pipeNumber, noPipe, pipeAt}
-use Rattle.meaning.specs.State.{Word, Firings, Taken, Given, Hand, Keep, Place, Sent, Received, End, processStart, seatStart, endStart, index, wordCount, seatWords, processWords, pipeWords, words, read}
+use Rattle.meaning.specs.State.{Word, Firings, Taken, Given, Hand, Keep, Place, Sent, Received, End, processStart, portStart, endStart, index, wordCount, portWords, processWords, pipeWords, words, read}
 use Rattle.network.specs.Lists.{total-next, length-numbers, getD-first, same-numbers}
 use Rattle.network.specs.Layout.{Live}
 
@@ -83,30 +83,30 @@ module _ (A : Array) where
   places-stand f c n b g e =
       subst₂ (λ (b : ℕ) (l : List ℕ). Upto c b l) e (sym (map-map (index A) f (numbers n) ∙ same-numbers _ _ 0 n (λ i l m. g i))) (upto-places c n)
 
-  seat-stands : (p s : ℕ) → s < streamCount A → Upto (seatStart A p s) (seatStart A p (suc s)) (map (index A) (seatWords A p s))
-  seat-stands p s h =
-      let c = seatStart A p s in
+  port-stands : (p s : ℕ) → s < streamCount A → Upto (portStart A p s) (portStart A p (suc s)) (map (index A) (portWords A p s))
+  port-stands p s h =
+      let c = portStart A p s in
       upto-more c (c + 1) (omega arith)
       (upto-more (c + 1) (c + 2) (omega arith)
       (upto-more (c + 2) (c + 3) (omega arith)
       (upto-more (c + 3) (c + 4) (omega arith)
-      (places-stand (Place p s) (c + 4) (getD (A .hops) s 0) (seatStart A p (suc s)) (λ i. refl)
+      (places-stand (Place p s) (c + 4) (getD (A .hops) s 0) (portStart A p (suc s)) (λ i. refl)
       (omega (arith, total-next (λ h. 4 + h) 0 (A .hops) s h))))))
 
   process-stands : (p : ℕ) → Upto (processStart A p) (processStart A (suc p)) (map (index A) (processWords A p))
   unfolding total
   process-stands p =
-      upto-more (processStart A p) (seatStart A p 0) first
-      (subst (λ (b : ℕ). Upto (seatStart A p 0) b (map (index A) (each (seatWords A p) (numbers (streamCount A))))) last
-      (upto-each (index A) (seatWords A p) (seatStart A p) 0 (streamCount A) (λ s l m. seat-stands p s (omega arith))))
+      upto-more (processStart A p) (portStart A p 0) first
+      (subst (λ (b : ℕ). Upto (portStart A p 0) b (map (index A) (each (portWords A p) (numbers (streamCount A))))) last
+      (upto-each (index A) (portWords A p) (portStart A p) 0 (streamCount A) (λ s l m. port-stands p s (omega arith))))
     where
-      first : seatStart A p 0 ≡ suc (processStart A p)
+      first : portStart A p 0 ≡ suc (processStart A p)
       first = omega arith
 
-      last : seatStart A p (0 + streamCount A) ≡ processStart A (suc p)
+      last : portStart A p (0 + streamCount A) ≡ processStart A (suc p)
       last =
           let e : 0 + streamCount A ≡ streamCount A = omega arith in
-          ap (seatStart A p) e ∙ omega (arith, ap (λ (hs : List ℕ). total (λ h. 4 + h) hs) (take-length (A .hops)))
+          ap (portStart A p) e ∙ omega (arith, ap (λ (hs : List ℕ). total (λ h. 4 + h) hs) (take-length (A .hops)))
 
   pipe-stands : (q : ℕ) → q < pipeNumber A → Upto (endStart A q) (endStart A (suc q)) (map (index A) (pipeWords A q))
   pipe-stands q h =
@@ -183,14 +183,14 @@ module _ (A : Array) where
         (same-each (pipeWords A) 0 (pipeNumber A) (λ q l m. pipe q (omega arith)))
         ∙ sym (map-append g (each (processWords A) (numbers (processCount A))) (each (pipeWords A) (numbers (pipeNumber A))))
       where
-        seat : (p s : ℕ) → p < processCount A → s < streamCount A → map f (seatWords A p s) ≡ map g (seatWords A p s)
-        seat p s k l i =
+        port : (p s : ℕ) → p < processCount A → s < streamCount A → map f (portWords A p s) ≡ map g (portWords A p s)
+        port p s k l i =
             h (Taken p s) (k, l) i ∷ h (Given p s) (k, l) i ∷ h (Hand p s) (k, l) i ∷ h (Keep p s) (k, l) i
             ∷ same-places (Place p s) (getD (A .hops) s 0) (λ j m. h (Place p s j) (k, l, m)) i
 
         process : (p : ℕ) → p < processCount A → map f (processWords A p) ≡ map g (processWords A p)
         process p k i =
-            h (Firings p) k i ∷ same-each (seatWords A p) 0 (streamCount A) (λ s l m. seat p s k (omega arith)) i
+            h (Firings p) k i ∷ same-each (portWords A p) 0 (streamCount A) (λ s l m. port p s k (omega arith)) i
 
         pipe : (q : ℕ) → q < pipeNumber A → map f (pipeWords A q) ≡ map g (pipeWords A q)
         pipe q k i = h (Sent q) k i ∷ h (Received q) k i ∷ same-places (End q) (pipeAt A q .hop) (λ j m. h (End q j) (k, m)) i

@@ -33,17 +33,17 @@ use Rattle.geometry.specs.Arrays.{one-number}
 use Rattle.vectors.specs.Within.{Rows, wider}
 use Rattle.numbering.specs.Extents.{Spanning, boxed, box-spanning}
 use Rattle.layout.specs.Rays.{Going}
-use Rattle.layout.specs.Ends.{processOf, numbered, Ends}
+use Rattle.layout.specs.Spans.{processOf, numbered, Spans}
 use Rattle.pipes.specs.declared.Flow.{Flow}
 use Rattle.pipes.specs.Lanes.{One, One.nobody, One.somebody, held-le as held-most}
 use Rattle.pipes.specs.Held.{entryNumber, computes, heldOn, held-is, running-below, soak-held}
 use Rattle.pipes.specs.Flow.{Flows, Seen}
 
 -- a computing process
-pub record At (f : Flow) (ends : List ℕ) (p : ℕ) : Type 0 where
+pub record At (f : Flow) (spans : List ℕ) (p : ℕ) : Type 0 where
   pub flows : Flows f
-  pub words : Ends (f .nest) ends
-  pub long : 3072 ≤ length ends
+  pub words : Spans (f .nest) spans
+  pub long : 3072 ≤ length spans
   pub lt : p < length (processes (f .nest))
   pub computing : T (computes (f .nest) p)
 
@@ -56,7 +56,7 @@ numbered-is : (n : Nest) (k : ℕ) → 0 < k → numbered n k ≡ getD (instance
 numbered-is n zero h = absurd (omega arith)
 numbered-is n (suc k) h = let e : k ≡ suc k - 1 = omega arith in ap (λ (i : ℕ). getD (instances n) i zero3) e
 
-module _ {f : Flow} {ends : List ℕ} {p : ℕ} (a : At f ends p) where
+module _ {f : Flow} {spans : List ℕ} {p : ℕ} (a : At f spans p) where
   abbrev n : Nest
   n = f .nest
 
@@ -78,17 +78,17 @@ module _ {f : Flow} {ends : List ℕ} {p : ℕ} (a : At f ends p) where
   some : 0 < count n y
   some = computing-count (accepted .layout) runs
 
-  pub first-number : (0 < getD ends (1024 + p) 0) × (getD ends (1024 + p) 0 - 1 < length (instances n))
-      × (getD (instances n) (getD ends (1024 + p) 0 - 1) zero3 ≡ first n y)
+  pub first-number : (0 < getD spans (1024 + p) 0) × (getD spans (1024 + p) 0 - 1 < length (instances n))
+      × (getD (instances n) (getD spans (1024 + p) 0 - 1) zero3 ≡ first n y)
   first-number =
       let h = a .words .first-some p (a .lt) some in
-      (h, omega (arith, a .words .first-le p (a .lt)), sym (numbered-is n (getD ends (1024 + p) 0) h) ∙ a .words .firsts p (a .lt))
+      (h, omega (arith, a .words .first-le p (a .lt)), sym (numbered-is n (getD spans (1024 + p) 0) h) ∙ a .words .firsts p (a .lt))
 
-  pub last-number : (0 < getD ends (2048 + p) 0) × (getD ends (2048 + p) 0 - 1 < length (instances n))
-      × (getD (instances n) (getD ends (2048 + p) 0 - 1) zero3 ≡ last n y)
+  pub last-number : (0 < getD spans (2048 + p) 0) × (getD spans (2048 + p) 0 - 1 < length (instances n))
+      × (getD (instances n) (getD spans (2048 + p) 0 - 1) zero3 ≡ last n y)
   last-number =
       let h = a .words .last-some p (a .lt) some in
-      (h, omega (arith, a .words .last-le p (a .lt)), sym (numbered-is n (getD ends (2048 + p) 0) h) ∙ a .words .lasts p (a .lt))
+      (h, omega (arith, a .words .last-le p (a .lt)), sym (numbered-is n (getD spans (2048 + p) 0) h) ∙ a .words .lasts p (a .lt))
 
   pub wider-map : Rows 8 (s .map)
   wider-map = let m = a .flows .laid .in-range .map in record { top = wider tt (m .top); low = wider tt (m .low) }
@@ -160,21 +160,21 @@ module _ {f : Flow} {ends : List ℕ} {p : ℕ} (a : At f ends p) where
 -- ---- by the lanes
 
 -- any process
-pub record Near (f : Flow) (ends lanes : List ℕ) (p : ℕ) : Type 0 where
-  pub seen : Seen f ends lanes
+pub record Near (f : Flow) (spans lanes : List ℕ) (p : ℕ) : Type 0 where
+  pub seen : Seen f spans lanes
   pub lt : p < length (processes (f .nest))
 
 -- and a word for each of them
-pub record Filling (f : Flow) (count : ℕ) (ends lanes out : List ℕ) : Type 0 where
-  pub seen : Seen f ends lanes
+pub record Filling (f : Flow) (count : ℕ) (spans lanes out : List ℕ) : Type 0 where
+  pub seen : Seen f spans lanes
   pub counted : count ≡ length (processes (f .nest))
   pub room : count ≤ length out
 
 -- what a test of its count says
-pub computes-is : {f : Flow} {ends lanes : List ℕ} {p : ℕ} → Near f ends lanes p → computes (f .nest) p ≡ not (eqb (getD ends p 0) 0)
-computes-is {p} h = ap (λ (k : ℕ). not (eqb k 0)) (sym (h .seen .of-ends .counts p (h .lt)))
+pub computes-is : {f : Flow} {spans lanes : List ℕ} {p : ℕ} → Near f spans lanes p → computes (f .nest) p ≡ not (eqb (getD spans p 0) 0)
+computes-is {p} h = ap (λ (k : ℕ). not (eqb k 0)) (sym (h .seen .of-spans .counts p (h .lt)))
 
-module _ {f : Flow} {ends lanes : List ℕ} {p : ℕ} (h : Near f ends lanes p) where
+module _ {f : Flow} {spans lanes : List ℕ} {p : ℕ} (h : Near f spans lanes p) where
   pub good : Accepted (f .nest) (f .stream)
   good = h .seen .flows .laid .accepted
 
@@ -240,16 +240,16 @@ module _ {f : Flow} {ends lanes : List ℕ} {p : ℕ} (h : Near f ends lanes p) 
       go (somebody q z b t r) e = absurd (omega arith)
 
   -- somebody on it
-  pub at-one : {q : ℕ} → getD lanes (3072 + getD lanes p 0) 0 ≡ q → (q ≡ 0 → ⊥) → At f ends (q - 1)
+  pub at-one : {q : ℕ} → getD lanes (3072 + getD lanes p 0) 0 ≡ q → (q ≡ 0 → ⊥) → At f spans (q - 1)
   at-one e g = go (h .seen .of-lanes .one (getD lanes p 0) entry-lt) e g
     where
       go : {w q : ℕ} → One (entryNumber (f .nest) (f .stream)) (computes (f .nest)) (length (processes (f .nest))) (getD lanes p 0) w → w ≡ q
-          → (q ≡ 0 → ⊥) → At f ends (q - 1)
+          → (q ≡ 0 → ⊥) → At f spans (q - 1)
       go (nobody z k) e g = absurd (g (sym e ∙ z))
       go {q} (somebody i z b t r) e g =
           let j : i ≡ q - 1 = omega arith in
-          subst (At f ends) j
-          (record { flows = h .seen .flows; words = h .seen .of-ends; long = h .seen .long; lt = b; computing = t })
+          subst (At f spans) j
+          (record { flows = h .seen .flows; words = h .seen .of-spans; long = h .seen .long; lt = b; computing = t })
 
   pub total-one : {q r : ℕ} → getD lanes (3072 + getD lanes p 0) 0 ≡ q → (q ≡ 0 → ⊥)
       → r ≡ length (pipeElements (f .nest) (f .stream) (processOf (f .nest) (q - 1)))
@@ -299,28 +299,28 @@ module _ {f : Flow} {ends lanes : List ℕ} {p : ℕ} (h : Near f ends lanes p) 
 
   -- ---- a row of the table
 
-  pub at-here : (getD ends p 0 ≡ 0 → ⊥) → At f ends p
+  pub at-here : (getD spans p 0 ≡ 0 → ⊥) → At f spans p
   at-here g =
       record {
         flows = h .seen .flows;
-        words = h .seen .of-ends;
+        words = h .seen .of-spans;
         long = h .seen .long;
         lt = h .lt;
-        computing = subst T (sym (computes-is h ∙ ap not (ne-eqb (getD ends p 0) 0 g))) tt;
+        computing = subst T (sym (computes-is h ∙ ap not (ne-eqb (getD spans p 0) 0 g))) tt;
       }
 
-  null : getD ends p 0 ≡ 0 → computing (f .nest) (processOf (f .nest) p) ≡ false
-  null e = computes-is h ∙ ap not (eq-eqb (getD ends p 0) 0 e)
+  null : getD spans p 0 ≡ 0 → computing (f .nest) (processOf (f .nest) p) ≡ false
+  null e = computes-is h ∙ ap not (eq-eqb (getD spans p 0) 0 e)
 
-  pub null-soak : getD ends p 0 ≡ 0 → length (pipeElements (f .nest) (f .stream) (processOf (f .nest) p))
+  pub null-soak : getD spans p 0 ≡ 0 → length (pipeElements (f .nest) (f .stream) (processOf (f .nest) p))
       ≡ rowSoak (f .nest) (f .stream) (processOf (f .nest) p)
   null-soak e = rw (null e) refl
 
-  pub null-drain : getD ends p 0 ≡ 0 → 0 ≡ rowDrain (f .nest) (f .stream) (processOf (f .nest) p)
+  pub null-drain : getD spans p 0 ≡ 0 → 0 ≡ rowDrain (f .nest) (f .stream) (processOf (f .nest) p)
   null-drain e = rw (null e) refl
 
-  pub row-soak : (getD ends p 0 ≡ 0 → ⊥) → soak (f .nest) (f .stream) (processOf (f .nest) p) ≡ rowSoak (f .nest) (f .stream) (processOf (f .nest) p)
+  pub row-soak : (getD spans p 0 ≡ 0 → ⊥) → soak (f .nest) (f .stream) (processOf (f .nest) p) ≡ rowSoak (f .nest) (f .stream) (processOf (f .nest) p)
   row-soak g = sym (yes-cond (computing (f .nest) (processOf (f .nest) p)) _ _ (at-here g .computing))
 
-  pub row-drain : (getD ends p 0 ≡ 0 → ⊥) → drain (f .nest) (f .stream) (processOf (f .nest) p) ≡ rowDrain (f .nest) (f .stream) (processOf (f .nest) p)
+  pub row-drain : (getD spans p 0 ≡ 0 → ⊥) → drain (f .nest) (f .stream) (processOf (f .nest) p) ≡ rowDrain (f .nest) (f .stream) (processOf (f .nest) p)
   row-drain g = sym (yes-cond (computing (f .nest) (processOf (f .nest) p)) _ _ (at-here g .computing))

@@ -25,11 +25,11 @@ use Rattle.geometry.specs.RowOrder.{row-lt}
 use Rattle.geometry.specs.Pipes.{Accepted}
 use Rattle.geometry.specs.Elements.{entryOf, entry-is}
 use Rattle.vectors.specs.Within.{Within2}
-use Rattle.refusals.specs.InRange.{InRange}
+use Rattle.stream_lines.specs.InRange.{InRange}
 use Rattle.numbering.specs.Ranges.{between-apart}
 use Rattle.numbering.specs.Extents.{Spanning, boxed, box-spanning}
 use Rattle.layout.specs.Rays.{Going}
-use Rattle.layout.specs.Ends.{processOf, Ends}
+use Rattle.layout.specs.Spans.{processOf, Spans}
 use Rattle.pipes.specs.declared.Flow.{Flow}
 use Rattle.pipes.specs.Lanes.{Lanes}
 use Rattle.pipes.specs.Held.{entryNumber, computes}
@@ -82,18 +82,18 @@ pub record Visitable (l : List ℕ) (p e : ℕ) : Type 0 where
   pub held : getD l (2048 + e) 0 ≤ 1024
 
 -- what the later functions look at: the words of the processes, and the lanes of all of them
-pub record Seen (f : Flow) (ends lanes : List ℕ) : Type 0 where
+pub record Seen (f : Flow) (spans lanes : List ℕ) : Type 0 where
   pub flows : Flows f
-  pub of-ends : Ends (f .nest) ends
-  pub long : 3072 ≤ length ends
+  pub of-spans : Spans (f .nest) spans
+  pub long : 3072 ≤ length spans
   pub of-lanes : Lanes (entryNumber (f .nest) (f .stream)) (computes (f .nest)) (length (processes (f .nest))) (length (processes (f .nest))) lanes
 
 -- what filling the lanes is lent
-pub record Fillable (f : Flow) (count : ℕ) (ends lanes : List ℕ) : Type 0 where
+pub record Fillable (f : Flow) (count : ℕ) (spans lanes : List ℕ) : Type 0 where
   pub flows : Flows f
   pub counted : count ≡ length (processes (f .nest))
-  pub of-ends : Ends (f .nest) ends
-  pub long : 3072 ≤ length ends
+  pub of-spans : Spans (f .nest) spans
+  pub long : 3072 ≤ length spans
   pub words : length lanes ≡ 4096
 
 module _ {f : Flow} (h : Flows f) where

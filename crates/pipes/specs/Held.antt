@@ -29,7 +29,7 @@ use Rattle.geometry.specs.Pipes.{Accepted, OnePipe, flip-pipe, join-pipe, pipe-
 use Rattle.geometry.specs.Soaks.{soak-rank}
 use Rattle.geometry.specs.Elements.{entryOf, entry-pipe, entry-is, one-entry}
 use Rattle.geometry.specs.Arrays.{one-number}
-use Rattle.layout.specs.Ends.{processOf}
+use Rattle.layout.specs.Spans.{processOf}
 use Rattle.pipes.specs.Lanes.{heldBy}
 
 -- ---- a list turned round

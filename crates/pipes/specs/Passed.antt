@@ -11,7 +11,7 @@ use Rattle.meaning.specs.declared.Stream.{Stream}
 use Rattle.meaning.specs.Space.{processes}
 use Rattle.meaning.specs.Array.{rowSoak}
 use Rattle.layout.specs.Parts.{put-before, whole-length, part-at}
-use Rattle.layout.specs.Ends.{processOf}
+use Rattle.layout.specs.Spans.{processOf}
 use Rattle.pipes.specs.Elements.{rowDrain}
 
 pub record Passed (n : Nest) (s : Stream) (w : List ℕ) : Type 0 where

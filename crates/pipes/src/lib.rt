@@ -22,7 +22,7 @@ ghost use Rattle.meaning.specs.Space.{processes, first, last};
 ghost use Rattle.meaning.specs.Pipes.{backward, pipeElements, soak, drain};
 ghost use Rattle.meaning.specs.Array.{rowSoak};
 ghost use Rattle.vectors.specs.Within.{Within2};
-ghost use Rattle.layout.specs.Ends.{processOf, Ends};
+ghost use Rattle.layout.specs.Spans.{processOf, Spans};
 ghost use Rattle.pipes.specs.Lanes.{visited};
 ghost use Rattle.pipes.specs.Held.{entryNumber, computes};
 ghost use Rattle.pipes.specs.Flow.{Laid, Flows, Visitable, Fillable, Seen};
@@ -69,7 +69,7 @@ pub fn flow_of(n: Nest, s: Stream) -> Flow
 {
     let place = n.place;
     let map = s.map;
-    let way = refusals::move_of(n, s);
+    let way = stream_lines::move_of(n, s);
     let pass = vectors::image_of(map, vectors::line_of(n, place));
     Flow {
         nest: n,
@@ -80,7 +80,7 @@ pub fn flow_of(n: Nest, s: Stream) -> Flow
         back: negated(way),
         pass: pass,
         against: negated(pass),
-        moving: refusals::moves(n, s),
+        moving: stream_lines::moves(n, s),
         turned: backward(way),
     }
 }
@@ -112,15 +112,15 @@ fn visit(lanes: &mut [u32], p: usize, e: usize, computing: bool)
 }
 
 // The lanes of all processes.
-pub fn fill_lanes(f: Flow, processes: u32, ends: &[u32], lanes: &mut [u32])
-    requires { ⌜ Fillable f processes (now ends) (now lanes) ⌝ }
-    ensures { λ r. ⌜ Seen f (now (ends .entry)) (now (lanes .exit)) ⌝ }
+pub fn fill_lanes(f: Flow, processes: u32, spans: &[u32], lanes: &mut [u32])
+    requires { ⌜ Fillable f processes (now spans) (now lanes) ⌝ }
+    ensures { λ r. ⌜ Seen f (now (spans .entry)) (now (lanes .exit)) ⌝ }
 {
-    tables::clear(4096, lanes);
+    sweeps::clear(4096, lanes);
     let mut p: u32 = 0;
     while p < processes {
         let e = entry_number(f, p);
-        visit(lanes, p as usize, e as usize, ends[p as usize] != 0);
+        visit(lanes, p as usize, e as usize, spans[p as usize] != 0);
         p += 1;
     }
 }
@@ -128,89 +128,89 @@ pub fn fill_lanes(f: Flow, processes: u32, ends: &[u32], lanes: &mut [u32])
 // ---- a computing process
 
 // The element that its first instance uses; its last one.
-fn first_element(f: Flow, ends: &[u32], p: usize) -> V2
-    requires { ⌜ At f (now ends) p ⌝ }
+fn first_element(f: Flow, spans: &[u32], p: usize) -> V2
+    requires { ⌜ At f (now spans) p ⌝ }
     ensures { λ r. ⌜ r ≡ image (f .stream .map) (first (f .nest) (processOf (f .nest) p)) ⌝ }
 {
     let n = f.nest;
     let map = f.stream.map;
-    vectors::image_of(map, numbering::instance(n, ends[1024 + p] - 1))
+    vectors::image_of(map, numbering::instance(n, spans[1024 + p] - 1))
 }
 
-fn last_element(f: Flow, ends: &[u32], p: usize) -> V2
-    requires { ⌜ At f (now ends) p ⌝ }
+fn last_element(f: Flow, spans: &[u32], p: usize) -> V2
+    requires { ⌜ At f (now spans) p ⌝ }
     ensures { λ r. ⌜ r ≡ image (f .stream .map) (last (f .nest) (processOf (f .nest) p)) ⌝ }
 {
     let n = f.nest;
     let map = f.stream.map;
-    vectors::image_of(map, numbering::instance(n, ends[2048 + p] - 1))
+    vectors::image_of(map, numbering::instance(n, spans[2048 + p] - 1))
 }
 
 // Of a moving stream: its soak, its drain, and how many elements its pipe has.
-fn soak_at(f: Flow, ends: &[u32], p: usize) -> u32
-    requires { ⌜ (At f (now ends) p) × (T (f .moving)) ⌝ }
+fn soak_at(f: Flow, spans: &[u32], p: usize) -> u32
+    requires { ⌜ (At f (now spans) p) × (T (f .moving)) ⌝ }
     ensures { λ r. ⌜ r ≡ soak (f .nest) (f .stream) (processOf (f .nest) p) ⌝ }
 {
     let elements = f.elements;
     let against = f.against;
-    layout::reach_of(elements, against, first_element(f, ends, p))
+    layout::reach_of(elements, against, first_element(f, spans, p))
 }
 
-fn drain_at(f: Flow, ends: &[u32], p: usize) -> u32
-    requires { ⌜ (At f (now ends) p) × (T (f .moving)) ⌝ }
+fn drain_at(f: Flow, spans: &[u32], p: usize) -> u32
+    requires { ⌜ (At f (now spans) p) × (T (f .moving)) ⌝ }
     ensures { λ r. ⌜ r ≡ drain (f .nest) (f .stream) (processOf (f .nest) p) ⌝ }
 {
     let elements = f.elements;
     let pass = f.pass;
-    layout::reach_of(elements, pass, last_element(f, ends, p))
+    layout::reach_of(elements, pass, last_element(f, spans, p))
 }
 
-fn length_at(f: Flow, ends: &[u32], p: usize) -> u32
-    requires { ⌜ (At f (now ends) p) × (T (f .moving)) ⌝ }
+fn length_at(f: Flow, spans: &[u32], p: usize) -> u32
+    requires { ⌜ (At f (now spans) p) × (T (f .moving)) ⌝ }
     ensures { λ r. ⌜ (r ≡ length (pipeElements (f .nest) (f .stream) (processOf (f .nest) p))) × (r ≤ 4096) ⌝ }
 {
     let elements = f.elements;
     let against = f.against;
     let pass = f.pass;
-    let e = first_element(f, ends, p);
+    let e = first_element(f, spans, p);
     layout::reach_of(elements, against, e) + 1 + layout::reach_of(elements, pass, e)
 }
 
 // ---- the lanes of a process
 
 // The entry of its line.
-pub fn entry_at(f: Flow, ends: &[u32], lanes: &[u32], p: usize) -> usize
-    requires { ⌜ Near f (now ends) (now lanes) p ⌝ }
+pub fn entry_at(f: Flow, spans: &[u32], lanes: &[u32], p: usize) -> usize
+    requires { ⌜ Near f (now spans) (now lanes) p ⌝ }
     ensures { λ r. ⌜ (r ≡ getD (now (lanes .entry)) p 0) × (r < 1024) ⌝ }
 {
     lanes[p] as usize
 }
 
 // How many compute on it, and the number plus one of one of them.
-pub fn held_at(f: Flow, ends: &[u32], lanes: &[u32], p: usize) -> u32
-    requires { ⌜ Near f (now ends) (now lanes) p ⌝ }
+pub fn held_at(f: Flow, spans: &[u32], lanes: &[u32], p: usize) -> u32
+    requires { ⌜ Near f (now spans) (now lanes) p ⌝ }
     ensures { λ r. ⌜ r ≡ getD (now (lanes .entry)) (2048 + getD (now (lanes .entry)) p 0) 0 ⌝ }
 {
-    let e = entry_at(f, ends, lanes, p);
+    let e = entry_at(f, spans, lanes, p);
     lanes[2048 + e]
 }
 
-fn one_at(f: Flow, ends: &[u32], lanes: &[u32], p: usize) -> u32
-    requires { ⌜ Near f (now ends) (now lanes) p ⌝ }
+fn one_at(f: Flow, spans: &[u32], lanes: &[u32], p: usize) -> u32
+    requires { ⌜ Near f (now spans) (now lanes) p ⌝ }
     ensures { λ r. ⌜ r ≡ getD (now (lanes .entry)) (3072 + getD (now (lanes .entry)) p 0) 0 ⌝ }
 {
-    let e = entry_at(f, ends, lanes, p);
+    let e = entry_at(f, spans, lanes, p);
     lanes[3072 + e]
 }
 
 // Of a stationary stream: its soak, the number of computing processes before it on its pipe.
-pub fn rank_at(f: Flow, ends: &[u32], lanes: &[u32], p: usize) -> u32
-    requires { ⌜ (Near f (now ends) (now lanes) p) × (T (computes (f .nest) p)) × (f .moving ≡ false) ⌝ }
+pub fn rank_at(f: Flow, spans: &[u32], lanes: &[u32], p: usize) -> u32
+    requires { ⌜ (Near f (now spans) (now lanes) p) × (T (computes (f .nest) p)) × (f .moving ≡ false) ⌝ }
     ensures { λ r. ⌜ r ≡ soak (f .nest) (f .stream) (processOf (f .nest) p) ⌝ }
 {
     let running = lanes[1024 + p];
     if f.turned {
-        held_at(f, ends, lanes, p) - 1 - running
+        held_at(f, spans, lanes, p) - 1 - running
     } else {
         running
     }
@@ -219,87 +219,87 @@ pub fn rank_at(f: Flow, ends: &[u32], lanes: &[u32], p: usize) -> u32
 // ---- any process
 
 // How many elements its pipe has, 0 without a pipe.
-pub fn total_at(f: Flow, ends: &[u32], lanes: &[u32], p: usize) -> u32
-    requires { ⌜ Near f (now ends) (now lanes) p ⌝ }
+pub fn total_at(f: Flow, spans: &[u32], lanes: &[u32], p: usize) -> u32
+    requires { ⌜ Near f (now spans) (now lanes) p ⌝ }
     ensures { λ r. ⌜ (r ≡ length (pipeElements (f .nest) (f .stream) (processOf (f .nest) p))) × (r ≤ 4096) ⌝ }
 {
     if f.moving {
-        let q = one_at(f, ends, lanes, p);
+        let q = one_at(f, spans, lanes, p);
         if q == 0 {
             0
         } else {
-            length_at(f, ends, q as usize - 1)
+            length_at(f, spans, q as usize - 1)
         }
     } else {
-        held_at(f, ends, lanes, p)
+        held_at(f, spans, lanes, p)
     }
 }
 
 // Its soak as the table has it: of a null process the number of its pipe's elements.
-pub fn soak_of(f: Flow, ends: &[u32], lanes: &[u32], p: usize) -> u32
-    requires { ⌜ Near f (now ends) (now lanes) p ⌝ }
+pub fn soak_of(f: Flow, spans: &[u32], lanes: &[u32], p: usize) -> u32
+    requires { ⌜ Near f (now spans) (now lanes) p ⌝ }
     ensures { λ r. ⌜ r ≡ rowSoak (f .nest) (f .stream) (processOf (f .nest) p) ⌝ }
 {
-    if ends[p] == 0 {
-        return total_at(f, ends, lanes, p);
+    if spans[p] == 0 {
+        return total_at(f, spans, lanes, p);
     }
     if f.moving {
-        soak_at(f, ends, p)
+        soak_at(f, spans, p)
     } else {
-        rank_at(f, ends, lanes, p)
+        rank_at(f, spans, lanes, p)
     }
 }
 
 // Its drain, of a null process 0.
-fn drain_of(f: Flow, ends: &[u32], lanes: &[u32], p: usize) -> u32
-    requires { ⌜ Near f (now ends) (now lanes) p ⌝ }
+fn drain_of(f: Flow, spans: &[u32], lanes: &[u32], p: usize) -> u32
+    requires { ⌜ Near f (now spans) (now lanes) p ⌝ }
     ensures { λ r. ⌜ r ≡ rowDrain (f .nest) (f .stream) (processOf (f .nest) p) ⌝ }
 {
-    if ends[p] == 0 {
+    if spans[p] == 0 {
         return 0;
     }
     if f.moving {
-        drain_at(f, ends, p)
+        drain_at(f, spans, p)
     } else {
-        let rank = rank_at(f, ends, lanes, p);
-        held_at(f, ends, lanes, p) - 1 - rank
+        let rank = rank_at(f, spans, lanes, p);
+        held_at(f, spans, lanes, p) - 1 - rank
     }
 }
 
 // The soaks of all processes; their drains.
-fn fill_soaks(f: Flow, processes: u32, ends: &[u32], lanes: &[u32], out: &mut [u32])
-    requires { ⌜ Filling f processes (now ends) (now lanes) (now out) ⌝ }
+fn fill_soaks(f: Flow, processes: u32, spans: &[u32], lanes: &[u32], out: &mut [u32])
+    requires { ⌜ Filling f processes (now spans) (now lanes) (now out) ⌝ }
     ensures { λ r. ⌜ now (out .exit) ≡ fillBy (λ p. rowSoak (f .nest) (f .stream) (processOf (f .nest) p)) processes (now (out .entry)) ⌝ }
 {
     let mut p: u32 = 0;
     while p < processes {
-        out[p as usize] = soak_of(f, ends, lanes, p as usize);
+        out[p as usize] = soak_of(f, spans, lanes, p as usize);
         p += 1;
     }
 }
 
-fn fill_drains(f: Flow, processes: u32, ends: &[u32], lanes: &[u32], out: &mut [u32])
-    requires { ⌜ Filling f processes (now ends) (now lanes) (now out) ⌝ }
+fn fill_drains(f: Flow, processes: u32, spans: &[u32], lanes: &[u32], out: &mut [u32])
+    requires { ⌜ Filling f processes (now spans) (now lanes) (now out) ⌝ }
     ensures { λ r. ⌜ now (out .exit) ≡ fillBy (λ p. rowDrain (f .nest) (f .stream) (processOf (f .nest) p)) processes (now (out .entry)) ⌝ }
 {
     let mut p: u32 = 0;
     while p < processes {
-        out[p as usize] = drain_of(f, ends, lanes, p as usize);
+        out[p as usize] = drain_of(f, spans, lanes, p as usize);
         p += 1;
     }
 }
 
 // The soaks of a stream at all processes, and from word 1,024 on its drains; the words of the processes are lent as `layout::fill_processes` leaves
 // them.
-pub fn fill_stream(n: Nest, s: Stream, ends: &[u32], block: &mut [u32])
-    requires { ⌜ (Laid n s) × (Ends n (now ends)) × (3072 ≤ length (now ends)) × (2048 ≤ length (now block)) ⌝ }
+pub fn fill_stream(n: Nest, s: Stream, spans: &[u32], block: &mut [u32])
+    requires { ⌜ (Laid n s) × (Spans n (now spans)) × (3072 ≤ length (now spans)) × (2048 ≤ length (now block)) ⌝ }
     ensures { λ r. ⌜ Passed n s (now (block .exit)) ⌝ }
 {
     let f = flow_of(n, s);
     let space = f.space;
     let processes = numbering::size_of(space);
     let mut lanes = [0u32; 4096];
-    fill_lanes(f, processes, ends, &mut lanes);
-    fill_soaks(f, processes, ends, &lanes, &mut block[0..1024]);
-    fill_drains(f, processes, ends, &lanes, &mut block[1024..2048]);
+    fill_lanes(f, processes, spans, &mut lanes);
+    fill_soaks(f, processes, spans, &lanes, &mut block[0..1024]);
+    fill_drains(f, processes, spans, &lanes, &mut block[1024..2048]);
 }

@@ -28,7 +28,7 @@ use Rattle.vectors.specs.Within.{Rows}
 use Rattle.numbering.specs.declared.Extent.{Extent}
 use Rattle.numbering.specs.Ranges.{Bounded}
 use Rattle.numbering.specs.Extents.{boxed, Numbered, Spanning, box-spanning, image-inside}
-use Rattle.refusals.specs.InRange.{InRange, in-range}
+use Rattle.stream_lines.specs.InRange.{InRange, in-range}
 use Rattle.elements.specs.Counts.{Few, in-use, start-next, start-most}
 use Rattle.body.specs.Fit.{Runnable}
 use Rattle.plain.specs.Columns.{column, column-length, column-other, column-at}

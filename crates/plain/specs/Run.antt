@@ -24,7 +24,7 @@ use Rattle.meaning.specs.Body.{execute, executeAll, finalValues}
 use Rattle.meaning.specs.Accept.{refusalOf}
 use Rattle.meaning.specs.Calls.{lengthOf, answer, plainRun}
 use Rattle.decode.specs.Refusals.{passed}
-use Rattle.refusals.specs.Accepted.{accepted-within}
+use Rattle.stream_lines.specs.Accepted.{accepted-within}
 use Rattle.elements.specs.Few.{accepted-few}
 use Rattle.body.specs.Execute.{executeAt, execute-touched}
 use Rattle.plain.specs.Places.{Fitting, Table, lent}

@@ -167,8 +167,8 @@ pub fn plain_run(board: u32, s: &[u8], values: &[u32], output: &mut [u32]) -> An
     ensures { λ r. ⌜ (r ≡ plainRun (limitsOf board) (now (s .entry)) (now (values .entry)) (now (output .entry)) .answer)
         × (now (output .exit) ≡ plainRun (limitsOf board) (now (s .entry)) (now (values .entry)) (now (output .entry)) .output) ⌝ }
 {
-    let mut ends = [0u32; 3072];
-    let r = verdict::refusal_of(board, s, &mut ends);
+    let mut spans = [0u32; 3072];
+    let r = refuse::refusal_of(board, s, &mut spans);
     if r == 0 {
         run_accepted(decode::description(s), values, output)
     } else {

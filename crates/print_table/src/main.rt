@@ -88,7 +88,7 @@ fn print_accepted(board: u32, s: &[u8], f: Figures) {
     print_figures(f);
     let loops = integers::bits_at(s, 0);
     let streams = integers::bits_at(s, 1);
-    let listed = rows::table(s, 1024, board);
+    let listed = table_rows::table(s, 1024, board);
     let rows = listed.rows;
     print_rows(rows, f.processes, loops, streams);
 }

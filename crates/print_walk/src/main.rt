@@ -63,9 +63,9 @@ fn print_whole(n: Nest, walk: &[i32], loops: u32)
 }
 
 fn print_walk(board: u32, s: &[u8]) {
-    let mut ends = [0u32; 3072];
+    let mut spans = [0u32; 3072];
     let mut walk = [0i32; 12288];
-    let refusal = verdict::walk_of(board, s, &mut ends, &mut walk);
+    let refusal = refuse::walk_of(board, s, &mut spans, &mut walk);
     if refusal == 0 {
         let n = decode::description(s).nest;
         print_whole(n, &walk, integers::bits_at(s, 0));

@@ -1,4 +1,4 @@
--- What the call answers and leaves, by the book of an array, and that this is what document 01 says. Assumes nothing.
+-- What the call answers and leaves, by the port table of an array, and that this is what document 01 says. Assumes nothing.
 use mathlib.Core.Path.{_≡_, refl, sym, _∙_, ap, ap₂}
 use mathlib.Core.Bool.{Bool, true, false, cond}
 use mathlib.Core.List.{List, [], _∷_, _++_}
@@ -15,17 +15,17 @@ use Rattle.meaning.specs.Description.{descriptionOf}
 use Rattle.meaning.specs.Array.{arrayOf}
 use Rattle.meaning.specs.Rules.{Memory}
 use Rattle.meaning.specs.Calls.{canMove, memoryTests, refusedBy, Readied, readyCall}
-use Rattle.book.specs.declared.Size.{Size}
-use Rattle.book.specs.Planned.{RowsFit}
-use Rattle.steps.specs.Meaning.{Stands}
-use Rattle.memory.specs.Opening.{Opened, grounds, own-last}
-use Rattle.memory.specs.Opened.{fits, stands}
+use Rattle.port_table.specs.declared.Size.{Size}
+use Rattle.port_table.specs.PortsOf.{RowsFit}
+use Rattle.step_rules.specs.Meaning.{Stands}
+use Rattle.opening.specs.Opening.{Opened, grounds, own-last}
+use Rattle.opening.specs.Opened.{fits, stands}
 use Rattle.bits.specs.Words.{cleared, marked, onesOf, lowestFrom}
 use Rattle.bits.specs.Ready.{markedTo, readied, ready-call}
 use Rattle.ready.specs.Moves.{movesBy}
 use Rattle.ready.specs.Meaning.{moves-is}
 
--- ---- by a book
+-- ---- by a port table
 
 -- how many bits are set in the first sixteen words, and the lowest, n if there is none
 abbrev pub answerOf : ℕ → List ℕ → Readiness
@@ -51,7 +51,7 @@ module _ (b st : List ℕ) (z : Size) (words : List ℕ) where
   unfolding answerBy leftBy
   answer-marked h e = let t = le-ltb (length words) 16 h in (rw (t, e) refl, rw t e)
 
--- ---- by the book of an array
+-- ---- by the port table of an array
 
 -- tests that agree on the first n processes
 marked-same : (f g : ℕ → Bool) (n : ℕ) (words : List ℕ) → ((p : ℕ) → p < n → f p ≡ g p) → markedTo f n words ≡ markedTo g n words
@@ -64,7 +64,7 @@ marked-same f g (suc n) words h =
 abbrev pub Readies : Limits → List ℕ → List ℕ → Memory → Readiness → List ℕ → Type 0
 Readies l s words M r w = (r ≡ readyCall l s words M .answer) × (w ≡ readyCall l s words M .words)
 
--- the rows of the book fit the state
+-- the rows of the port table fit the state
 pub opened-fits : (s : List ℕ) (M : Memory) {b : List ℕ} {z : Size} → Opened s M b z → RowsFit (length (M .state)) b z
 opened-fits s M o = fits (grounds s (o .accepted)) (o .stood)
 

@@ -1,4 +1,4 @@
--- By the book of an array, a process can move where the code says so. Assumes nothing.
+-- By the port table of an array, a process can move where the code says so. Assumes nothing.
 use mathlib.Core.Path.{_≡_, refl, sym, _∙_, ap, ap₂}
 use mathlib.Core.Logic.{_⊎_, inl, inr}
 use mathlib.Core.Bool.{Bool, true, false, cond, _||_}
@@ -8,19 +8,19 @@ use native.Mathlib.Omega.{arith}
 use Rattle.meaning.specs.Lists.{any, numbers}
 use Rattle.meaning.specs.Array.{Array, streamCount}
 use Rattle.meaning.specs.Rules.{sound, Take, Fire, Give, Memory, ready, stepsOf}
-use Rattle.seats.specs.Moves.{canTake, canGive}
-use Rattle.firing.specs.Firing.{canFire}
-use Rattle.book.specs.declared.Size.{Size}
-use Rattle.book.specs.Planned.{seatAt, seatsAt}
-use Rattle.steps.specs.Steps.{canBy}
-use Rattle.steps.specs.Fits.{Inside}
-use Rattle.steps.specs.Meaning.{Stands, can-is}
+use Rattle.take_give.specs.Moves.{canTake, canGive}
+use Rattle.fire.specs.Firing.{canFire}
+use Rattle.port_table.specs.declared.Size.{Size}
+use Rattle.port_table.specs.PortsOf.{portAt, portsAt}
+use Rattle.step_rules.specs.Steps.{canBy}
+use Rattle.step_rules.specs.Fits.{Inside}
+use Rattle.step_rules.specs.Meaning.{Stands, can-is}
 use Rattle.ready.specs.Any.{any-same, any-append, any-map, any-either}
 use Rattle.ready.specs.Moves.{passesBy, movesBy}
 
 -- a take, a fire or a give has a process and a stream
 inside : {z : Size} (k p i : ℕ) → 0 < k → k < 4 → p < z .processes → i < z .streams → Inside z k p i
-inside {z} k p i a b h l = record { pipe = λ o. absurd (never o); process = λ a b. h; seat = λ o. l }
+inside {z} k p i a b h l = record { pipe = λ o. absurd (never o); process = λ a b. h; port = λ o. l }
   where
     never : (k ≡ 0) ⊎ (3 < k) → ⊥
     never (inl e) = omega arith
@@ -54,15 +54,15 @@ module _ {A : Array} {b : List ℕ} {z : Size} (s : Stands A b z) (M : Memory) (
   abbrev st : List ℕ
   st = M .state
 
-  take-is : (i : ℕ) → i < z .streams → canTake st (seatAt b p i) ≡ ready A st (Take p i)
+  take-is : (i : ℕ) → i < z .streams → canTake st (portAt b p i) ≡ ready A st (Take p i)
   unfolding canBy
   take-is i l = can-is s M t 1 p i (inside 1 p i (omega arith) (omega arith) h l)
 
-  give-is : (i : ℕ) → i < z .streams → canGive st (seatAt b p i) ≡ ready A st (Give p i)
+  give-is : (i : ℕ) → i < z .streams → canGive st (portAt b p i) ≡ ready A st (Give p i)
   unfolding canBy
   give-is i l = can-is s M t 3 p i (inside 3 p i (omega arith) (omega arith) h l)
 
-  fire-is : canFire st (seatsAt b p) (z .streams) ≡ ready A st (Fire p)
+  fire-is : canFire st (portsAt b p) (z .streams) ≡ ready A st (Fire p)
   unfolding canBy
   fire-is = can-is s M t 2 p 0 (inside 2 p 0 (omega arith) (omega arith) h (s .size .some))
 

@@ -3,8 +3,8 @@
 // specs/, by file:
 //
 //   Any       a test for some number below one, as a loop makes it
-//   Moves     whether a process can move, by the rows of a book, as the code has it
-//   Meaning   by the book of an array it is document 01's: `moves-is`
+//   Moves     whether a process can move, by the rows of a port table, as the code has it
+//   Meaning   by the port table of an array it is document 01's: `moves-is`
 //   Call      what the call answers and leaves
 ghost use mathlib.Core.Path.{_≡_};
 ghost use Prim.Native.Nat.{_≤_, _<_};
@@ -12,52 +12,52 @@ ghost use lib.ListN.{length};
 ghost use Rattle.meaning.specs.Limits.{limitsOf};
 ghost use Rattle.meaning.specs.Rules.{memoryOf};
 ghost use Rattle.meaning.specs.Calls.{readyCall};
-ghost use Rattle.book.specs.Planned.{RowsFit};
+ghost use Rattle.port_table.specs.PortsOf.{RowsFit};
 ghost use Rattle.bits.specs.Words.{cleared};
 ghost use Rattle.bits.specs.Ready.{markedTo};
 ghost use Rattle.ready.specs.Moves.{passesBy, movesBy};
 ghost use Rattle.ready.specs.Call.{answerBy, leftBy};
-use book::Size;
+use port_table::Size;
 use meaning::Readiness;
 
 // Whether process p can take or give on stream i.
-fn can_pass(book: &[u32], state: &[u32], z: Size, p: usize, i: usize) -> bool
-    requires { ⌜ (RowsFit (length (now state)) (now book) z) × (p < z .processes) × (i < z .streams) ⌝ }
-    ensures { λ r. ⌜ r ≡ passesBy (now (book .entry)) (now (state .entry)) p i ⌝ }
+fn can_pass(ports: &[u32], state: &[u32], z: Size, p: usize, i: usize) -> bool
+    requires { ⌜ (RowsFit (length (now state)) (now ports) z) × (p < z .processes) × (i < z .streams) ⌝ }
+    ensures { λ r. ⌜ r ≡ passesBy (now (ports .entry)) (now (state .entry)) p i ⌝ }
 {
-    let k = book::seat(book, p, i);
-    let takes = seats::can_take(state, k);
-    let gives = seats::can_give(state, k);
+    let k = port_table::port(ports, p, i);
+    let takes = take_give::can_take(state, k);
+    let gives = take_give::can_give(state, k);
     takes || gives
 }
 
 // Whether process p can take, fire or give.
-fn can_move(book: &[u32], state: &[u32], z: Size, p: usize) -> bool
-    requires { ⌜ (RowsFit (length (now state)) (now book) z) × (p < z .processes) ⌝ }
-    ensures { λ r. ⌜ r ≡ movesBy (now (book .entry)) (now (state .entry)) (z .streams) p ⌝ }
+fn can_move(ports: &[u32], state: &[u32], z: Size, p: usize) -> bool
+    requires { ⌜ (RowsFit (length (now state)) (now ports) z) × (p < z .processes) ⌝ }
+    ensures { λ r. ⌜ r ≡ movesBy (now (ports .entry)) (now (state .entry)) (z .streams) p ⌝ }
 {
     let m = z.streams;
     let mut i = 0;
     while i < m {
-        if can_pass(book, state, z, p, i) {
+        if can_pass(ports, state, z, p, i) {
             return true;
         }
         i += 1;
     }
-    steps::can_fire(book, state, z, p)
+    step_rules::can_fire(ports, state, z, p)
 }
 
 // The bits of the processes that can move are set, and all others of the sixteen words cleared.
-fn mark_ready(book: &[u32], state: &[u32], z: Size, words: &mut [u64])
-    requires { ⌜ (RowsFit (length (now state)) (now book) z) × (16 ≤ length (now words)) ⌝ }
+fn mark_ready(ports: &[u32], state: &[u32], z: Size, words: &mut [u64])
+    requires { ⌜ (RowsFit (length (now state)) (now ports) z) × (16 ≤ length (now words)) ⌝ }
     ensures { λ r. ⌜ now (words .exit)
-        ≡ markedTo (movesBy (now (book .entry)) (now (state .entry)) (z .streams)) (z .processes) (cleared (now (words .entry))) ⌝ }
+        ≡ markedTo (movesBy (now (ports .entry)) (now (state .entry)) (z .streams)) (z .processes) (cleared (now (words .entry))) ⌝ }
 {
     bits::clear(words);
     let n = z.processes;
     let mut p = 0;
     while p < n {
-        if can_move(book, state, z, p) {
+        if can_move(ports, state, z, p) {
             bits::mark(words, p as u32);
         }
         p += 1;
@@ -65,15 +65,15 @@ fn mark_ready(book: &[u32], state: &[u32], z: Size, words: &mut [u64])
 }
 
 // The call once the memory is opened: 27, or the words, how many and the lowest.
-fn ready_opened(book: &[u32], state: &[u32], z: Size, words: &mut [u64]) -> Readiness
-    requires { ⌜ RowsFit (length (now state)) (now book) z ⌝ }
-    ensures { λ r. ⌜ (r ≡ answerBy (now (book .entry)) (now (state .entry)) z (now (words .entry)))
-        × (now (words .exit) ≡ leftBy (now (book .entry)) (now (state .entry)) z (now (words .entry))) ⌝ }
+fn ready_opened(ports: &[u32], state: &[u32], z: Size, words: &mut [u64]) -> Readiness
+    requires { ⌜ RowsFit (length (now state)) (now ports) z ⌝ }
+    ensures { λ r. ⌜ (r ≡ answerBy (now (ports .entry)) (now (state .entry)) z (now (words .entry)))
+        × (now (words .exit) ≡ leftBy (now (ports .entry)) (now (state .entry)) z (now (words .entry))) ⌝ }
 {
     if words.len() < 16 {
         return Readiness::Refused(27);
     }
-    mark_ready(book, state, z, words);
+    mark_ready(ports, state, z, words);
     let processes = z.processes as u32;
     Readiness::Ready {
         count: bits::count(words),
@@ -95,13 +95,13 @@ pub fn ready(
         × (now (words .exit) ≡ readyCall (limitsOf board) (now (s .entry)) (now (words .entry))
         (memoryOf (now (waiting .entry)) (now (received .entry)) (now (state .entry))) .words) ⌝ }
 {
-    let mut ends = [0u32; 3072];
-    let mut book = [0u32; 116736];
-    let o = memory::open(board, s, waiting, received, state, &mut ends, &mut book);
+    let mut spans = [0u32; 3072];
+    let mut ports = [0u32; 116736];
+    let o = opening::open(board, s, waiting, received, state, &mut spans, &mut ports);
     let r = o.refusal;
     if r == 0 {
         let z = o.size;
-        ready_opened(&book, state, z, words)
+        ready_opened(&ports, state, z, words)
     } else {
         Readiness::Refused(r)
     }

@@ -20,11 +20,11 @@ use Rattle.meaning.specs.Accept.{refusalOf}
 use Rattle.meaning.specs.Rules.{Memory}
 use Rattle.meaning.specs.Calls.{lengthOf, orElse, memoryTests, refusedBy, answer, allOut, result}
 use Rattle.decode.specs.Refusals.{passed}
-use Rattle.places.specs.Order.{Placeable, placeable}
-use Rattle.book.specs.declared.Size.{Size}
-use Rattle.book.specs.Planned.{SizeOf, Planned, RowsFit}
-use Rattle.memory.specs.Opening.{Opened, grounds, own-last}
-use Rattle.memory.specs.Opened.{size-of, fits}
+use Rattle.element_places.specs.Order.{Placeable, placeable}
+use Rattle.port_table.specs.declared.Size.{Size}
+use Rattle.port_table.specs.PortsOf.{SizeOf, PortsOf, RowsFit}
+use Rattle.opening.specs.Opening.{Opened, grounds, own-last}
+use Rattle.opening.specs.Opened.{size-of, fits}
 use Rattle.result.specs.Out.{outBy, all-out}
 use Rattle.result.specs.Order.{elementOrder}
 
@@ -40,10 +40,10 @@ pub record Called (s received state output : List ℕ) (r : Answer) (out : List 
   pub answers : r ≡ answer (refusal (testsOf s state output))
   pub leaves : out ≡ cond (eqb (refusal (testsOf s state output)) 0) (elementOrder (descriptionOf s) received) output
 
--- an accepted description, the book of its array, and a memory that fits them
+-- an accepted description, the port table of its array, and a memory that fits them
 pub record Drawable (s b : List ℕ) (z : Size) (received state : List ℕ) : Type 0 where
   pub accepted : refusalOf gaugeLimits s ≡ 0
-  pub planned : Planned (arrayOf (descriptionOf s)) b
+  pub planned : PortsOf (arrayOf (descriptionOf s)) b
   pub size : SizeOf (arrayOf (descriptionOf s)) z
   pub rows : RowsFit (length state) b z
   pub long : length received ≡ lengthOf (descriptionOf s)

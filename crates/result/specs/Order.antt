@@ -13,8 +13,8 @@ use Rattle.meaning.specs.Calls.{lengthOf}
 use Rattle.geometry.specs.Members.{map-at, numbers-length, numbers-at}
 use Rattle.geometry.specs.Places.{found}
 use Rattle.geometry.specs.PipeOrder.{numbers-all, list-length}
-use Rattle.stations.specs.Orders.{found-at}
-use Rattle.places.specs.Order.{PlacesOf, Placeable, placeOfElement, elements-most}
+use Rattle.addresses.specs.Orders.{found-at}
+use Rattle.element_places.specs.Order.{PlacesOf, Placeable, placeOfElement, elements-most}
 
 -- the value at the place of element e
 abbrev pub placed : List ℕ → List ℕ → ℕ → ℕ

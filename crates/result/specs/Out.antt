@@ -10,19 +10,19 @@ use Rattle.meaning.specs.declared.Limits.{Limits}
 use Rattle.meaning.specs.Lists.{every, numbers, numbersFrom}
 use Rattle.meaning.specs.Array.{pipeNumber}
 use Rattle.meaning.specs.Calls.{A, isOut, allOut}
-use Rattle.links.specs.declared.End.{End}
-use Rattle.links.specs.Links.{word}
-use Rattle.book.specs.declared.Size.{Size}
-use Rattle.book.specs.Planned.{endAt, SizeOf, Planned, RowsFit}
+use Rattle.ports.specs.declared.End.{End}
+use Rattle.ports.specs.Links.{word}
+use Rattle.port_table.specs.declared.Size.{Size}
+use Rattle.port_table.specs.PortsOf.{endAt, SizeOf, PortsOf, RowsFit}
 
--- of pipe q, by the rows of a book
+-- of pipe q, by the rows of a port table
 abbrev outOf : List ℕ → End → Bool
 outOf st e = eqb (word st (e .received)) (e .total)
 
 abbrev pub outBy : List ℕ → List ℕ → ℕ → Bool
 outBy b st q = outOf st (endAt b q)
 
--- a book whose rows of so many pipes say where their counts are in a state of n words
+-- a port table whose rows of so many pipes say where their counts are in a state of n words
 pub record Asked (b : List ℕ) (n pipes : ℕ) : Type 0 where
   pub words : length b ≡ 116736
   pub most : pipes ≤ 6144
@@ -42,8 +42,8 @@ every-same f g i zero h = refl
 every-same f g i (suc n) h =
     ap₂ (λ (a b : Bool). cond a b false) (h i (omega arith)) (every-same f g (suc i) n (λ q l. h q (omega arith)))
 
--- by the book of an array they are those of document 01
-pub all-out : (l : Limits) (s : List ℕ) {b : List ℕ} {z : Size} → Planned (A l s) b → SizeOf (A l s) z → (st : List ℕ)
+-- by the port table of an array they are those of document 01
+pub all-out : (l : Limits) (s : List ℕ) {b : List ℕ} {z : Size} → PortsOf (A l s) b → SizeOf (A l s) z → (st : List ℕ)
     → every (outBy b st) (numbers (z .pipes)) ≡ allOut l s st
 all-out l s {b} planned size st =
     ap (λ (n : ℕ). every (outBy b st) (numbers n)) (size .pipes)

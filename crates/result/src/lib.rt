@@ -2,7 +2,7 @@
 //
 // specs/, by file:
 //
-//   Out       all values are out: by the book of an array, as document 01 says it
+//   Out       all values are out: by the port table of an array, as document 01 says it
 //   Order     values read at their elements' places are in element order: `ordered`
 //   Call      the call's own refusals, and what it answers and leaves
 ghost use mathlib.Core.Path.{_≡_};
@@ -15,24 +15,24 @@ ghost use Rattle.meaning.specs.Limits.{limitsOf};
 ghost use Rattle.meaning.specs.Description.{descriptionOf};
 ghost use Rattle.meaning.specs.Rules.{memoryOf};
 ghost use Rattle.meaning.specs.Calls.{lengthOf, result};
-ghost use Rattle.layout.specs.Ends.{Ends};
-ghost use Rattle.places.specs.Order.{Placeable};
+ghost use Rattle.layout.specs.Spans.{Spans};
+ghost use Rattle.element_places.specs.Order.{Placeable};
 ghost use Rattle.result.specs.Out.{outBy, Asked};
 ghost use Rattle.result.specs.Order.{placed, Readable, elementOrder};
 ghost use Rattle.result.specs.Call.{ownTests, Called, Drawable};
-use book::Size;
+use port_table::Size;
 use meaning::Answer;
 use meaning::Description;
 
 // Whether every pipe is wholly received.
-fn all_out(book: &[u32], state: &[u32], pipes: usize) -> bool
-    requires { ⌜ Asked (now book) (length (now state)) pipes ⌝ }
-    ensures { λ r. ⌜ r ≡ every (outBy (now (book .entry)) (now (state .entry))) (numbers pipes) ⌝ }
+fn all_out(ports: &[u32], state: &[u32], pipes: usize) -> bool
+    requires { ⌜ Asked (now ports) (length (now state)) pipes ⌝ }
+    ensures { λ r. ⌜ r ≡ every (outBy (now (ports .entry)) (now (state .entry))) (numbers pipes) ⌝ }
 {
     let mut q = 0;
     while q < pipes {
-        let e = book::end(book, q);
-        if links::word(state, e.received) != e.total {
+        let e = port_table::end(ports, q);
+        if ports::word(state, e.received) != e.total {
             return false;
         }
         q += 1;
@@ -53,13 +53,13 @@ fn put_in_order(received: &[u32], places: &[u32], elements: usize, output: &mut 
     }
 }
 
-fn fill_output(d: Description, ends: &[u32], received: &[u32], output: &mut [u32])
+fn fill_output(d: Description, spans: &[u32], received: &[u32], output: &mut [u32])
     requires { ⌜ (Placeable d) × (length (now received) ≡ lengthOf d) × (length (now output) ≡ lengthOf d)
-        × (Ends (d .nest) (now ends)) × (3072 ≤ length (now ends)) ⌝ }
+        × (Spans (d .nest) (now spans)) × (3072 ≤ length (now spans)) ⌝ }
     ensures { λ r. ⌜ now (output .exit) ≡ elementOrder d (now (received .entry)) ⌝ }
 {
     let mut places = [0u32; 24576];
-    places::fill_places(d, ends, &mut places);
+    element_places::fill_places(d, spans, &mut places);
     put_in_order(received, &places, received.len(), output);
 }
 
@@ -73,21 +73,21 @@ fn own_refusal(out: bool, fits: bool) -> u32
 // The call once the memory is opened.
 fn result_opened(
     s: &[u8],
-    book: &[u32],
-    ends: &[u32],
+    ports: &[u32],
+    spans: &[u32],
     z: Size,
     received: &[u32],
     state: &[u32],
     output: &mut [u32],
 ) -> Answer
-    requires { ⌜ (Drawable (now s) (now book) z (now received) (now state))
-        × (Ends (descriptionOf (now s) .nest) (now ends)) × (3072 ≤ length (now ends)) ⌝ }
+    requires { ⌜ (Drawable (now s) (now ports) z (now received) (now state))
+        × (Spans (descriptionOf (now s) .nest) (now spans)) × (3072 ≤ length (now spans)) ⌝ }
     ensures { λ r. ⌜ Called (now (s .entry)) (now (received .entry)) (now (state .entry)) (now (output .entry)) r (now (output .exit)) ⌝ }
 {
-    let out = all_out(book, state, z.pipes);
+    let out = all_out(ports, state, z.pipes);
     let r = own_refusal(out, output.len() == received.len());
     if r == 0 {
-        fill_output(decode::description(s), ends, received, output);
+        fill_output(decode::description(s), spans, received, output);
         Answer::Done
     } else {
         Answer::Refused(r)
@@ -108,14 +108,14 @@ pub fn result(
         × (now (output .exit)
         ≡ result (limitsOf board) (now (s .entry)) (now (output .entry)) (memoryOf (now (waiting .entry)) (now (received .entry)) (now (state .entry))) .output) ⌝ }
 {
-    let mut ends = [0u32; 3072];
-    let mut book = [0u32; 116736];
-    let o = memory::open(board, s, waiting, received, state, &mut ends, &mut book);
+    let mut spans = [0u32; 3072];
+    let mut ports = [0u32; 116736];
+    let o = opening::open(board, s, waiting, received, state, &mut spans, &mut ports);
     let r = o.refusal;
     if r == 0 {
         let z = o.size;
-        let ends = &ends;
-        result_opened(s, &book, ends, z, received, state, output)
+        let spans = &spans;
+        result_opened(s, &ports, spans, z, received, state, output)
     } else {
         Answer::Refused(r)
     }

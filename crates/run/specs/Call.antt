@@ -12,8 +12,8 @@ use Rattle.meaning.specs.Description.{descriptionOf}
 use Rattle.meaning.specs.Array.{arrayOf}
 use Rattle.meaning.specs.Rules.{Memory, anyReady, runSteps, applyAll}
 use Rattle.meaning.specs.Calls.{memoryTests, refusedBy, run}
-use Rattle.book.specs.declared.Size.{Size}
-use Rattle.watch.specs.Watch.{flagAt}
+use Rattle.port_table.specs.declared.Size.{Size}
+use Rattle.wakeups.specs.Wakeups.{flagAt}
 use Rattle.run.specs.Runs.{Ended, any-left}
 
 -- what it answers and leaves once the memory is opened

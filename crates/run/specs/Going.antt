@@ -18,14 +18,14 @@ use Rattle.network.specs.Steps.{waiting-same, received-length, step-length}
 use Rattle.network.specs.States.{says-sound, sound-kept}
 use Rattle.network.specs.Wiring.{Wired}
 use Rattle.guarantee.specs.Wired.{wired}
-use Rattle.stations.specs.Indices.{word-count}
-use Rattle.links.specs.Links.{both}
-use Rattle.book.specs.declared.Size.{Size}
-use Rattle.book.specs.Planned.{SizeOf}
-use Rattle.steps.specs.Steps.{by-last}
-use Rattle.steps.specs.Fits.{Inside}
-use Rattle.steps.specs.Meaning.{stepNamed, Kind, Kind.is-send, Kind.is-take, Kind.is-fire, Kind.is-give, Kind.is-receive, kind-of}
-use Rattle.memory.specs.Opening.{Opened}
+use Rattle.addresses.specs.Indices.{word-count}
+use Rattle.ports.specs.Links.{both}
+use Rattle.port_table.specs.declared.Size.{Size}
+use Rattle.port_table.specs.PortsOf.{SizeOf}
+use Rattle.step_rules.specs.Steps.{by-last}
+use Rattle.step_rules.specs.Fits.{Inside}
+use Rattle.step_rules.specs.Meaning.{stepNamed, Kind, Kind.is-send, Kind.is-take, Kind.is-fire, Kind.is-give, Kind.is-receive, kind-of}
+use Rattle.opening.specs.Opening.{Opened}
 
 -- a ready step that is in range is one of the array's
 pub there-named : (A : Array) {z : Size} → SizeOf A z → (st : List ℕ) (kind number stream : ℕ) → Inside z kind number stream

@@ -13,27 +13,27 @@ use Rattle.meaning.specs.Array.{Array, arrayOf}
 use Rattle.meaning.specs.Rules.{Step, Memory, at, nothing, ready, apply, lowest, anyReady, runSteps, applyAll}
 use Rattle.network.specs.Calls.{apply-append}
 use Rattle.network.specs.Ready.{There}
-use Rattle.book.specs.declared.Size.{Size}
-use Rattle.flags.specs.Flags.{Kept}
-use Rattle.steps.specs.declared.Program.{Program}
-use Rattle.steps.specs.Steps.{programOf}
-use Rattle.steps.specs.Fits.{Programmed, Inside}
-use Rattle.steps.specs.Meaning.{Stands, can-is}
-use Rattle.ranks.specs.Ranks.{Sized, rankCount, nameAt, stepAt, steps-most}
-use Rattle.ranks.specs.Names.{name-inside}
-use Rattle.ranks.specs.Order.{lowest-some, lowest-none, any-ready}
-use Rattle.watch.specs.Watch.{canAt, flagAt, Watched}
-use Rattle.memory.specs.Opening.{Grounds, grounds, Opened}
-use Rattle.memory.specs.Opened.{stands, fits}
+use Rattle.port_table.specs.declared.Size.{Size}
+use Rattle.ready_set.specs.Flags.{Kept}
+use Rattle.step_rules.specs.declared.Program.{Program}
+use Rattle.step_rules.specs.Steps.{programOf}
+use Rattle.step_rules.specs.Fits.{Programmed, Inside}
+use Rattle.step_rules.specs.Meaning.{Stands, can-is}
+use Rattle.step_order.specs.Ranks.{Sized, rankCount, nameAt, stepAt, steps-most}
+use Rattle.step_order.specs.Names.{name-inside}
+use Rattle.step_order.specs.Order.{lowest-some, lowest-none, any-ready}
+use Rattle.wakeups.specs.Wakeups.{canAt, flagAt, WakeupsOf}
+use Rattle.opening.specs.Opening.{Grounds, grounds, Opened}
+use Rattle.opening.specs.Opened.{stands, fits}
 use Rattle.run.specs.Positions.{position-hit, bounded-some, bounded-none}
 use Rattle.run.specs.Going.{there-named, state-length, opened-step}
 
 -- what the loop starts with
-pub record Started (s : List ℕ) (g : Program) (b ends watch : List ℕ) (z : Size) (M : Memory) (flags : List ℕ) : Type 0 where
+pub record Started (s : List ℕ) (g : Program) (b spans wakeups : List ℕ) (z : Size) (M : Memory) (flags : List ℕ) : Type 0 where
   pub opened : Opened s M b z
   pub program : g ≡ programOf (descriptionOf s)
-  pub programmed : Programmed g ends b z
-  pub watched : Watched b z watch
+  pub programmed : Programmed g spans b z
+  pub wakeups-of : WakeupsOf b z wakeups
   pub kept : Kept (flagAt b (M .state) z) flags
 
 -- a memory that is in order, with the flags of its ready steps

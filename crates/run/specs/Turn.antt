@@ -13,28 +13,28 @@ use Rattle.meaning.specs.Array.{Array, arrayOf}
 use Rattle.meaning.specs.Limits.{gaugeLimits, stateWordsMost}
 use Rattle.meaning.specs.Rules.{Memory, ready, apply}
 use Rattle.guarantee.specs.Wired.{wired}
-use Rattle.book.specs.declared.Size.{Size}
-use Rattle.book.specs.Planned.{RowsFit, PartsFit}
+use Rattle.port_table.specs.declared.Size.{Size}
+use Rattle.port_table.specs.PortsOf.{RowsFit, PartsFit}
 use Rattle.vectors.specs.Within.{Within}
-use Rattle.layout.specs.Ends.{Ends}
-use Rattle.flags.specs.Flags.{Kept}
-use Rattle.flags.specs.Keeping.{kept-none}
-use Rattle.steps.specs.declared.Program.{Program}
-use Rattle.steps.specs.Steps.{programOf, canBy, actBy}
-use Rattle.steps.specs.Fits.{Programmed, Inside}
-use Rattle.steps.specs.Meaning.{act-is}
-use Rattle.ranks.specs.Ranks.{Sized, rankCount, nameAt, stepAt}
-use Rattle.ranks.specs.declared.Name.{Name}
-use Rattle.watch.specs.Watch.{canAt, flagAt, Apart, Watched, Local}
-use Rattle.watch.specs.Meaning.{apart, local}
-use Rattle.fitting.specs.Sizes.{words-few}
-use Rattle.stations.specs.Indices.{word-count}
-use Rattle.memory.specs.Opening.{Grounds, grounds, Opened}
-use Rattle.memory.specs.Opened.{fits, waiting-fits, received-fits, stands, programmed, performs}
+use Rattle.layout.specs.Spans.{Spans}
+use Rattle.ready_set.specs.Flags.{Kept}
+use Rattle.ready_set.specs.Keeping.{kept-none}
+use Rattle.step_rules.specs.declared.Program.{Program}
+use Rattle.step_rules.specs.Steps.{programOf, canBy, actBy}
+use Rattle.step_rules.specs.Fits.{Programmed, Inside}
+use Rattle.step_rules.specs.Meaning.{act-is}
+use Rattle.step_order.specs.Ranks.{Sized, rankCount, nameAt, stepAt}
+use Rattle.step_order.specs.declared.Name.{Name}
+use Rattle.wakeups.specs.Wakeups.{canAt, flagAt, Apart, WakeupsOf, Local}
+use Rattle.wakeups.specs.Meaning.{apart, local}
+use Rattle.port_fits.specs.Sizes.{words-few}
+use Rattle.addresses.specs.Indices.{word-count}
+use Rattle.opening.specs.Opening.{Grounds, grounds, Opened}
+use Rattle.opening.specs.Opened.{fits, waiting-fits, received-fits, stands, programmed, performs}
 use Rattle.run.specs.Going.{long}
 use Rattle.run.specs.Runs.{Started, Partly, sized, inside, some-rank, can-rank, lowest-at, rank-ready, opened-next, words-next, partly-next}
 
--- the rows of a book lie in the table of words
+-- the rows of a port table lie in the table of words
 pub rows-in-table : {s : List ℕ} {M : Memory} {b : List ℕ} {z : Size} → Opened s M b z → RowsFit stateWordsMost b z
 rows-in-table {s} {b = b} {z} o =
     let g = grounds s (o .accepted) in
@@ -57,8 +57,8 @@ module _ {s : List ℕ} {M : Memory} {b : List ℕ} {z : Size} (o : Opened s M b
   flags-ask = (fits (grounds s (o .accepted)) (o .stood), table-asks .1, kept-none)
 
   -- the loop starts
-  pub starts : {d : Description} {g : Program} {ends watch flags : List ℕ} → d ≡ descriptionOf s → g ≡ programOf d → Within 200 (g .increment)
-      → Ends (descriptionOf s .nest) ends → length ends ≡ 3072 → Watched b z watch → Kept (flagAt b (M .state) z) flags → Started s g b ends watch z M flags
+  pub starts : {d : Description} {g : Program} {spans wakeups flags : List ℕ} → d ≡ descriptionOf s → g ≡ programOf d → Within 200 (g .increment)
+      → Spans (descriptionOf s .nest) spans → length spans ≡ 3072 → WakeupsOf b z wakeups → Kept (flagAt b (M .state) z) flags → Started s g b spans wakeups z M flags
   starts e f w h l t k =
       let p = f ∙ ap programOf e in
       let i : Within 200 (increment (descriptionOf s .nest)) = rw p at w in
@@ -66,11 +66,11 @@ module _ {s : List ℕ} {M : Memory} {b : List ℕ} {z : Size} (o : Opened s M b
         opened = o;
         program = p;
         programmed = rw p (programmed (grounds s (o .accepted)) (o .stood) h l i);
-        watched = t;
+        wakeups-of = t;
         kept = k;
       }
 
-module _ {s : List ℕ} {g : Program} {b ends watch : List ℕ} {z : Size} {M₀ : Memory} {flags₀ : List ℕ} (st : Started s g b ends watch z M₀ flags₀)
+module _ {s : List ℕ} {g : Program} {b spans wakeups : List ℕ} {z : Size} {M₀ : Memory} {flags₀ : List ℕ} (st : Started s g b spans wakeups z M₀ flags₀)
     {steps : ℕ} {done : ℕ} {M : Memory} {flags : List ℕ} (h : Partly s b z steps M₀ done M flags)
     {r : ℕ} (e : r ≡ position (flagAt b (M .state) z) (numbers 32768)) (l : r < 32768) where
   abbrev A : Array
@@ -89,7 +89,7 @@ module _ {s : List ℕ} {g : Program} {b ends watch : List ℕ} {z : Size} {M₀
   can = can-rank (h .ready) e l
 
   -- what the step asks
-  pub asks : (RowsFit (length (M .state)) b z) × (Programmed g ends b z) × (Inside z (name .kind) (name .number) (name .stream))
+  pub asks : (RowsFit (length (M .state)) b z) × (Programmed g spans b z) × (Inside z (name .kind) (name .number) (name .stream))
       × (PartsFit (length (M .waiting)) b z) × (PartsFit (length (M .received)) b z)
       × (canBy b (M .state) (z .streams) (name .kind) (name .number) (name .stream) ≡ true)
   asks =
@@ -108,17 +108,17 @@ module _ {s : List ℕ} {g : Program} {b ends watch : List ℕ} {z : Size} {M₀
     next = subst (λ (N : Memory). Opened s N b z) (sym (m ∙ acted)) (opened-next (h .ready) r (rank-in .1) can)
 
     -- what the flags ask
-    pub renews : (RowsFit (length (M' .state)) b z) × (RowsFit stateWordsMost b z) × (Sized z) × (Watched b z watch) × (r < rankCount z) × (length flags ≡ 33824)
-    renews = (fits ground (next .stood), rows-in-table next, rank-in .0, st .watched, rank-in .1, h .ready .kept .words)
+    pub renews : (RowsFit (length (M' .state)) b z) × (RowsFit stateWordsMost b z) × (Sized z) × (WakeupsOf b z wakeups) × (r < rankCount z) × (length flags ≡ 33824)
+    renews = (fits ground (next .stood), rows-in-table next, rank-in .0, st .wakeups-of, rank-in .1, h .ready .kept .words)
 
-    nearby : Local b z watch (M .state) (M' .state) r
+    nearby : Local b z wakeups (M .state) (M' .state) r
     nearby =
-        subst (λ (N : Memory). Local b z watch (M .state) (N .state) r) (sym (m ∙ acted))
-        (local (wired gaugeLimits s (h .ready .opened .accepted)) (stands ground (h .ready .opened .stood)) (words-few s (h .ready .opened .accepted)) M watch (st .watched)
+        subst (λ (N : Memory). Local b z wakeups (M .state) (N .state) r) (sym (m ∙ acted))
+        (local (wired gaugeLimits s (h .ready .opened .accepted)) (stands ground (h .ready .opened .stood)) (words-few s (h .ready .opened .accepted)) M wakeups (st .wakeups-of)
         (long (h .ready .opened)) (h .ready .opened .stood .sound) r (rank-in .1) can)
 
     pub turned : {flags' : List ℕ} → done < steps
-        → ((old : List ℕ) → Local b z watch old (M' .state) r → Kept (flagAt b old z) flags → Kept (flagAt b (M' .state) z) flags')
+        → ((old : List ℕ) → Local b z wakeups old (M' .state) r → Kept (flagAt b old z) flags → Kept (flagAt b (M' .state) z) flags')
         → Partly s b z steps M₀ (done + 1) M' flags'
     turned k f =
         partly-next h (stepAt z r) k (lowest-at (h .ready) e l) (m ∙ acted) (record { opened = next; kept = f (M .state) nearby (h .ready .kept) })

@@ -14,21 +14,21 @@ ghost use Rattle.meaning.specs.Limits.{limitsOf};
 ghost use Rattle.meaning.specs.Description.{descriptionOf};
 ghost use Rattle.meaning.specs.Rules.{memoryOf};
 ghost use Rattle.meaning.specs.Calls.{run};
-ghost use Rattle.layout.specs.Ends.{Ends};
-ghost use Rattle.memory.specs.Opening.{Opened};
+ghost use Rattle.layout.specs.Spans.{Spans};
+ghost use Rattle.opening.specs.Opening.{Opened};
 ghost use Rattle.run.specs.Runs.{Started, Ended};
 ghost use Rattle.run.specs.Call.{RanBy};
-use book::Size;
+use port_table::Size;
 use meaning::Ran;
-use steps::Program;
+use step_rules::Program;
 
 // Steps, lowest first, until there are enough or none is ready; how many were done.
 fn run_steps(
     s: &[u8],
     g: Program,
-    book: &[u32],
-    ends: &[u32],
-    watch: &[u32],
+    ports: &[u32],
+    spans: &[u32],
+    wakeups: &[u32],
     z: Size,
     steps: u32,
     waiting: &[u32],
@@ -36,22 +36,22 @@ fn run_steps(
     state: &mut [u32],
     flags: &mut [u32],
 ) -> u32
-    requires { ⌜ Started (now s) g (now book) (now ends) (now watch) z (memoryOf (now waiting) (now received) (now state)) (now flags) ⌝ }
-    ensures { λ r. ⌜ Ended (now (s .entry)) (now (book .entry)) z steps (memoryOf (now (waiting .entry)) (now (received .entry)) (now (state .entry))) r
+    requires { ⌜ Started (now s) g (now ports) (now spans) (now wakeups) z (memoryOf (now waiting) (now received) (now state)) (now flags) ⌝ }
+    ensures { λ r. ⌜ Ended (now (s .entry)) (now (ports .entry)) z steps (memoryOf (now (waiting .entry)) (now (received .entry)) (now (state .entry))) r
         (memoryOf (now (waiting .entry)) (now (received .exit)) (now (state .exit))) (now (flags .exit)) ⌝ }
 {
     let mut done: u32 = 0;
     while done < steps {
-        let r = flags::lowest(flags);
+        let r = ready_set::lowest(flags);
         if r < 32768 {
-            let n = ranks::name_of(z, r);
+            let n = step_order::name_of(z, r);
             let kind = n.kind;
             let number = n.number;
             let stream = n.stream;
-            steps::act(
+            step_rules::act(
                 g,
-                book,
-                ends,
+                ports,
+                spans,
                 z,
                 kind,
                 number,
@@ -60,7 +60,7 @@ fn run_steps(
                 received,
                 state,
             );
-            watch::refresh(book, watch, state, z, r, flags);
+            wakeups::refresh(ports, wakeups, state, z, r, flags);
             done += 1;
         } else {
             return done;
@@ -72,30 +72,30 @@ fn run_steps(
 // The call once the memory is opened.
 fn run_opened(
     s: &[u8],
-    book: &[u32],
-    ends: &[u32],
+    ports: &[u32],
+    spans: &[u32],
     z: Size,
     steps: u32,
     waiting: &[u32],
     received: &mut [u32],
     state: &mut [u32],
 ) -> Ran
-    requires { ⌜ (Opened (now s) (memoryOf (now waiting) (now received) (now state)) (now book) z)
-        × (Ends (descriptionOf (now s) .nest) (now ends)) × (length (now ends) ≡ 3072) ⌝ }
+    requires { ⌜ (Opened (now s) (memoryOf (now waiting) (now received) (now state)) (now ports) z)
+        × (Spans (descriptionOf (now s) .nest) (now spans)) × (length (now spans) ≡ 3072) ⌝ }
     ensures { λ r. ⌜ RanBy (now (s .entry)) steps (memoryOf (now (waiting .entry)) (now (received .entry)) (now (state .entry))) r
         (memoryOf (now (waiting .entry)) (now (received .exit)) (now (state .exit))) ⌝ }
 {
-    let g = steps::program_of(decode::description(s));
-    let mut watch = [0u32; 99329];
-    watch::fill_watch(book, z, &mut watch);
+    let g = step_rules::program_of(decode::description(s));
+    let mut wakeups = [0u32; 99329];
+    wakeups::fill_wakeups(ports, z, &mut wakeups);
     let mut flags = [0u32; 33824];
-    watch::fill_flags(book, state, z, &mut flags);
+    wakeups::fill_flags(ports, state, z, &mut flags);
     let done = run_steps(
         s,
         g,
-        book,
-        ends,
-        &watch,
+        ports,
+        spans,
+        &wakeups,
         z,
         steps,
         waiting,
@@ -105,7 +105,7 @@ fn run_opened(
     );
     Ran::Ran {
         steps: done,
-        ready: flags::lowest(&flags) < 32768,
+        ready: ready_set::lowest(&flags) < 32768,
     }
 }
 
@@ -122,14 +122,14 @@ pub fn run(
         × (memoryOf (now (waiting .entry)) (now (received .exit)) (now (state .exit))
         ≡ run (limitsOf board) (now (s .entry)) steps (memoryOf (now (waiting .entry)) (now (received .entry)) (now (state .entry))) .memory) ⌝ }
 {
-    let mut ends = [0u32; 3072];
-    let mut book = [0u32; 116736];
-    let o = memory::open(board, s, waiting, received, state, &mut ends, &mut book);
+    let mut spans = [0u32; 3072];
+    let mut ports = [0u32; 116736];
+    let o = opening::open(board, s, waiting, received, state, &mut spans, &mut ports);
     let r = o.refusal;
     if r == 0 {
         let z = o.size;
-        let ends = &ends;
-        run_opened(s, &book, ends, z, steps, waiting, received, state)
+        let spans = &spans;
+        run_opened(s, &ports, spans, z, steps, waiting, received, state)
     } else {
         Ran::Refused(r)
     }

@@ -21,7 +21,7 @@ use Rattle.meaning.specs.Rules.{Memory, memoryOf}
 use Rattle.meaning.specs.Accept.{refusalOf, figures}
 use Rattle.meaning.specs.Calls.{lengthOf, stateLength, answer, start}
 use Rattle.decode.specs.Refusals.{neither, passed}
-use Rattle.places.specs.Order.{PlacesOf, Placeable, elements-most}
+use Rattle.element_places.specs.Order.{PlacesOf, Placeable, elements-most}
 use Rattle.start.specs.Values.{Puttable, put, puttable, gathered, cleared, cleared-all}
 
 -- what the call leaves where nothing is refused

@@ -15,9 +15,9 @@ use Rattle.geometry.specs.Members.{map-at}
 use Rattle.geometry.specs.Places.{getD-in, Found, found}
 use Rattle.geometry.specs.Descriptions.{Laid}
 use Rattle.geometry.specs.PipeOrder.{numbers-lt, numbers-all, list-length}
-use Rattle.stations.specs.Orders.{found-at}
-use Rattle.places.specs.Spread.{spread, spread-length, spread-puts}
-use Rattle.places.specs.Order.{PlacesOf}
+use Rattle.addresses.specs.Orders.{found-at}
+use Rattle.element_places.specs.Spread.{spread, spread-length, spread-puts}
+use Rattle.element_places.specs.Order.{PlacesOf}
 
 -- ---- values put
 

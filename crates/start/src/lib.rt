@@ -11,8 +11,8 @@ ghost use Rattle.meaning.specs.Tests.{refusal};
 ghost use Rattle.meaning.specs.Limits.{limitsOf};
 ghost use Rattle.meaning.specs.Rules.{memoryOf};
 ghost use Rattle.meaning.specs.Calls.{start};
-ghost use Rattle.layout.specs.Ends.{Ends};
-ghost use Rattle.places.specs.Order.{Placeable};
+ghost use Rattle.layout.specs.Spans.{Spans};
+ghost use Rattle.element_places.specs.Order.{Placeable};
 ghost use Rattle.start.specs.Values.{Puttable, put};
 ghost use Rattle.start.specs.Call.{startedBy, ownTests, Called, Fitting};
 use meaning::Answer;
@@ -36,21 +36,21 @@ fn put_values(values: &[u32], places: &[u32], waiting: &mut [u32])
 fn fill_memory(
     d: Description,
     f: Figures,
-    ends: &[u32],
+    spans: &[u32],
     values: &[u32],
     waiting: &mut [u32],
     received: &mut [u32],
     state: &mut [u32],
 )
-    requires { ⌜ (Fitting d f (now values) (memoryOf (now waiting) (now received) (now state))) × (Ends (d .nest) (now ends)) × (3072 ≤ length (now ends)) ⌝ }
+    requires { ⌜ (Fitting d f (now values) (memoryOf (now waiting) (now received) (now state))) × (Spans (d .nest) (now spans)) × (3072 ≤ length (now spans)) ⌝ }
     ensures { λ r. ⌜ memoryOf (now (waiting .exit)) (now (received .exit)) (now (state .exit))
         ≡ startedBy d (now (values .entry)) (memoryOf (now (waiting .entry)) (now (received .entry)) (now (state .entry))) ⌝ }
 {
     let mut places = [0u32; 24576];
-    places::fill_places(d, ends, &mut places);
+    element_places::fill_places(d, spans, &mut places);
     put_values(values, &places, waiting);
-    tables::clear(f.elements, received);
-    tables::clear(f.words, state);
+    sweeps::clear(f.elements, received);
+    sweeps::clear(f.words, state);
 }
 
 // The first of the refusals 20, 26 and 21 that applies to lists of such lengths, 0 if none does.
@@ -74,20 +74,20 @@ fn own_refusal(f: Figures, values: usize, waiting: usize, received: usize, state
 // The call on an accepted description.
 fn start_accepted(
     d: Description,
-    ends: &[u32],
+    spans: &[u32],
     values: &[u32],
     waiting: &mut [u32],
     received: &mut [u32],
     state: &mut [u32],
 ) -> Answer
-    requires { ⌜ (Placeable d) × (Ends (d .nest) (now ends)) × (3072 ≤ length (now ends)) ⌝ }
+    requires { ⌜ (Placeable d) × (Spans (d .nest) (now spans)) × (3072 ≤ length (now spans)) ⌝ }
     ensures { λ r. ⌜ Called d (now (values .entry)) (memoryOf (now (waiting .entry)) (now (received .entry)) (now (state .entry))) r
         (memoryOf (now (waiting .exit)) (now (received .exit)) (now (state .exit))) ⌝ }
 {
-    let f = accept::figures_of(d, ends);
+    let f = accept::figures_of(d, spans);
     let r = own_refusal(f, values.len(), waiting.len(), received.len(), state.len());
     if r == 0 {
-        fill_memory(d, f, ends, values, waiting, received, state);
+        fill_memory(d, f, spans, values, waiting, received, state);
         Answer::Done
     } else {
         Answer::Refused(r)
@@ -107,13 +107,13 @@ pub fn start(
         × (memoryOf (now (waiting .exit)) (now (received .exit)) (now (state .exit))
         ≡ start (limitsOf board) (now (s .entry)) (now (values .entry)) (memoryOf (now (waiting .entry)) (now (received .entry)) (now (state .entry))) .memory) ⌝ }
 {
-    let mut ends = [0u32; 3072];
-    let r = verdict::refusal_of(board, s, &mut ends);
+    let mut spans = [0u32; 3072];
+    let r = refuse::refusal_of(board, s, &mut spans);
     if r == 0 {
-        let ends = &ends;
+        let spans = &spans;
         start_accepted(
             decode::description(s),
-            ends,
+            spans,
             values,
             waiting,
             received,

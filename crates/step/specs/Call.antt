@@ -14,12 +14,12 @@ use Rattle.meaning.specs.Description.{descriptionOf}
 use Rattle.meaning.specs.Array.{arrayOf}
 use Rattle.meaning.specs.Rules.{Memory, Found, at, nothing, ready, apply}
 use Rattle.meaning.specs.Calls.{answer, memoryTests, refusedBy, stepOf, isNothing, readyAt, applied, step}
-use Rattle.book.specs.declared.Size.{Size}
-use Rattle.steps.specs.Steps.{programOf, canBy, actBy}
-use Rattle.steps.specs.Fits.{Inside}
-use Rattle.steps.specs.Meaning.{stepNamed, can-is, act-is}
-use Rattle.memory.specs.Opening.{Grounds, Stood, Opened, grounds, own-last}
-use Rattle.memory.specs.Opened.{stands, performs}
+use Rattle.port_table.specs.declared.Size.{Size}
+use Rattle.step_rules.specs.Steps.{programOf, canBy, actBy}
+use Rattle.step_rules.specs.Fits.{Inside}
+use Rattle.step_rules.specs.Meaning.{stepNamed, can-is, act-is}
+use Rattle.opening.specs.Opening.{Grounds, Stood, Opened, grounds, own-last}
+use Rattle.opening.specs.Opened.{stands, performs}
 use Rattle.step.specs.Named.{namedBy, named-is, named-inside}
 
 -- a step that is named and ready

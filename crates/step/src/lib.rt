@@ -11,23 +11,23 @@ ghost use Rattle.meaning.specs.Description.{descriptionOf};
 ghost use Rattle.meaning.specs.Array.{arrayOf};
 ghost use Rattle.meaning.specs.Rules.{memoryOf, apply};
 ghost use Rattle.meaning.specs.Calls.{step};
-ghost use Rattle.layout.specs.Ends.{Ends};
-ghost use Rattle.steps.specs.Meaning.{stepNamed};
-ghost use Rattle.memory.specs.Opening.{Opened};
-ghost use Rattle.step.specs.Named.{seatedBy, namedBy, Rows};
+ghost use Rattle.layout.specs.Spans.{Spans};
+ghost use Rattle.step_rules.specs.Meaning.{stepNamed};
+ghost use Rattle.opening.specs.Opening.{Opened};
+ghost use Rattle.step.specs.Named.{hasPortBy, namedBy, Rows};
 ghost use Rattle.step.specs.Call.{Stepped, Steppable};
-use book::Size;
+use port_table::Size;
 use meaning::Answer;
 use meaning::Description;
 
 // Whether process p is on a pipe of stream i.
-fn seated(book: &[u32], z: Size, p: usize, i: usize) -> bool
-    requires { ⌜ Rows (now book) z ⌝ }
-    ensures { λ r. ⌜ r ≡ seatedBy (now (book .entry)) z p i ⌝ }
+fn has_port(ports: &[u32], z: Size, p: usize, i: usize) -> bool
+    requires { ⌜ Rows (now ports) z ⌝ }
+    ensures { λ r. ⌜ r ≡ hasPortBy (now (ports .entry)) z p i ⌝ }
 {
     if p < z.processes {
         if i < z.streams {
-            let k = book::seat(book, p, i);
+            let k = port_table::port(ports, p, i);
             0 < k.total
         } else {
             false
@@ -38,15 +38,15 @@ fn seated(book: &[u32], z: Size, p: usize, i: usize) -> bool
 }
 
 // Whether a step has that name.
-fn named(book: &[u32], z: Size, kind: u32, number: usize, stream: usize) -> bool
-    requires { ⌜ Rows (now book) z ⌝ }
-    ensures { λ r. ⌜ r ≡ namedBy (now (book .entry)) z kind number stream ⌝ }
+fn named(ports: &[u32], z: Size, kind: u32, number: usize, stream: usize) -> bool
+    requires { ⌜ Rows (now ports) z ⌝ }
+    ensures { λ r. ⌜ r ≡ namedBy (now (ports .entry)) z kind number stream ⌝ }
 {
     match kind {
         0 => number < z.pipes,
-        1 => seated(book, z, number, stream),
+        1 => has_port(ports, z, number, stream),
         2 => number < z.processes,
-        3 => seated(book, z, number, stream),
+        3 => has_port(ports, z, number, stream),
         4 => number < z.pipes,
         _ => false,
     }
@@ -55,8 +55,8 @@ fn named(book: &[u32], z: Size, kind: u32, number: usize, stream: usize) -> bool
 // The step of that name is done.
 fn perform(
     d: Description,
-    book: &[u32],
-    ends: &[u32],
+    ports: &[u32],
+    spans: &[u32],
     z: Size,
     kind: u32,
     number: usize,
@@ -65,16 +65,16 @@ fn perform(
     received: &mut [u32],
     state: &mut [u32],
 )
-    requires { ⌜ (Steppable d (now book) z kind number stream (memoryOf (now waiting) (now received) (now state)))
-        × (Ends (d .nest) (now ends)) × (length (now ends) ≡ 3072) ⌝ }
+    requires { ⌜ (Steppable d (now ports) z kind number stream (memoryOf (now waiting) (now received) (now state)))
+        × (Spans (d .nest) (now spans)) × (length (now spans) ≡ 3072) ⌝ }
     ensures { λ r. ⌜ memoryOf (now (waiting .entry)) (now (received .exit)) (now (state .exit))
         ≡ apply (arrayOf d) (memoryOf (now (waiting .entry)) (now (received .entry)) (now (state .entry))) (stepNamed kind number stream) ⌝ }
 {
-    let g = steps::program_of(d);
-    steps::act(
+    let g = step_rules::program_of(d);
+    step_rules::act(
         g,
-        book,
-        ends,
+        ports,
+        spans,
         z,
         kind,
         number,
@@ -88,8 +88,8 @@ fn perform(
 // The call once the memory is opened.
 fn step_opened(
     s: &[u8],
-    book: &[u32],
-    ends: &[u32],
+    ports: &[u32],
+    spans: &[u32],
     z: Size,
     kind: u32,
     number: usize,
@@ -98,18 +98,18 @@ fn step_opened(
     received: &mut [u32],
     state: &mut [u32],
 ) -> Answer
-    requires { ⌜ (Opened (now s) (memoryOf (now waiting) (now received) (now state)) (now book) z)
-        × (Ends (descriptionOf (now s) .nest) (now ends)) × (length (now ends) ≡ 3072) ⌝ }
+    requires { ⌜ (Opened (now s) (memoryOf (now waiting) (now received) (now state)) (now ports) z)
+        × (Spans (descriptionOf (now s) .nest) (now spans)) × (length (now spans) ≡ 3072) ⌝ }
     ensures { λ r. ⌜ Stepped (now (s .entry)) kind number stream (memoryOf (now (waiting .entry)) (now (received .entry)) (now (state .entry))) r
         (memoryOf (now (waiting .entry)) (now (received .exit)) (now (state .exit))) ⌝ }
 {
-    if named(book, z, kind, number, stream) {
-        if steps::can(book, state, z, kind, number, stream) {
+    if named(ports, z, kind, number, stream) {
+        if step_rules::can(ports, state, z, kind, number, stream) {
             let d = decode::description(s);
             perform(
                 d,
-                book,
-                ends,
+                ports,
+                spans,
                 z,
                 kind,
                 number,
@@ -142,17 +142,17 @@ pub fn step(
         × (memoryOf (now (waiting .entry)) (now (received .exit)) (now (state .exit))
         ≡ step (limitsOf board) (now (s .entry)) kind number stream (memoryOf (now (waiting .entry)) (now (received .entry)) (now (state .entry))) .memory) ⌝ }
 {
-    let mut ends = [0u32; 3072];
-    let mut book = [0u32; 116736];
-    let o = memory::open(board, s, waiting, received, state, &mut ends, &mut book);
+    let mut spans = [0u32; 3072];
+    let mut ports = [0u32; 116736];
+    let o = opening::open(board, s, waiting, received, state, &mut spans, &mut ports);
     let r = o.refusal;
     if r == 0 {
         let z = o.size;
-        let ends = &ends;
+        let spans = &spans;
         step_opened(
             s,
-            &book,
-            ends,
+            &ports,
+            spans,
             z,
             kind,
             number as usize,

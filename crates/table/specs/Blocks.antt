@@ -16,7 +16,7 @@ use Rattle.meaning.specs.Space.{processes}
 use Rattle.meaning.specs.Description.{noStream}
 use Rattle.meaning.specs.Array.{rowSoak}
 use Rattle.layout.specs.Parts.{put-before, put-in, put-after}
-use Rattle.layout.specs.Ends.{processOf}
+use Rattle.layout.specs.Spans.{processOf}
 use Rattle.pipes.specs.Elements.{rowDrain}
 use Rattle.pipes.specs.Passed.{Passed}
 

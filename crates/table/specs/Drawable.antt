@@ -20,8 +20,8 @@ use Rattle.geometry.specs.Descriptions.{laid}
 use Rattle.decode.specs.Offsets.{Sized}
 use Rattle.decode.specs.Refusals.{refuses, passes, accepts, passed}
 use Rattle.numbering.specs.Ranges.{Bounded}
-use Rattle.refusals.specs.InRange.{nest-bounded}
-use Rattle.refusals.specs.Accepted.{accepted-within}
+use Rattle.stream_lines.specs.InRange.{nest-bounded}
+use Rattle.stream_lines.specs.Accepted.{accepted-within}
 use Rattle.pipes.specs.Flow.{Laid}
 use Rattle.pipes.specs.Accepted.{streams-used, laid-stream}
 use Rattle.table.specs.declared.Shape.{Shape}

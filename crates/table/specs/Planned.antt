@@ -27,7 +27,7 @@ use Rattle.geometry.specs.Members.{map-at}
 use Rattle.numbering.specs.Ranges.{Bounded}
 use Rattle.numbering.specs.Extents.{Spanning, boxed, box-spanning}
 use Rattle.numbering.specs.Numbers.{filled}
-use Rattle.layout.specs.Ends.{processOf, numbered, Ends}
+use Rattle.layout.specs.Spans.{processOf, numbered, Spans}
 use Rattle.pipes.specs.Elements.{rowDrain}
 use Rattle.table.specs.declared.Shape.{Shape}
 use Rattle.table.specs.Rows.{byStream, rowFrom, Readable}
@@ -51,7 +51,7 @@ pub record Drawn (d : Description) (h : Shape) (w : List ℕ) : Type 0 where
   pub few : length (processes (d .nest)) ≤ 1024
   pub most : length (streamsOf d) ≤ 6
   pub front : List ℕ
-  pub ends : Ends (d .nest) front
+  pub spans : Spans (d .nest) front
   pub copied : (k : ℕ) → k < 3072 → getD w k 0 ≡ getD front k 0
   pub streams : Streamed (d .nest) (streamsOf d) (length (streamsOf d)) w
 
@@ -114,9 +114,9 @@ module _ {d : Description} {h : Shape} {w : List ℕ} (g : Drawn d h w) where
   drawn-row : (p : ℕ) → p < h .rows → rowFrom h w p ≡ rowAs n ss (processOf n p)
   drawn-row p l =
       let k : p < length (processes n) = omega (arith, g .shaped .rows) in
-      let count = g .copied p (omega (arith, g .few)) ∙ g .ends .counts p k in
-      let first = ap₂ numbered (g .shaped .nest) (g .copied (1024 + p) (omega (arith, g .few))) ∙ g .ends .firsts p k in
-      let last = ap₂ numbered (g .shaped .nest) (g .copied (2048 + p) (omega (arith, g .few))) ∙ g .ends .lasts p k in
+      let count = g .copied p (omega (arith, g .few)) ∙ g .spans .counts p k in
+      let first = ap₂ numbered (g .shaped .nest) (g .copied (1024 + p) (omega (arith, g .few))) ∙ g .spans .firsts p k in
+      let last = ap₂ numbered (g .shaped .nest) (g .copied (2048 + p) (omega (arith, g .few))) ∙ g .spans .lasts p k in
       let soak =
       by-stream (λ t. rowSoak n t (processOf n p)) ss w (3072 + p) (g .most) (λ i l. g .streams .soaks i p l k)
       (λ i l m. g .streams .rest (3072 + p + i * 2048) (omega arith)) in
@@ -140,8 +140,8 @@ module _ {d : Description} {h : Shape} {w : List ℕ} (g : Drawn d h w) where
         bounded = subst Bounded (sym (g .shaped .nest)) (g .bounded);
         spanning = subst Spanning (sym (g .shaped .space)) (box-spanning (g .bounded) (g .bounded .place));
         there = subst (λ (b : Box). p < length (points b)) (sym (g .shaped .space)) l;
-        first = at (1024 + p) (omega (arith, g .few)) (g .ends .first-le p l);
-        last = at (2048 + p) (omega (arith, g .few)) (g .ends .last-le p l);
+        first = at (1024 + p) (omega (arith, g .few)) (g .spans .first-le p l);
+        last = at (2048 + p) (omega (arith, g .few)) (g .spans .last-le p l);
       }
     where
       at : (k : ℕ) → k < 3072 → getD (g .front) k 0 ≤ length (instances n) → getD w k 0 ≤ length (instances (h .nest))

@@ -13,7 +13,7 @@ use Rattle.meaning.specs.Loops.{instances}
 use Rattle.meaning.specs.Space.{points}
 use Rattle.numbering.specs.Ranges.{Bounded}
 use Rattle.numbering.specs.Extents.{Spanning, boxed}
-use Rattle.layout.specs.Ends.{numbered}
+use Rattle.layout.specs.Spans.{numbered}
 use Rattle.table.specs.declared.Shape.{Shape}
 
 pub numbered-none : (n : Nest) (k : ℕ) → k ≡ 0 → zero3 ≡ numbered n k

@@ -16,7 +16,7 @@ ghost use Rattle.meaning.specs.Space.{processes};
 ghost use Rattle.meaning.specs.Description.{descriptionOf, streamsOf};
 ghost use Rattle.meaning.specs.Calls.{answer, table};
 ghost use Rattle.numbering.specs.Ranges.{Bounded};
-ghost use Rattle.layout.specs.Ends.{numbered, Ends};
+ghost use Rattle.layout.specs.Spans.{numbered, Spans};
 ghost use Rattle.table.specs.Rows.{byStream, rowFrom, Readable};
 ghost use Rattle.table.specs.Blocks.{Streamed};
 ghost use Rattle.table.specs.Planned.{Shaped, Drawn, refusedFor, Planned};
@@ -90,8 +90,8 @@ fn row_at(shape: Shape, words: &[u32; 15360], p: usize) -> Row
 // ---- the plan
 
 // The words of all streams in use.
-fn fill_streams(d: Description, ends: &[u32], words: &mut [u32])
-    requires { ⌜ (Drawable d) × (Ends (d .nest) (now ends)) × (3072 ≤ length (now ends)) × (now words ≡ replicate 15360 0) ⌝ }
+fn fill_streams(d: Description, spans: &[u32], words: &mut [u32])
+    requires { ⌜ (Drawable d) × (Spans (d .nest) (now spans)) × (3072 ≤ length (now spans)) × (now words ≡ replicate 15360 0) ⌝ }
     ensures { λ r. ⌜ Streamed (d .nest) (streamsOf d) (length (streamsOf d)) (now (words .exit)) ⌝ }
 {
     let n = d.nest;
@@ -100,19 +100,19 @@ fn fill_streams(d: Description, ends: &[u32], words: &mut [u32])
     while i < m {
         let a = 3072 + 2048 * i;
         let e = a + 2048;
-        pipes::fill_stream(n, decode::stream(d, i), ends, &mut words[a..e]);
+        pipes::fill_stream(n, decode::stream(d, i), spans, &mut words[a..e]);
         i += 1;
     }
 }
 
 // The words of the processes go in front.
-fn copy_ends(ends: &[u32], words: &mut [u32])
-    requires { ⌜ (3072 ≤ length (now ends)) × (3072 ≤ length (now words)) ⌝ }
-    ensures { λ r. ⌜ now (words .exit) ≡ fillBy (λ k. getD (now (ends .entry)) k 0) 3072 (now (words .entry)) ⌝ }
+fn copy_spans(spans: &[u32], words: &mut [u32])
+    requires { ⌜ (3072 ≤ length (now spans)) × (3072 ≤ length (now words)) ⌝ }
+    ensures { λ r. ⌜ now (words .exit) ≡ fillBy (λ k. getD (now (spans .entry)) k 0) 3072 (now (words .entry)) ⌝ }
 {
     let mut k: usize = 0;
     while k < 3072 {
-        words[k] = ends[k];
+        words[k] = spans[k];
         k += 1;
     }
 }
@@ -133,12 +133,12 @@ fn shape_of(n: Nest) -> Shape
 }
 
 // The plan of a description; its words come as zeros.
-fn draw(d: Description, ends: &[u32], words: &mut [u32]) -> Shape
-    requires { ⌜ (Drawable d) × (Ends (d .nest) (now ends)) × (3072 ≤ length (now ends)) × (now words ≡ replicate 15360 0) ⌝ }
+fn draw(d: Description, spans: &[u32], words: &mut [u32]) -> Shape
+    requires { ⌜ (Drawable d) × (Spans (d .nest) (now spans)) × (3072 ≤ length (now spans)) × (now words ≡ replicate 15360 0) ⌝ }
     ensures { λ r. ⌜ (r .refusal ≡ 0) × (Drawn d r (now (words .exit))) ⌝ }
 {
-    fill_streams(d, ends, words);
-    copy_ends(ends, words);
+    fill_streams(d, spans, words);
+    copy_spans(spans, words);
     shape_of(d.nest)
 }
 
@@ -178,11 +178,11 @@ fn process_count(n: Nest) -> usize
 }
 
 // The refusal of the call, 0 if there is none; the words of the processes are then filled.
-fn refusal_for(s: &[u8], limits: Limits, room: usize, ends: &mut [u32; 3072]) -> u32
+fn refusal_for(s: &[u8], limits: Limits, room: usize, spans: &mut [u32; 3072]) -> u32
     requires { ⌜ UpTo limits gaugeLimits ⌝ }
-    ensures { λ r. ⌜ (r ≡ refusedFor limits (now (s .entry)) room) × (r ≡ 0 → Ends (descriptionOf (now (s .entry)) .nest) (now (ends .exit))) ⌝ }
+    ensures { λ r. ⌜ (r ≡ refusedFor limits (now (s .entry)) room) × (r ≡ 0 → Spans (descriptionOf (now (s .entry)) .nest) (now (spans .exit))) ⌝ }
 {
-    let r = verdict::refusal_within(s, limits, ends);
+    let r = refuse::refusal_within(s, limits, spans);
     if r == 0 {
         let n = decode::description(s).nest;
         if room < process_count(n) { 18 } else { 0 }
@@ -196,11 +196,11 @@ fn plan(s: &[u8], board: u32, room: usize, words: &mut [u32; 15360]) -> Shape
     requires { ⌜ now words ≡ replicate 15360 0 ⌝ }
     ensures { λ r. ⌜ Planned (limitsOf board) (now (s .entry)) room r (now (words .exit)) ⌝ }
 {
-    let mut ends = [0u32; 3072];
-    let refusal = refusal_for(s, boards::limits_of(board), room, &mut ends);
+    let mut spans = [0u32; 3072];
+    let refusal = refusal_for(s, boards::limits_of(board), room, &mut spans);
     if refusal == 0 {
-        let ends = &ends;
-        draw(decode::description(s), ends, words)
+        let spans = &spans;
+        draw(decode::description(s), spans, words)
     } else {
         declined(refusal)
     }

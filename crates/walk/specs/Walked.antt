@@ -23,7 +23,7 @@ use Rattle.geometry.specs.Places.{getD-in}
 use Rattle.geometry.specs.Walk.{walk-length, nothing-else}
 use Rattle.vectors.specs.Within.{Within}
 use Rattle.numbering.specs.Ranges.{Bounded, point-small}
-use Rattle.layout.specs.Ends.{processOf, Ends}
+use Rattle.layout.specs.Spans.{processOf, Spans}
 use Rattle.walk.specs.Words.{vectorAt, Lined, lined-none}
 
 -- instance k of the walk is the k-th that the words hold
@@ -65,18 +65,18 @@ pub record Walkable (n : Nest) : Type 0 where
   pub processes : length (processes n) ≤ 1024
 
 -- what its walk is stored by: the words of its processes
-pub record Walking (n : Nest) (many : ℕ) (ends : List ℕ) (w : List ℤ) : Type 0 where
+pub record Walking (n : Nest) (many : ℕ) (spans : List ℕ) (w : List ℤ) : Type 0 where
   pub walkable : Walkable n
   pub counted : many ≡ length (processes n)
-  pub held : Ends n ends
-  pub words : length ends ≡ 3072
+  pub held : Spans n spans
+  pub words : length spans ≡ 3072
   pub room : length w ≡ 12288
 
 -- the same for the line of process p, which begins at a place
-pub record Lining (n : Nest) (i : V3) (ends : List ℕ) (p from : ℕ) (w : List ℤ) : Type 0 where
+pub record Lining (n : Nest) (i : V3) (spans : List ℕ) (p from : ℕ) (w : List ℤ) : Type 0 where
   pub nest : Bounded n
-  pub held : Ends n ends
-  pub words : length ends ≡ 3072
+  pub held : Spans n spans
+  pub words : length spans ≡ 3072
   pub few : length (processes n) ≤ 1024
   pub process : p < length (processes n)
   pub increment : i ≡ increment n
@@ -84,18 +84,18 @@ pub record Lining (n : Nest) (i : V3) (ends : List ℕ) (p from : ℕ) (w : List
   pub fits : from + count n (processOf n p) ≤ 4096
   pub room : length w ≡ 12288
 
-module _ {n : Nest} {i : V3} {ends : List ℕ} {p from : ℕ} {w : List ℤ} (l : Lining n i ends p from w) where
+module _ {n : Nest} {i : V3} {spans : List ℕ} {p from : ℕ} {w : List ℤ} (l : Lining n i spans p from w) where
   abbrev y : V2
   y = processOf n p
 
   -- a null process has no line
-  pub no-line : getD ends p 0 ≡ 0 → (from ≡ from + count n y) × (Lined (runAt n y) from (count n y) w w)
+  pub no-line : getD spans p 0 ≡ 0 → (from ≡ from + count n y) × (Lined (runAt n y) from (count n y) w w)
   no-line e =
       let z : 0 ≡ count n y = sym e ∙ l .held .counts p (l .process) in
       (omega arith, subst (λ (c : ℕ). Lined (runAt n y) from c w w) z (lined-none (runAt n y) from w))
 
   -- the words of the others say where it begins and how long it is
-  pub own-line : {f : V3} {w' : List ℤ} → f ≡ first n y → Lined (λ k. shift3 f (pos k) i) from (getD ends p 0) w w' → Lined (runAt n y) from (count n y) w w'
+  pub own-line : {f : V3} {w' : List ℤ} → f ≡ first n y → Lined (λ k. shift3 f (pos k) i) from (getD spans p 0) w w' → Lined (runAt n y) from (count n y) w w'
   own-line {f} {w'} e s =
       record {
         long = s .long;

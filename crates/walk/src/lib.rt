@@ -15,7 +15,7 @@ ghost use Rattle.integers.specs.Vectors.{shift3};
 ghost use Rattle.meaning.specs.Space.{count};
 ghost use Rattle.geometry.specs.Processes.{runAt};
 ghost use Rattle.numbering.specs.Extents.{boxed};
-ghost use Rattle.layout.specs.Ends.{processOf};
+ghost use Rattle.layout.specs.Spans.{processOf};
 ghost use Rattle.walk.specs.Words.{vectorAt, put, Lined, Running};
 ghost use Rattle.walk.specs.Walked.{Walked, Walking, Lining};
 ghost use Rattle.walk.specs.Touched.{Misses};
@@ -68,17 +68,17 @@ fn put_instances(first: V3, increment: V3, count: u32, from: usize, walk: &mut [
 }
 
 // The line of process p, from first to last, into the places from `from` on, and the place behind it; a null process has none.
-fn put_line(n: Nest, increment: V3, ends: &[u32], p: usize, from: usize, walk: &mut [i32]) -> usize
-    requires { ⌜ Lining n increment (now ends) p from (now walk) ⌝ }
+fn put_line(n: Nest, increment: V3, spans: &[u32], p: usize, from: usize, walk: &mut [i32]) -> usize
+    requires { ⌜ Lining n increment (now spans) p from (now walk) ⌝ }
     ensures { λ r. ⌜ (r ≡ from + count n (processOf n p))
         × (Lined (runAt n (processOf n p)) from (count n (processOf n p)) (now (walk .entry)) (now (walk .exit))) ⌝ }
 {
-    let count = ends[p];
+    let count = spans[p];
     if count == 0 {
         return from;
     }
     put_instances(
-        instances::first_of(n, ends, p),
+        instances::first_of(n, spans, p),
         increment,
         count,
         from,
@@ -88,8 +88,8 @@ fn put_line(n: Nest, increment: V3, ends: &[u32], p: usize, from: usize, walk: &
 }
 
 // The lines of all processes, in row order.
-pub fn fill_walk(n: Nest, processes: u32, ends: &[u32], walk: &mut [i32])
-    requires { ⌜ Walking n processes (now ends) (now walk) ⌝ }
+pub fn fill_walk(n: Nest, processes: u32, spans: &[u32], walk: &mut [i32])
+    requires { ⌜ Walking n processes (now spans) (now walk) ⌝ }
     ensures { λ r. ⌜ Walked n (now (walk .exit)) ⌝ }
 {
     let place = n.place;
@@ -97,7 +97,7 @@ pub fn fill_walk(n: Nest, processes: u32, ends: &[u32], walk: &mut [i32])
     let mut from: usize = 0;
     let mut p: u32 = 0;
     while p < processes {
-        from = put_line(n, increment, ends, p as usize, from, walk);
+        from = put_line(n, increment, spans, p as usize, from, walk);
         p += 1;
     }
 }

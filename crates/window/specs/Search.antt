@@ -19,7 +19,7 @@ use Rattle.meaning.specs.Streams.{elements}
 use Rattle.meaning.specs.Pipes.{entries, pipeElements}
 use Rattle.meaning.specs.Description.{noStream}
 use Rattle.meaning.specs.Array.{Pipe, pipeOf, pipesFrom}
-use Rattle.parts.specs.Starts.{entering}
+use Rattle.pipe_parts.specs.Starts.{entering}
 use Rattle.window.specs.declared.Search.{Search}
 
 -- ---- by numbers alone

@@ -14,9 +14,9 @@ ghost use Rattle.meaning.specs.Tests.{refusal};
 ghost use Rattle.meaning.specs.Description.{streamsOf, descriptionOf};
 ghost use Rattle.meaning.specs.Array.{arrayOf, pipeNumber};
 ghost use Rattle.meaning.specs.Calls.{refusedBy, window};
-ghost use Rattle.layout.specs.Ends.{processOf, Ends};
+ghost use Rattle.layout.specs.Spans.{processOf, Spans};
 ghost use Rattle.pipes.specs.Elements.{Near};
-ghost use Rattle.parts.specs.Starts.{Counting};
+ghost use Rattle.pipe_parts.specs.Starts.{Counting};
 ghost use Rattle.accept.specs.Shares.{Sharing, Described};
 ghost use Rattle.window.specs.Search.{counted, searched, looking, visited, streamLengths, allLengths};
 ghost use Rattle.window.specs.Pieces.{Windowed, ownTests, pieceOf, nothing, Within};
@@ -69,47 +69,47 @@ fn counted(w: Search, length: u32) -> Search
 }
 
 // The pipe that enters at process p, if one does.
-fn visited(f: Flow, ends: &[u32], lanes: &[u32], p: usize, w: Search) -> Search
-    requires { ⌜ (Near f (now ends) (now lanes) p) × (w .start ≤ 30000000) ⌝ }
+fn visited(f: Flow, spans: &[u32], lanes: &[u32], p: usize, w: Search) -> Search
+    requires { ⌜ (Near f (now spans) (now lanes) p) × (w .start ≤ 30000000) ⌝ }
     ensures { λ r. ⌜ (r ≡ visited (f .nest) (f .stream) (processOf (f .nest) p) w) × (r .start ≤ w .start + 4096) ⌝ }
 {
-    if parts::is_entry(f, ends, lanes, p) {
-        counted(w, pipes::total_at(f, ends, lanes, p))
+    if pipe_parts::is_entry(f, spans, lanes, p) {
+        counted(w, pipes::total_at(f, spans, lanes, p))
     } else {
         w
     }
 }
 
 // The pipes of a stream.
-fn searched(f: Flow, processes: u32, ends: &[u32], lanes: &[u32], first: Search) -> Search
-    requires { ⌜ (Counting f processes (now ends) (now lanes)) × (first .start ≤ 25165824) ⌝ }
+fn searched(f: Flow, processes: u32, spans: &[u32], lanes: &[u32], first: Search) -> Search
+    requires { ⌜ (Counting f processes (now spans) (now lanes)) × (first .start ≤ 25165824) ⌝ }
     ensures { λ r. ⌜ (r ≡ searched first (streamLengths (f .nest) (f .stream))) × (r .start ≤ first .start + 4194304) ⌝ }
 {
     let mut w = first;
     let mut p: u32 = 0;
     while p < processes {
-        w = visited(f, ends, lanes, p as usize, w);
+        w = visited(f, spans, lanes, p as usize, w);
         p += 1;
     }
     w
 }
 
 // The same by nest and stream.
-fn stream_searched(n: Nest, s: Stream, ends: &[u32], w: Search) -> Search
-    requires { ⌜ (Sharing n s) × (Ends n (now ends)) × (3072 ≤ length (now ends)) × (w .start ≤ 25165824) ⌝ }
+fn stream_searched(n: Nest, s: Stream, spans: &[u32], w: Search) -> Search
+    requires { ⌜ (Sharing n s) × (Spans n (now spans)) × (3072 ≤ length (now spans)) × (w .start ≤ 25165824) ⌝ }
     ensures { λ r. ⌜ (r ≡ searched w (streamLengths n s)) × (r .start ≤ w .start + 4194304) ⌝ }
 {
     let f = pipes::flow_of(n, s);
     let space = f.space;
     let processes = numbering::size_of(space);
     let mut lanes = [0u32; 4096];
-    pipes::fill_lanes(f, processes, ends, &mut lanes);
-    searched(f, processes, ends, &lanes, w)
+    pipes::fill_lanes(f, processes, spans, &mut lanes);
+    searched(f, processes, spans, &lanes, w)
 }
 
 // The pipes of all streams.
-fn all_searched(d: Description, ends: &[u32], pipe: u32) -> Search
-    requires { ⌜ (Described d) × (Ends (d .nest) (now ends)) × (3072 ≤ length (now ends)) ⌝ }
+fn all_searched(d: Description, spans: &[u32], pipe: u32) -> Search
+    requires { ⌜ (Described d) × (Spans (d .nest) (now spans)) × (3072 ≤ length (now spans)) ⌝ }
     ensures { λ r. ⌜ (r ≡ searched (looking pipe 0) (allLengths (d .nest) (streamsOf d))) × (r .start ≤ 25165824) ⌝ }
 {
     let n = d.nest;
@@ -122,7 +122,7 @@ fn all_searched(d: Description, ends: &[u32], pipe: u32) -> Search
     };
     let mut i: u32 = 0;
     while i < m {
-        w = stream_searched(n, decode::stream(d, i as usize), ends, w);
+        w = stream_searched(n, decode::stream(d, i as usize), spans, w);
         i += 1;
     }
     w
@@ -142,11 +142,11 @@ fn refused(number: u32) -> Piece
 }
 
 // The part of a pipe, if there is such a pipe.
-fn located(d: Description, ends: &[u32], pipe: u32) -> Piece
-    requires { ⌜ (Windowed d) × (Ends (d .nest) (now ends)) × (3072 ≤ length (now ends)) ⌝ }
+fn located(d: Description, spans: &[u32], pipe: u32) -> Piece
+    requires { ⌜ (Windowed d) × (Spans (d .nest) (now spans)) × (3072 ≤ length (now spans)) ⌝ }
     ensures { λ r. ⌜ r ≡ pieceOf d pipe (cond (ltb pipe (pipeNumber (arrayOf d))) 0 19) ⌝ }
 {
-    let w = all_searched(d, ends, pipe);
+    let w = all_searched(d, spans, pipe);
     if w.found {
         Piece {
             refusal: 0,
@@ -161,20 +161,20 @@ fn located(d: Description, ends: &[u32], pipe: u32) -> Piece
 // The part once the description is accepted, of lists of so many words.
 fn accepted_piece(
     d: Description,
-    ends: &[u32],
+    spans: &[u32],
     pipe: u32,
     side: u32,
     waiting: usize,
     received: usize,
 ) -> Piece
-    requires { ⌜ (Windowed d) × (Ends (d .nest) (now ends)) × (3072 ≤ length (now ends)) ⌝ }
+    requires { ⌜ (Windowed d) × (Spans (d .nest) (now spans)) × (3072 ≤ length (now spans)) ⌝ }
     ensures { λ r. ⌜ (r ≡ pieceOf d pipe (refusal (ownTests d pipe side waiting received))) × (Within r waiting received) ⌝ }
 {
     let e = elements::element_count(d) as usize;
     if waiting == e {
         if received == e {
             if side < 2 {
-                located(d, ends, pipe)
+                located(d, spans, pipe)
             } else {
                 refused(19)
             }
@@ -200,11 +200,11 @@ fn piece_within(
         (refusedBy limits (now (s .entry)) (ownTests (descriptionOf (now (s .entry))) pipe side waiting received)))
         × (Within r waiting received) ⌝ }
 {
-    let mut ends = [0u32; 3072];
-    let number = verdict::refusal_within(s, limits, &mut ends);
+    let mut spans = [0u32; 3072];
+    let number = refuse::refusal_within(s, limits, &mut spans);
     if number == 0 {
-        let ends = &ends;
-        accepted_piece(decode::description(s), ends, pipe, side, waiting, received)
+        let spans = &spans;
+        accepted_piece(decode::description(s), spans, pipe, side, waiting, received)
     } else {
         refused(number)
     }

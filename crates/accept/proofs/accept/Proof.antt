@@ -5,7 +5,7 @@ use native.Mathlib.Omega.{arith}
 use denote.Ref.{now}
 use Rattle.meaning.specs.Accept.{figures, divisors}
 use Rattle.geometry.specs.UpTo.{by-board}
-use Rattle.refusals.specs.Accepted.{accepted-within}
+use Rattle.stream_lines.specs.Accepted.{accepted-within}
 use Rattle.divisors.specs.Used.{Used}
 use Rattle.pipes.specs.Accepted.{streams-used}
 use Rattle.accept.specs.Shares.{described, accepts, refuses}

@@ -4,8 +4,8 @@ use mathlib.Core.Path.{sym, _∙_, ap}
 use Prim.Native.Nat.{_+_}
 use native.Mathlib.Omega.{arith}
 use Rattle.accept.specs.declared.Sums.{Sums}
-use Rattle.layout.specs.Ends.{processOf}
-use Rattle.parts.specs.Starts.{entering-entry}
+use Rattle.layout.specs.Spans.{processOf}
+use Rattle.pipe_parts.specs.Starts.{entering-entry}
 use Rattle.accept.specs.Sums.{sums-yes, sums-no, steps-fit, pipes-fit}
 use Rattle.accept.proofs.added.Statement.{statement}
 use Rattle.accept.proofs.added.Tie as tie

@@ -5,7 +5,7 @@ use native.Mathlib.Omega.{arith}
 use lib.ListN.{length}
 use Rattle.meaning.specs.Space.{Box, points}
 use Rattle.accept.specs.Shares.{figures-are}
-use Rattle.refusals.specs.StateWords.{process-words}
+use Rattle.stream_lines.specs.StateWords.{process-words}
 use Rattle.accept.proofs.figures_of.Statement.{statement}
 use Rattle.accept.proofs.figures_of.Tie as tie
 

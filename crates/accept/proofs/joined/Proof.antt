@@ -1,7 +1,7 @@
 -- `accept::joined` meets its contract. Assumes nothing.
 use borrow.Author.Needs.{needs}
 use native.Mathlib.Omega.{arith}
-use Rattle.refusals.specs.StateWords.{end-words}
+use Rattle.stream_lines.specs.StateWords.{end-words}
 use Rattle.accept.proofs.joined.Statement.{statement}
 use Rattle.accept.proofs.joined.Tie as tie
 

@@ -5,7 +5,7 @@ use Prim.Native.Nat.{ℕ, _*_, _+_, _≤_}
 use native.Mathlib.Nat.{mul-le-mul}
 use native.Mathlib.Omega.{arith}
 use Rattle.pipes.specs.Flow.{spanning, point-lt, going-on, reach-on}
-use Rattle.parts.specs.Entries.{entry-length}
+use Rattle.pipe_parts.specs.Entries.{entry-length}
 use Rattle.accept.proofs.pipe_steps.Statement.{statement}
 use Rattle.accept.proofs.pipe_steps.Tie as tie
 

@@ -8,10 +8,10 @@ use Rattle.accept.proofs.sums_of.Statement.{statement}
 use Rattle.accept.proofs.sums_of.Tie as tie
 
 abbrev Inv-loop : tie.InvT-loop
-Inv-loop f processes ends lanes sums₀ p₀ sums p = (p ≤ processes) × (sums ≡ sumsAt (f .nest) (f .stream) p)
+Inv-loop f processes spans lanes sums₀ p₀ sums p = (p ≤ processes) × (sums ≡ sumsAt (f .nest) (f .stream) p)
 
 abbrev μ-loop : tie.MeasureT-loop
-μ-loop f processes ends lanes sums₀ p₀ sums p = processes - p
+μ-loop f processes spans lanes sums₀ p₀ sums p = processes - p
 
 loop-holds : tie.Need-loop-holds Inv-loop μ-loop
 loop-holds c = let f = c .before .before .args .f in (omega arith, sums-zero (f .nest) (f .stream))

@@ -8,10 +8,10 @@ use Rattle.accept.proofs.totals_of.Statement.{statement}
 use Rattle.accept.proofs.totals_of.Tie as tie
 
 abbrev Inv-loop : tie.InvT-loop
-Inv-loop d ends n m totals₀ i₀ totals i = (i ≤ d .sizes .streams) × (totals ≡ totalsOf d i)
+Inv-loop d spans n m totals₀ i₀ totals i = (i ≤ d .sizes .streams) × (totals ≡ totalsOf d i)
 
 abbrev μ-loop : tie.MeasureT-loop
-μ-loop d ends n m totals₀ i₀ totals i = d .sizes .streams - i
+μ-loop d spans n m totals₀ i₀ totals i = d .sizes .streams - i
 
 loop-holds : tie.Need-loop-holds Inv-loop μ-loop
 loop-holds c = (omega arith, totals-zero (c .before .before .args .d))

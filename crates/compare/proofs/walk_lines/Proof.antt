@@ -3,8 +3,8 @@ use mathlib.Core.Path.{sym, _∙_}
 use denote.Ref.{now}
 use native.Mathlib.Omega.{arith}
 use borrow.Author.Needs.{needs}
-use Rattle.refusals.specs.InRange.{nest-bounded}
-use Rattle.refusals.specs.Accepted.{walk-within}
+use Rattle.stream_lines.specs.InRange.{nest-bounded}
+use Rattle.stream_lines.specs.Accepted.{walk-within}
 use Rattle.compare.proofs.walk_lines.Statement.{statement}
 use Rattle.compare.proofs.walk_lines.Tie as tie
 

@@ -1,8 +1,8 @@
 -- `layout::fill_processes` meets its contract. Assumes nothing.
 use native.Mathlib.Omega.{arith}
 use borrow.Author.Needs.{needs}
-use Rattle.tables.specs.Tables.{filled-steps, table-listed}
-use Rattle.layout.specs.Ends.{process-table, steps-long, ends-are}
+use Rattle.sweeps.specs.Tables.{filled-steps, table-listed}
+use Rattle.layout.specs.Spans.{process-table, steps-long, chosen-are}
 use Rattle.layout.proofs.fill_processes.Statement.{statement}
 use Rattle.layout.proofs.fill_processes.Tie as tie
 
@@ -27,14 +27,14 @@ slice-aggregate-fill-steps c = search needs
 fill-steps-requires : tie.Need-fill-steps-requires
 fill-steps-requires c κs = search needs
 
-slice-aggregate-fill-ends : tie.Need-slice-aggregate-fill-ends
-slice-aggregate-fill-ends c = search needs
+slice-aggregate-fill-spans : tie.Need-slice-aggregate-fill-spans
+slice-aggregate-fill-spans c = search needs
 
-slice-aggregate-fill-ends-2 : tie.Need-slice-aggregate-fill-ends-2
-slice-aggregate-fill-ends-2 c = search needs
+slice-aggregate-fill-spans-2 : tie.Need-slice-aggregate-fill-spans-2
+slice-aggregate-fill-spans-2 c = search needs
 
-fill-ends-requires : tie.Need-fill-ends-requires
-fill-ends-requires c κs =
+fill-spans-requires : tie.Need-fill-spans-requires
+fill-spans-requires c κs =
     let f = c .before .before .before .before .before .before .before in
     let s = f .before .before .before .before .before .before .before in
     let i = f .before .before in
@@ -56,7 +56,7 @@ returns c =
     let s = f .before .before .before .before .before .before .before in
     let i = f .before .before in
     let t = process-table _ (f .fill-numbers .ensures) (i .instance-count .ensures .0) (i .before .size-of .ensures .0) (i .before .before .extent-of .ensures .0) in
-    (t .sized, ends-are (s .pre .0 .directed) t (filled-steps _ (g .fill-steps .ensures)) (c .before .before .fill-ends .ensures))
+    (t .sized, chosen-are (s .pre .0 .directed) t (filled-steps _ (g .fill-steps .ensures)) (c .before .before .fill-spans .ensures))
 
 pub fill-processes-spec : {M : Type 1} → statement M
 fill-processes-spec =
@@ -69,8 +69,8 @@ fill-processes-spec =
     fill-numbers-requires
     slice-aggregate-fill-steps
     fill-steps-requires
-    slice-aggregate-fill-ends
-    slice-aggregate-fill-ends-2
-    fill-ends-requires
+    slice-aggregate-fill-spans
+    slice-aggregate-fill-spans-2
+    fill-spans-requires
     same-length
     returns)

@@ -11,11 +11,11 @@ use Rattle.pipes.proofs.fill_lanes.Statement.{statement}
 use Rattle.pipes.proofs.fill_lanes.Tie as tie
 
 abbrev Inv-loop : tie.InvT-loop
-Inv-loop f processes ends lanes₀ p₀ lanes p =
+Inv-loop f processes spans lanes₀ p₀ lanes p =
     (p ≤ processes) × (Lanes (entryNumber (f .nest) (f .stream)) (computes (f .nest)) processes p lanes)
 
 abbrev μ-loop : tie.MeasureT-loop
-μ-loop f processes ends lanes₀ p₀ lanes p = processes - p
+μ-loop f processes spans lanes₀ p₀ lanes p = processes - p
 
 clear-requires : tie.Need-clear-requires Inv-loop μ-loop
 clear-requires c κs = omega (arith, c .before .before .before .pre .words)
@@ -75,7 +75,7 @@ loop-again c =
     let t = c .before .before .before .before .before .before .loop-test .taken in (
       omega (arith, t),
       lanes-step _ _ (omega (arith, s .pre .counted, s .pre .flows .laid .processes)) (omega (arith, t)) (l .inv .1) (e .result) (e .ensures .0)
-          (omega (arith, e .ensures .1, s .pre .counted)) _ (ap (λ (k : ℕ). not (eqb k 0)) (s .pre .of-ends .counts (l .p) (omega (arith, s .pre .counted, t)))) (c .before .before .visit .ensures),
+          (omega (arith, e .ensures .1, s .pre .counted)) _ (ap (λ (k : ℕ). not (eqb k 0)) (s .pre .of-spans .counts (l .p) (omega (arith, s .pre .counted, t)))) (c .before .before .visit .ensures),
     )
 
 same-length : tie.Need-same-length Inv-loop μ-loop
@@ -90,7 +90,7 @@ returns c =
     let C = computes (s .args .f .nest) in
     record {
       flows = s .pre .flows;
-      of-ends = s .pre .of-ends;
+      of-spans = s .pre .of-spans;
       long = s .pre .long;
       of-lanes = subst (λ (k : ℕ). Lanes E C k k (l .lanes)) (s .pre .counted) (subst (λ (k : ℕ). Lanes E C (s .args .processes) k (l .lanes)) e (l .inv .1));
     }

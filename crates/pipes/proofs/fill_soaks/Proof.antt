@@ -6,16 +6,16 @@ use lib.ListN.{length, length-set}
 use borrow.Author.Needs.{needs}
 use Rattle.integers.specs.Fill.{fillBy, fill-zero, fill-step, fill-done}
 use Rattle.meaning.specs.Array.{rowSoak}
-use Rattle.layout.specs.Ends.{processOf}
+use Rattle.layout.specs.Spans.{processOf}
 use Rattle.pipes.proofs.fill_soaks.Statement.{statement}
 use Rattle.pipes.proofs.fill_soaks.Tie as tie
 
 abbrev Inv-loop : tie.InvT-loop
-Inv-loop f processes ends lanes out₀ p₀ out p =
+Inv-loop f processes spans lanes out₀ p₀ out p =
     (p ≤ processes) × (length out ≡ length out₀) × (out ≡ fillBy (λ q. rowSoak (f .nest) (f .stream) (processOf (f .nest) q)) p out₀)
 
 abbrev μ-loop : tie.MeasureT-loop
-μ-loop f processes ends lanes out₀ p₀ out p = processes - p
+μ-loop f processes spans lanes out₀ p₀ out p = processes - p
 
 loop-holds : tie.Need-loop-holds Inv-loop μ-loop
 loop-holds c = (omega arith, refl, sym (fill-zero _ _))

@@ -2,7 +2,7 @@
 use mathlib.Core.Path.{_≡_}
 use lib.ListN.{length, length-map}
 use borrow.Author.Needs.{needs}
-use Rattle.refusals.specs.InRange.{in-range}
+use Rattle.stream_lines.specs.InRange.{in-range}
 use Rattle.plain.specs.Places.{filling, column-is}
 use Rattle.plain.proofs.fill_stream.Statement.{statement}
 use Rattle.plain.proofs.fill_stream.Tie as tie

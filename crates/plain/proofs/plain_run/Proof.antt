@@ -3,7 +3,7 @@ use mathlib.Core.Path.{sym, _∙_, subst}
 use denote.Ref.{now}
 use borrow.Author.Needs.{needs}
 use Rattle.geometry.specs.UpTo.{by-board}
-use Rattle.refusals.specs.Accepted.{accepted-within}
+use Rattle.stream_lines.specs.Accepted.{accepted-within}
 use Rattle.plain.specs.Places.{Fitting}
 use Rattle.plain.specs.Run.{accepted-fitting, accepted-call, refused-call}
 use Rattle.plain.proofs.plain_run.Statement.{statement}

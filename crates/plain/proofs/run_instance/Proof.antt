@@ -2,7 +2,7 @@
 use mathlib.Core.Path.{_≡_, sym, subst₂}
 use lib.ListN.{length, length-map}
 use borrow.Author.Needs.{needs}
-use Rattle.refusals.specs.InRange.{nest-bounded}
+use Rattle.stream_lines.specs.InRange.{nest-bounded}
 use Rattle.body.specs.Fit.{Runnable}
 use Rattle.plain.specs.Places.{lent, runnable}
 use Rattle.plain.specs.Run.{executed}

@@ -7,7 +7,7 @@ use borrow.Author.Needs.{needs}
 use Rattle.meaning.specs.Loops.{instances}
 use Rattle.meaning.specs.Body.{executeAll, finalValues}
 use Rattle.meaning.specs.Calls.{lengthOf}
-use Rattle.refusals.specs.InRange.{nest-bounded}
+use Rattle.stream_lines.specs.InRange.{nest-bounded}
 use Rattle.plain.specs.Run.{run-next, run-end}
 use Rattle.plain.proofs.run_instances.Statement.{statement}
 use Rattle.plain.proofs.run_instances.Tie as tie

@@ -2,8 +2,8 @@
 use mathlib.Core.Path.{sym, _∙_}
 use denote.Ref.{now}
 use borrow.Author.Needs.{needs}
-use Rattle.refusals.specs.InRange.{nest-bounded}
-use Rattle.refusals.specs.Accepted.{walk-within}
+use Rattle.stream_lines.specs.InRange.{nest-bounded}
+use Rattle.stream_lines.specs.Accepted.{walk-within}
 use Rattle.print_walk.proofs.print_walk.Statement.{statement}
 use Rattle.print_walk.proofs.print_walk.Tie as tie
 

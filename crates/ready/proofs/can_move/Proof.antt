@@ -10,10 +10,10 @@ use Rattle.ready.proofs.can_move.Statement.{statement}
 use Rattle.ready.proofs.can_move.Tie as tie
 
 abbrev Inv-loop : tie.InvT-loop
-Inv-loop book state z p m i₀ i = (i ≤ z .streams) × (left (passesBy book state p) (z .streams) i ≡ any (passesBy book state p) (numbers (z .streams)))
+Inv-loop ports state z p m i₀ i = (i ≤ z .streams) × (left (passesBy ports state p) (z .streams) i ≡ any (passesBy ports state p) (numbers (z .streams)))
 
 abbrev μ-loop : tie.MeasureT-loop
-μ-loop book state z p m i₀ i = z .streams - i
+μ-loop ports state z p m i₀ i = z .streams - i
 
 loop-holds : tie.Need-loop-holds Inv-loop μ-loop
 loop-holds c = (omega arith, any-start _ _)

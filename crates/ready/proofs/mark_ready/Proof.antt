@@ -13,11 +13,11 @@ use Rattle.ready.proofs.mark_ready.Statement.{statement}
 use Rattle.ready.proofs.mark_ready.Tie as tie
 
 abbrev Inv-loop : tie.InvT-loop
-Inv-loop book state z words₀ n p₀ words p =
-    (p ≤ z .processes) × (words ≡ markedTo (movesBy book state (z .streams)) p words₀)
+Inv-loop ports state z words₀ n p₀ words p =
+    (p ≤ z .processes) × (words ≡ markedTo (movesBy ports state (z .streams)) p words₀)
 
 abbrev μ-loop : tie.MeasureT-loop
-μ-loop book state z words₀ n p₀ words p = z .processes - p
+μ-loop ports state z words₀ n p₀ words p = z .processes - p
 
 clear-requires : tie.Need-clear-requires Inv-loop μ-loop
 clear-requires c κs = search needs
@@ -71,7 +71,7 @@ returns c =
     let l = c .before .loop in
     let w = c .before .before .before .before in
     let a = w .before .before .before .before .before .args in
-    let f = movesBy (a .book .now) (a .state .now) (a .z .streams) in
+    let f = movesBy (a .ports .now) (a .state .now) (a .z .streams) in
     let e : l .p ≡ a .z .processes = omega (arith, c .loop-test .left, l .inv .0) in
     l .inv .1 ∙ ap (λ (k : ℕ). markedTo f k (w .clear .last .0)) e ∙ ap (markedTo f (a .z .processes)) (w .clear .ensures)
 

@@ -11,11 +11,11 @@ use Rattle.result.proofs.all_out.Statement.{statement}
 use Rattle.result.proofs.all_out.Tie as tie
 
 abbrev Inv-loop : tie.InvT-loop
-Inv-loop book state pipes q₀ q =
-    (q ≤ pipes) × (every (outBy book state) (numbersFrom q (pipes - q)) ≡ every (outBy book state) (numbers pipes))
+Inv-loop ports state pipes q₀ q =
+    (q ≤ pipes) × (every (outBy ports state) (numbersFrom q (pipes - q)) ≡ every (outBy ports state) (numbers pipes))
 
 abbrev μ-loop : tie.MeasureT-loop
-μ-loop book state pipes q₀ q = pipes - q
+μ-loop ports state pipes q₀ q = pipes - q
 
 loop-holds : tie.Need-loop-holds Inv-loop μ-loop
 loop-holds c = let a = c .before .before .args in let e : a .pipes - 0 ≡ a .pipes = omega arith in (omega arith, rw e)
@@ -32,7 +32,7 @@ returns : tie.Need-returns Inv-loop μ-loop
 returns c =
     let l = c .before .before .before .before .before in
     let a = l .before .before .before .args in
-    let e = out-read (a .book .now) (a .state .now) (l .loop .q) (c .before .before .before .end .ensures) (c .before .before .word .ensures .0) in
+    let e = out-read (a .ports .now) (a .state .now) (l .loop .q) (c .before .before .before .end .ensures) (c .before .before .word .ensures .0) in
     sym (every-stops _ (l .loop .q) (a .pipes) (omega arith) (e ∙ ne-eqb _ _ (c .if1 .taken))) ∙ l .loop .inv .1
 
 add-q : tie.Need-add-q Inv-loop μ-loop
@@ -45,14 +45,14 @@ loop-again : tie.Need-loop-again Inv-loop μ-loop
 loop-again c =
     let l = c .before .before .before .before .before in
     let a = l .before .before .before .args in
-    let e = out-read (a .book .now) (a .state .now) (l .loop .q) (c .before .before .before .end .ensures) (c .before .before .word .ensures .0) in
+    let e = out-read (a .ports .now) (a .state .now) (l .loop .q) (c .before .before .before .end .ensures) (c .before .before .word .ensures .0) in
     (omega arith, every-goes _ (l .loop .q) (a .pipes) (omega arith) (e ∙ eq-eqb _ _ (c .if1 .left)) ∙ l .loop .inv .1)
 
 returns-2 : tie.Need-returns-2 Inv-loop μ-loop
 returns-2 c =
     let l = c .before in
     let a = l .before .before .before .args in
-    sym (every-ends (outBy (a .book .now) (a .state .now)) (l .loop .q) (a .pipes) (omega arith)) ∙ l .loop .inv .1
+    sym (every-ends (outBy (a .ports .now) (a .state .now)) (l .loop .q) (a .pipes) (omega arith)) ∙ l .loop .inv .1
 
 pub all-out-spec : {M : Type 1} → statement M
 all-out-spec =

@@ -1,7 +1,7 @@
 -- `result::result_opened` meets its contract. Assumes nothing.
 use borrow.Author.Needs.{needs}
 use Rattle.meaning.specs.Limits.{gaugeLimits}
-use Rattle.refusals.specs.Accepted.{accepted-within}
+use Rattle.stream_lines.specs.Accepted.{accepted-within}
 use Rattle.result.specs.Out.{asked}
 use Rattle.result.specs.Call.{fillable, call-done, call-refused}
 use Rattle.result.proofs.result_opened.Statement.{statement}

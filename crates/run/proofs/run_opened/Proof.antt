@@ -1,8 +1,8 @@
 -- `run::run_opened` meets its contract. Assumes nothing.
 use borrow.Author.Needs.{needs}
 use Rattle.meaning.specs.Limits.{gaugeLimits}
-use Rattle.refusals.specs.Accepted.{accepted-within}
-use Rattle.memory.specs.Opening.{grounds}
+use Rattle.stream_lines.specs.Accepted.{accepted-within}
+use Rattle.opening.specs.Opening.{grounds}
 use Rattle.run.specs.Turn.{table-asks, flags-ask, starts}
 use Rattle.run.specs.Call.{ran-by}
 use Rattle.run.proofs.run_opened.Statement.{statement}
@@ -15,11 +15,11 @@ program-of-requires : tie.Need-program-of-requires
 program-of-requires c κs =
     let g = grounds _ (c .before .before .before .before .before .before .before .pre .0 .accepted) .described in rw (c .description .ensures) (g .nest .step, g .nest .place)
 
-slice-aggregate-fill-watch : tie.Need-slice-aggregate-fill-watch
-slice-aggregate-fill-watch c = search needs
+slice-aggregate-fill-wakeups : tie.Need-slice-aggregate-fill-wakeups
+slice-aggregate-fill-wakeups c = search needs
 
-fill-watch-requires : tie.Need-fill-watch-requires
-fill-watch-requires c κs = table-asks (c .before .before .before .before .before .before .before .before .before .pre .0)
+fill-wakeups-requires : tie.Need-fill-wakeups-requires
+fill-wakeups-requires c κs = table-asks (c .before .before .before .before .before .before .before .before .before .pre .0)
 
 slice-aggregate-fill-flags : tie.Need-slice-aggregate-fill-flags
 slice-aggregate-fill-flags c = search needs
@@ -38,7 +38,7 @@ run-steps-requires c κs =
     let k = c .before .before .before .before .before .before .before .before .before .before .before in
     let p = k .program-of .ensures in
     let h = k .before .before .before .before .before .before .before .before .pre in
-    starts (h .0) (k .before .description .ensures) (p .0) (p .1) (h .1) (h .2) (c .before .before .before .before .before .before .before .before .before .fill-watch .ensures) (c .before .before .before .before .before .fill-flags .ensures)
+    starts (h .0) (k .before .description .ensures) (p .0) (p .1) (h .1) (h .2) (c .before .before .before .before .before .before .before .before .before .fill-wakeups .ensures) (c .before .before .before .before .before .fill-flags .ensures)
 
 slice-aggregate-lowest : tie.Need-slice-aggregate-lowest
 slice-aggregate-lowest c = search needs
@@ -62,8 +62,8 @@ run-opened-spec =
     (tie.spec
     description-requires
     program-of-requires
-    slice-aggregate-fill-watch
-    fill-watch-requires
+    slice-aggregate-fill-wakeups
+    fill-wakeups-requires
     slice-aggregate-fill-flags
     fill-flags-requires
     slice-aggregate-run-steps

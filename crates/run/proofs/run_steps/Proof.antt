@@ -9,11 +9,11 @@ use Rattle.run.proofs.run_steps.Statement.{statement}
 use Rattle.run.proofs.run_steps.Tie as tie
 
 abbrev Inv-loop : tie.InvT-loop
-Inv-loop s g book ends watch z steps waiting received₀ state₀ flags₀ done₀ received state flags done =
-    Partly s book z steps (memoryOf waiting received₀ state₀) done (memoryOf waiting received state) flags
+Inv-loop s g ports spans wakeups z steps waiting received₀ state₀ flags₀ done₀ received state flags done =
+    Partly s ports z steps (memoryOf waiting received₀ state₀) done (memoryOf waiting received state) flags
 
 abbrev μ-loop : tie.MeasureT-loop
-μ-loop s g book ends watch z steps waiting received₀ state₀ flags₀ done₀ received state flags done = steps - done
+μ-loop s g ports spans wakeups z steps waiting received₀ state₀ flags₀ done₀ received state flags done = steps - done
 
 loop-holds : tie.Need-loop-holds Inv-loop μ-loop
 loop-holds c =

@@ -5,7 +5,7 @@ use Prim.Native.Nat.{ℕ, _-_, _≤_}
 use native.Mathlib.Omega.{arith}
 use lib.ListN.{length, length-set}
 use denote.Ref.{now}
-use Rattle.places.specs.Spread.{spread-zero, spread-step}
+use Rattle.element_places.specs.Spread.{spread-zero, spread-step}
 use Rattle.start.specs.Values.{put}
 use Rattle.start.proofs.put_values.Statement.{statement}
 use Rattle.start.proofs.put_values.Tie as tie

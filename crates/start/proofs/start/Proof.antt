@@ -4,8 +4,8 @@ use native.Mathlib.Omega.{arith}
 use denote.Ref.{now}
 use borrow.Author.Needs.{needs}
 use Rattle.geometry.specs.UpTo.{by-board}
-use Rattle.refusals.specs.Accepted.{accepted-within}
-use Rattle.places.specs.Order.{placeable}
+use Rattle.stream_lines.specs.Accepted.{accepted-within}
+use Rattle.element_places.specs.Order.{placeable}
 use Rattle.meaning.specs.Rules.{memoryOf}
 use Rattle.start.specs.Call.{accepted-call, refused-call}
 use Rattle.start.proofs.start.Statement.{statement}

@@ -6,23 +6,23 @@ use borrow.Author.Tests.{ne-eqb}
 use Rattle.step.proofs.named.Statement.{statement}
 use Rattle.step.proofs.named.Tie as tie
 
-seated-requires : tie.Need-seated-requires
-seated-requires c κs = search needs
+has-port-requires : tie.Need-has-port-requires
+has-port-requires c κs = search needs
 
-seated-requires-2 : tie.Need-seated-requires-2
-seated-requires-2 c κs = search needs
+has-port-requires-2 : tie.Need-has-port-requires-2
+has-port-requires-2 c κs = search needs
 
 returns : tie.Need-returns
 returns c = rw (c .before .match .keys1) refl
 
 returns-2 : tie.Need-returns-2
-returns-2 c = rw (c .before .match .keys2) (c .seated .ensures)
+returns-2 c = rw (c .before .match .keys2) (c .has-port .ensures)
 
 returns-3 : tie.Need-returns-3
 returns-3 c = rw (c .before .match .keys3) refl
 
 returns-4 : tie.Need-returns-4
-returns-4 c = rw (c .before .match .keys4) (c .seated2 .ensures)
+returns-4 c = rw (c .before .match .keys4) (c .has-port2 .ensures)
 
 returns-5 : tie.Need-returns-5
 returns-5 c = rw (c .before .match .keys5) refl
@@ -36,8 +36,8 @@ pub named-spec : {M : Type 1} → statement M
 named-spec =
     tie.close
     (tie.spec
-    seated-requires
-    seated-requires-2
+    has-port-requires
+    has-port-requires-2
     returns
     returns-2
     returns-3

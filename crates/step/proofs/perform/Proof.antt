@@ -3,7 +3,7 @@ use mathlib.Core.Path.{_∙_}
 use borrow.Author.Needs.{needs}
 use Rattle.meaning.specs.Loops.{increment}
 use Rattle.vectors.specs.Within.{Within}
-use Rattle.memory.specs.Opened.{fits, waiting-fits, received-fits, programmed}
+use Rattle.opening.specs.Opened.{fits, waiting-fits, received-fits, programmed}
 use Rattle.step.specs.Call.{performed}
 use Rattle.step.proofs.perform.Statement.{statement}
 use Rattle.step.proofs.perform.Tie as tie

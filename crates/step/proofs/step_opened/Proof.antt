@@ -2,9 +2,9 @@
 use mathlib.Core.Path.{sym, _∙_}
 use borrow.Author.Needs.{needs}
 use Rattle.meaning.specs.Limits.{gaugeLimits}
-use Rattle.refusals.specs.Accepted.{accepted-within}
-use Rattle.memory.specs.Opening.{grounds}
-use Rattle.memory.specs.Opened.{fits}
+use Rattle.stream_lines.specs.Accepted.{accepted-within}
+use Rattle.opening.specs.Opening.{grounds}
+use Rattle.opening.specs.Opened.{fits}
 use Rattle.step.specs.Named.{rows-of, named-inside}
 use Rattle.step.specs.Call.{steppable, unnamed, unready, done}
 use Rattle.step.proofs.step_opened.Statement.{statement}
@@ -19,7 +19,7 @@ can-requires c κs =
     let a = s .args in
     let o = s .pre .0 in (
       fits (grounds _ (o .accepted)) (o .stood),
-      named-inside (a .book .now) _ (a .kind) (a .number) (a .stream) (sym (c .before .before .named .ensures) ∙ c .before .if1 .taken),
+      named-inside (a .ports .now) _ (a .kind) (a .number) (a .stream) (sym (c .before .before .named .ensures) ∙ c .before .if1 .taken),
     )
 
 description-requires : tie.Need-description-requires

@@ -14,8 +14,8 @@ use Rattle.table.proofs.draw.Tie as tie
 fill-streams-requires : tie.Need-fill-streams-requires
 fill-streams-requires c κs = search needs
 
-copy-ends-requires : tie.Need-copy-ends-requires
-copy-ends-requires c κs =
+copy-spans-requires : tie.Need-copy-spans-requires
+copy-spans-requires c κs =
     let f = c .before .before .before in
     let s = f .before .before .before .before in (s .pre .2, omega (arith, f .fill-streams .kept .1 .1 .0, zeros-length (s .pre .3)))
 
@@ -32,7 +32,7 @@ returns c =
     let s = f .before .before .before .before in
     let n = s .args .d .nest in
     let g = s .pre .0 in
-    let es = now (s .args .ends) in
+    let es = now (s .args .spans) in
     let w = f .fill-streams .last .1 .1 .0 in
     let l : 3072 ≤ length w = omega (arith, f .fill-streams .kept .1 .1 .0, zeros-length (s .pre .3)) in (
       c .shape-of .ensures .refusal,
@@ -42,13 +42,13 @@ returns c =
         few = g .processes;
         most = omega (arith, g .used, g .most);
         front = es;
-        ends = s .pre .1;
-        copied = subst (λ (v : List ℕ). (j : ℕ) → j < 3072 → getD v j 0 ≡ getD es j 0) (sym (k .copy-ends .ensures)) (front-copied es w l);
-        streams = subst (Streamed n (streamsOf (s .args .d)) _) (sym (k .copy-ends .ensures)) (streamed-copied es w l (f .fill-streams .ensures));
+        spans = s .pre .1;
+        copied = subst (λ (v : List ℕ). (j : ℕ) → j < 3072 → getD v j 0 ≡ getD es j 0) (sym (k .copy-spans .ensures)) (front-copied es w l);
+        streams = subst (Streamed n (streamsOf (s .args .d)) _) (sym (k .copy-spans .ensures)) (streamed-copied es w l (f .fill-streams .ensures));
       },
     )
 
 pub draw-spec : {M : Type 1} → statement M
 draw-spec =
     tie.close
-    (tie.spec fill-streams-requires copy-ends-requires shape-of-requires same-length returns)
+    (tie.spec fill-streams-requires copy-spans-requires shape-of-requires same-length returns)

@@ -14,11 +14,11 @@ use Rattle.table.proofs.fill_streams.Statement.{statement}
 use Rattle.table.proofs.fill_streams.Tie as tie
 
 abbrev Inv-loop : tie.InvT-loop
-Inv-loop d ends words₀ n m i₀ words i =
+Inv-loop d spans words₀ n m i₀ words i =
     (i ≤ d .sizes .streams) × (length words ≡ 15360) × (Streamed (d .nest) (streamsOf d) i words)
 
 abbrev μ-loop : tie.MeasureT-loop
-μ-loop d ends words₀ n m i₀ words i = d .sizes .streams - i
+μ-loop d spans words₀ n m i₀ words i = d .sizes .streams - i
 
 cast-m : tie.Need-cast-m Inv-loop μ-loop
 cast-m c = search needs

@@ -1,4 +1,4 @@
--- `table::table` meets its contract: a walk of its code by hand. A local array is lent to `plan` as `&mut`, and comes back; it is lent to `fill_rows`
+-- `table::table` meets its contract: a walk of its code by hand. A local array is lent to `port_fill` as `&mut`, and comes back; it is lent to `fill_rows`
 -- as `&`, and comes back. The rows are passed on for good. Assumes nothing.
 use mathlib.Core.Path.{_≡_, refl, _∙_, ap}
 use Prim.Native.Nat.{ℕ, _<_, _^_}
@@ -142,8 +142,8 @@ module _ {M : Type 1} (𝓤 : URA M) (H : Heap 𝓤) (A : Atoms 𝓤) (W : Given
   abbrev at-words : ℕ → GName → List ℕ → RefT (List ℕ)
   at-words l δ zs = record { ptr = (l, 0); name = δ; now = zs }
 
-  abbrev to-plan : ℕ → ℕ → GName → Plan 𝓤 H A mem″ run .Ghost
-  to-plan l ν δ = (
+  abbrev to-ports : ℕ → ℕ → GName → Plan 𝓤 H A mem″ run .Ghost
+  to-ports l ν δ = (
     (
       (ρ, (ν ∷ [], tt)),
       (p, (fullShare, tt)),
@@ -163,9 +163,9 @@ module _ {M : Type 1} (𝓤 : URA M) (H : Heap 𝓤) (A : Atoms 𝓤) (W : Given
     tt,
   )
 
-  goes-plan : (l ν : ℕ) (δ : GName) → ent 𝓤 (sep 𝓤 (sep 𝓤 (A .lft ρ p) (A .lft (ν ∷ []) fullShare)) (sep 𝓤 (sem 𝓤 H A Bytes) (sem 𝓤 H A (MutRef
-      (named 1) (ν ∷ []) Words .own (at-words l δ ws₀) (vptr l 0 ∷ []))))) (Plan 𝓤 H A mem″ run .pre (to-plan l ν δ))
-  goes-plan l ν δ =
+  goes-ports : (l ν : ℕ) (δ : GName) → ent 𝓤 (sep 𝓤 (sep 𝓤 (A .lft ρ p) (A .lft (ν ∷ []) fullShare)) (sep 𝓤 (sem 𝓤 H A Bytes) (sem 𝓤 H A (MutRef
+      (named 1) (ν ∷ []) Words .own (at-words l δ ws₀) (vptr l 0 ∷ []))))) (Plan 𝓤 H A mem″ run .pre (to-ports l ν δ))
+  goes-ports l ν δ =
       qed W ((‵ (flft ρ p) ⊛ ‵ (flft (ν ∷ []) fullShare)) ∷ ‵ Bytes ∷ ‵ (MutRef (named 1) (ν ∷ []) Words .own (at-words l δ ws₀)
       (vptr l 0 ∷ [])) ∷ []) ∵ says ! refl $
       split ! $ nothing ! $ move ! (2 ∷ 0 ∷ []) $ join ! $ move ! (1 ∷ 0 ∷ []) $ join ! $ frame ! $ nothing ! $ move ! (2 ∷ 0 ∷ []) $ fjoin ! $
@@ -236,7 +236,7 @@ module _ {M : Type 1} (𝓤 : URA M) (H : Heap 𝓤) (A : Atoms 𝓤) (W : Given
       owned ! u32 (Is u32) (uint-makes 𝓤 H A W w32) board _ (refl, gb) $ fjoin ! $ move ! (2 ∷ 0 ∷ []) $ fjoin ! $
       move ! (2 ∷ 0 ∷ []) $ fjoin ! $ frame ! $ done !
 
-  module _ (C : Calls 𝓤 H) (Λ : Loops 𝓤 H) (fm : FmC 𝓤 H (W .laws) C) (known-plan : Triple 𝓤 (C #table·plan) (Plan 𝓤 H A mem″ run))
+  module _ (C : Calls 𝓤 H) (Λ : Loops 𝓤 H) (fm : FmC 𝓤 H (W .laws) C) (known-ports : Triple 𝓤 (C #table·plan) (Plan 𝓤 H A mem″ run))
       (known-count : Triple 𝓤 (C #table·row-count) (RowCount 𝓤 H A mem″ run))
       (known-fill : Triple 𝓤 (C #table·fill-rows) (FillRows 𝓤 H A mem″ run)) (known-answer : Triple 𝓤 (C #table·answer-for) (AnswerFor 𝓤 H A mem″ run)) where
     walk : ent 𝓤 (onEntry 𝓤 H A f.signature (ρ, (κ, tt)) (p, (q, tt)) a vals) (WpFn 𝓤 H C Λ code.function (sᵇ ∷ s ∷ vint w32 board ∷ []) Post)
@@ -266,8 +266,8 @@ module _ {M : Type 1} (𝓤 : URA M) (H : Heap 𝓤) (A : Atoms 𝓤) (W : Given
         pick ! (λ δ. split ! $
         move ! (5 ∷ []) $ use1 W (‵ Bytes ⊛ ‵ Bytes) (shr-slice-copy 𝓤 H A W (named 0) ρ u8 .twice y (sᵇ ∷ [])) $ split ! $ move ! (7 ∷ 4 ∷ []) $
         join ! $ move ! (0 ∷ 1 ∷ 3 ∷ []) $
-        use3 W (raw (Plan 𝓤 H A mem″ run .pre (to-plan l₄ ν δ))) (goes-plan l₄ ν δ) $
-        calls-at ! fm (Plan 𝓤 H A mem″ run) known-plan (to-plan l₄ ν δ) (and-then ! (load ! (from ! (stop !)) (look ! 26 refl)) (and-then ! (load !
+        use3 W (raw (Plan 𝓤 H A mem″ run .pre (to-ports l₄ ν δ))) (goes-ports l₄ ν δ) $
+        calls-at ! fm (Plan 𝓤 H A mem″ run) known-ports (to-ports l₄ ν δ) (and-then ! (load ! (from ! (stop !)) (look ! 26 refl)) (and-then ! (load !
         (from ! (stop !)) (look ! 22 refl)) (and-then ! (load ! (from ! (stop !)) (look ! 19 refl)) (and-then ! (load ! (from ! (stop !))
         (look ! 13 refl)) (no-more !))))) (λ w₁.
         use1 W (later (some (λ (r : Shape). ((‵ (flft ρ p) ⊛ ‵ (flft (ν ∷ []) fullShare) ⊛ ‵ ftrue) ⊛ ‵ (D.the-row .own r (w₁ ∷ []))) ⊛ raw
@@ -355,7 +355,7 @@ module _ {M : Type 1} (𝓤 : URA M) (H : Heap 𝓤) (A : Atoms 𝓤) (W : Given
         by ! (exits w₄ r₄ (zs₃ .0) (e₄ ∙ planned-answer ys good, e₃ ∙ planned-rows ys good) l))))))))))))))))))))))))))))))))))))))))
 
 module _ {M : Type 1} (𝓤 : URA M) (H : Heap 𝓤) (A : Atoms 𝓤) (W : Given 𝓤 H A) (mem″ : Memory → SProp 𝓤) (run : Routine → Fun 𝓤) (𝓣 : Tables 𝓤 H)
-    (known-plan : Triple 𝓤 (𝓣 .C #table·plan) (Plan 𝓤 H A mem″ run)) (known-count : Triple 𝓤 (𝓣 .C #table·row-count) (RowCount 𝓤 H A mem″ run))
+    (known-ports : Triple 𝓤 (𝓣 .C #table·plan) (Plan 𝓤 H A mem″ run)) (known-count : Triple 𝓤 (𝓣 .C #table·row-count) (RowCount 𝓤 H A mem″ run))
     (known-fill : Triple 𝓤 (𝓣 .C #table·fill-rows) (FillRows 𝓤 H A mem″ run)) (known-answer : Triple 𝓤 (𝓣 .C #table·answer-for)
     (AnswerFor 𝓤 H A mem″ run)) where
   walks : Walks 𝓤 H A f.ended stayed (WpFn 𝓤 H (𝓣 .C) (𝓣 .Λ) code.function) (f.clauses 𝓤 H A mem″ run)
@@ -364,7 +364,7 @@ module _ {M : Type 1} (𝓤 : URA M) (H : Heap 𝓤) (A : Atoms 𝓤) (W : Given
       (λ κs. (shr-slice-tells (named 0) (κs .0) u8, (mut-slice-tells (named 1) (κs .1 .0) T.the-row, (uint-tells w32, tt))))
       (λ κs qs bounds a g are. via 𝓤 _ (fst∗ 𝓤 _ (emp 𝓤))
       (walk 𝓤 H A W mem″ run (κs .1 .0) (κs .0) (qs .1 .0) (qs .0) (a .1 .0 .ptr .0) (a .1 .0 .ptr .1) (a .1 .0 .name) (a .1 .0 .now) (a .0) (a .1 .1 .0)
-      (are .1 .0 .0 .1) (are .0 .0 .1) (are .1 .1 .0 .1) (𝓣 .C) (𝓣 .Λ) (fmOf 𝓤 H (W .laws) 𝓣) known-plan known-count known-fill known-answer))
+      (are .1 .0 .0 .1) (are .0 .0 .1) (are .1 .1 .0 .1) (𝓣 .C) (𝓣 .Λ) (fmOf 𝓤 H (W .laws) 𝓣) known-ports known-count known-fill known-answer))
 
   meets : Meets 𝓤 H A f.signature (WpFn 𝓤 H (𝓣 .C) (𝓣 .Λ) code.function) (f.spec 𝓤 H A mem″ run)
   meets =

@@ -8,18 +8,18 @@ use borrow.Author.Needs.{needs}
 use Rattle.integers.specs.Vectors.{zero3}
 use Rattle.meaning.specs.Space.{processes as processesOf, count}
 use Rattle.meaning.specs.Walk.{walk as walkOf}
-use Rattle.layout.specs.Ends.{processOf}
+use Rattle.layout.specs.Spans.{processOf}
 use Rattle.walk.specs.Words.{vectorAt}
 use Rattle.walk.specs.Walked.{passed, passed-none, passed-next, passed-all, passed-most, walked-on}
 use Rattle.walk.proofs.fill_walk.Statement.{statement}
 use Rattle.walk.proofs.fill_walk.Tie as tie
 
 abbrev Inv-loop : tie.InvT-loop
-Inv-loop n processes ends walk₀ increment from₀ p₀ walk from p =
+Inv-loop n processes spans walk₀ increment from₀ p₀ walk from p =
     (p ≤ processes) × (length walk ≡ length walk₀) × (from ≡ passed n p) × ((k : ℕ) → k < from → vectorAt walk k ≡ getD (walkOf n) k zero3)
 
 abbrev μ-loop : tie.MeasureT-loop
-μ-loop n processes ends walk₀ increment from₀ p₀ walk from p = processes - p
+μ-loop n processes spans walk₀ increment from₀ p₀ walk from p = processes - p
 
 line-of-requires : tie.Need-line-of-requires Inv-loop μ-loop
 line-of-requires c κs = search needs

@@ -14,12 +14,12 @@ use Rattle.window.proofs.all_searched.Statement.{statement}
 use Rattle.window.proofs.all_searched.Tie as tie
 
 abbrev Inv-loop : tie.InvT-loop
-Inv-loop d ends pipe n m w₀ i₀ w i =
+Inv-loop d spans pipe n m w₀ i₀ w i =
     (i ≤ d .sizes .streams) × (w .start ≤ 4194304 * i)
     × (results w (allLengths (d .nest) (drop i (streamsOf d))) ≡ results w₀ (allLengths (d .nest) (streamsOf d)))
 
 abbrev μ-loop : tie.MeasureT-loop
-μ-loop d ends pipe n m w₀ i₀ w i = d .sizes .streams - i
+μ-loop d spans pipe n m w₀ i₀ w i = d .sizes .streams - i
 
 loop-holds : tie.Need-loop-holds Inv-loop μ-loop
 loop-holds c = (omega arith, omega arith, refl)

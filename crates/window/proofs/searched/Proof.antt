@@ -11,12 +11,12 @@ use Rattle.window.proofs.searched.Statement.{statement}
 use Rattle.window.proofs.searched.Tie as tie
 
 abbrev Inv-loop : tie.InvT-loop
-Inv-loop f processes′ ends lanes w₀ p₀ w p =
+Inv-loop f processes′ spans lanes w₀ p₀ w p =
     (p ≤ processes′) × (w .start ≤ w₀ .start + 4096 * p)
     × (results w (lengthsOf (f .nest) (f .stream) (drop p (processes (f .nest)))) ≡ results w₀ (streamLengths (f .nest) (f .stream)))
 
 abbrev μ-loop : tie.MeasureT-loop
-μ-loop f processes′ ends lanes w₀ p₀ w p = processes′ - p
+μ-loop f processes′ spans lanes w₀ p₀ w p = processes′ - p
 
 loop-holds : tie.Need-loop-holds Inv-loop μ-loop
 loop-holds c = (omega arith, omega arith, refl)

@@ -4,7 +4,7 @@ use mathlib.Core.Path.{refl, sym, _∙_, ap₂, subst}
 use denote.Ref.{now}
 use Rattle.meaning.specs.declared.Nest.{Nest}
 use Rattle.meaning.specs.declared.Stream.{Stream}
-use Rattle.layout.specs.Ends.{Ends}
+use Rattle.layout.specs.Spans.{Spans}
 use Rattle.pipes.specs.Flow.{spanning, counted-is}
 use Rattle.window.specs.Search.{searched as results, streamLengths}
 use Rattle.window.proofs.stream_searched.Statement.{statement}
@@ -26,7 +26,7 @@ fill-lanes-requires c κs =
     record {
       flows = f .ensures .2;
       counted = counted-is (f .ensures .2) (c .before .size-of .ensures .0);
-      of-ends = subst (λ (n : Nest). Ends n (now (s .args .ends))) (sym (f .ensures .0)) (s .pre .1);
+      of-spans = subst (λ (n : Nest). Spans n (now (s .args .spans))) (sym (f .ensures .0)) (s .pre .1);
       long = s .pre .2;
       words = refl;
     }

@@ -2,7 +2,7 @@
 use borrow.Author.Needs.{needs}
 use mathlib.Core.Path.{sym, _∙_}
 use native.Mathlib.Omega.{arith}
-use Rattle.layout.specs.Ends.{processOf}
+use Rattle.layout.specs.Spans.{processOf}
 use Rattle.window.specs.Search.{visit-yes, visit-no}
 use Rattle.window.proofs.visited.Statement.{statement}
 use Rattle.window.proofs.visited.Tie as tie

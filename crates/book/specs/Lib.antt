@@ -1,4 +1,0 @@
--- Rows written into a list; the words of rows.
-pub mod Stored
-pub mod Book
-pub mod Planned

@@ -1,5 +1,0 @@
--- The book of an accepted description's array; src/lib.rt lists the theorems.
-pub mod Instances
-pub mod Sizes
-pub mod Fits
-pub mod Lines

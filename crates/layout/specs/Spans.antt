@@ -1,0 +1,146 @@
+-- What the words of the processes say: of each, by its number, its count, and its first and its last instance by their numbers in the written
+-- order plus one, 0 for none. Assumes nothing.
+use mathlib.Core.Path.{_≡_, refl, sym, _∙_, ap}
+use mathlib.Core.Bool.{Bool, true, false}
+use mathlib.Core.List.{List, [], _∷_, _++_, map}
+use Prim.Native.Nat.{ℕ, zero, suc, _+_, _≤_, _<_}
+use native.Mathlib.Omega.{arith}
+use lib.ListN.{length, getD, take, length-append, length-map}
+use lib.IntN.{ℤ}
+use borrow.Rule.Slice.PartMut.{putMid, midOf, mid-len}
+use Rattle.integers.specs.Fill.{fillBy}
+use Rattle.integers.specs.Vectors.{zero2, zero3}
+use Rattle.integers.specs.declared.V3.{V3}
+use Rattle.integers.specs.declared.V2.{V2}
+use Rattle.meaning.specs.declared.Nest.{Nest}
+use Rattle.meaning.specs.Lists.{bestOr}
+use Rattle.meaning.specs.Loops.{instances as instancesOf, stepOf}
+use Rattle.meaning.specs.Space.{Box, points, space, processes, sentTo, countOf, sooner, later, firstOf, lastOf, count, first, last}
+use Rattle.meaning.specs.Points.{Directed}
+use Rattle.numbering.specs.Numbers.{numbersOf}
+use Rattle.sweeps.specs.Sweep.{Listed, countIn}
+use Rattle.sweeps.specs.Chosen.{bestIn}
+use Rattle.sweeps.specs.Tables.{Table, Steps, filled-table, counts-are, firsts-are, lasts-are, chosen-absent}
+use Rattle.layout.specs.Parts.{put-before, whole-length, part-at}
+
+abbrev pub processOf : Nest → ℕ → V2
+processOf n p = getD (processes n) p zero2
+
+-- the instance of a number plus one
+abbrev pub numbered : Nest → ℕ → V3
+numbered n zero = zero3
+numbered n (suc k) = getD (instancesOf n) k zero3
+
+-- 1,024 words each for the counts, the first and the last instances
+pub record Spans (n : Nest) (w : List ℕ) : Type 0 where
+  pub counts : (p : ℕ) → p < length (processes n) → getD w p 0 ≡ count n (processOf n p)
+  pub first-le : (p : ℕ) → p < length (processes n) → getD w (1024 + p) 0 ≤ length (instancesOf n)
+  pub firsts : (p : ℕ) → p < length (processes n) → numbered n (getD w (1024 + p) 0) ≡ first n (processOf n p)
+  pub first-some : (p : ℕ) → p < length (processes n) → 0 < count n (processOf n p) → 0 < getD w (1024 + p) 0
+  pub last-le : (p : ℕ) → p < length (processes n) → getD w (2048 + p) 0 ≤ length (instancesOf n)
+  pub lasts : (p : ℕ) → p < length (processes n) → numbered n (getD w (2048 + p) 0) ≡ last n (processOf n p)
+  pub last-some : (p : ℕ) → p < length (processes n) → 0 < count n (processOf n p) → 0 < getD w (2048 + p) 0
+
+-- ---- by the tables of the instances' processes and steps
+
+-- what the passes over the instances are lent
+pub record Sweepable (numbers : List ℕ) (instances : ℕ) (steps : List ℤ) (processes : ℕ) (spans : List ℕ) : Type 0 where
+  pub table : Listed numbers instances processes
+  pub timed : instances ≤ length steps
+  pub few : processes ≤ 1024
+  pub words : length spans ≡ 3072
+
+-- and what they leave
+pub record Swept (numbers : List ℕ) (instances : ℕ) (steps : List ℤ) (processes : ℕ) (spans : List ℕ) : Type 0 where
+  pub counts : (p : ℕ) → p < processes → getD spans p 0 ≡ countIn (take instances numbers) p
+  pub firsts : (p : ℕ) → p < processes → getD spans (1024 + p) 0 ≡ bestIn steps false (take instances numbers) p
+  pub lasts : (p : ℕ) → p < processes → getD spans (2048 + p) 0 ≡ bestIn steps true (take instances numbers) p
+
+-- three parts filled one after the other
+pub swept : (numbers : List ℕ) (instances : ℕ) (steps : List ℤ) (n : ℕ) (xs a b c : List ℕ) → Sweepable numbers instances steps n xs
+    → a ≡ fillBy (countIn (take instances numbers)) n (midOf 0 1024 xs)
+    → b ≡ fillBy (bestIn steps false (take instances numbers)) n (midOf 1024 1024 (putMid 0 1024 xs a))
+    → c ≡ fillBy (bestIn steps true (take instances numbers)) n (midOf 2048 1024 (putMid 1024 1024 (putMid 0 1024 xs a) b))
+    → Swept numbers instances steps n (putMid 2048 1024 (putMid 1024 1024 (putMid 0 1024 xs a) b) c)
+swept numbers instances steps n xs a b c s ea eb ec =
+    let f = countIn (take instances numbers) in
+    let g = bestIn steps false (take instances numbers) in
+    let h = bestIn steps true (take instances numbers) in
+    let xa = putMid 0 1024 xs a in
+    let xb = putMid 1024 1024 xa b in
+    let la : length xa ≡ 3072 = whole-length f n 0 1024 xs a ea (omega (arith, s .words)) ∙ s .words in
+    let lb : length xb ≡ 3072 = whole-length g n 1024 1024 xa b eb (omega arith) ∙ la in
+    record {
+      counts = λ p l.
+          let z : 0 + p ≡ p = omega arith in
+          put-before 2048 1024 xb c 0 (omega arith) p (omega (arith, s .few)) ∙ put-before 1024 1024 xa b 0 (omega arith) p (omega (arith, s .few))
+          ∙ sym (ap (λ (i : ℕ). getD xa i 0) z) ∙ part-at f n 0 1024 xs a ea (omega (arith, s .words)) 0 p l (s .few);
+      firsts = λ p l.
+          put-before 2048 1024 xb c 0 (omega arith) (1024 + p) (omega (arith, s .few)) ∙ part-at g n 1024 1024 xa b eb (omega arith) 0 p l (s .few);
+      lasts = λ p l. part-at h n 2048 1024 xb c ec (omega arith) 0 p l (s .few);
+    }
+
+-- the last part has room
+pub last-room : (f g : ℕ → ℕ) (n : ℕ) (xs a b : List ℕ) → n ≤ 1024 → length xs ≡ 3072
+    → a ≡ fillBy f n (midOf 0 1024 xs) → b ≡ fillBy g n (midOf 1024 1024 (putMid 0 1024 xs a))
+    → n ≤ length (midOf 2048 1024 (putMid 1024 1024 (putMid 0 1024 xs a) b))
+last-room f g n xs a b few long ea eb =
+    let la = whole-length f n 0 1024 xs a ea (omega arith) in
+    let lb = whole-length g n 1024 1024 (putMid 0 1024 xs a) b eb (omega (arith, la)) in
+    omega (arith, mid-len 2048 3072 (putMid 1024 1024 (putMid 0 1024 xs a) b) (omega (arith, la, lb)))
+
+-- ---- document 01's words
+
+-- there is a step for each instance
+pub steps-long : (n : Nest) {steps : List ℤ} {instances : ℕ} (rest : List ℤ) → steps ≡ map (λ x. stepOf n x) (instancesOf n) ++ rest
+    → instances ≡ length (instancesOf n) → instances ≤ length steps
+steps-long n rest e c =
+    omega (arith, ap length e, length-append (map (λ x. stepOf n x) (instancesOf n)) rest, length-map (instancesOf n) (λ x. stepOf n x))
+
+-- the table of the instances' processes, as the code has made it
+pub process-table : {n : Nest} {table : List ℕ} {instances size : ℕ} {k : Box} (rest : List ℕ) → table ≡ numbersOf n (n .place) ++ rest
+    → instances ≡ length (instancesOf n) → size ≡ length (points k) → k ≡ space n → Table n (n .place) table instances size
+process-table rest e c z b = filled-table rest e c (z ∙ ap (λ (k : Box). length (points k)) b)
+
+module _ {n : Nest} {numbers : List ℕ} {instances : ℕ} {steps : List ℤ} {size : ℕ} {spans : List ℕ} (dirs : Directed n)
+    (t : Table n (n .place) numbers instances size) (s : Steps n steps) (w : Swept numbers instances steps size spans) where
+  lt : (p : ℕ) → p < length (processes n) → p < size
+  lt p l = omega (arith, t .sized)
+
+  -- a point without instances has no first and no last one
+  none : (better : V3 → V3 → Bool) (y : V2) → countOf n (n .place) y ≡ 0 → bestOr zero3 better (sentTo n (n .place) y) ≡ zero3
+  unfolding bestOr
+  none better y e = go (sentTo n (n .place) y) e
+    where
+      go : (l : List V3) → length l ≡ 0 → bestOr zero3 better l ≡ zero3
+      go [] e = refl
+      go (x ∷ l) e = absurd (omega arith)
+
+  first-at : (p : ℕ) → p < length (processes n) → (k : ℕ) → bestIn steps false (take instances numbers) p ≡ k
+      → (k ≤ length (instancesOf n)) × (numbered n k ≡ first n (processOf n p))
+  unfolding firstOf
+  first-at p l zero e = (omega arith, sym (none (sooner n) (processOf n p) (chosen-absent dirs t steps false p (lt p l) e)))
+  first-at p l (suc k) e = let i = firsts-are dirs t s p k (lt p l) e in (i .lt, i .is)
+
+  last-at : (p : ℕ) → p < length (processes n) → (k : ℕ) → bestIn steps true (take instances numbers) p ≡ k
+      → (k ≤ length (instancesOf n)) × (numbered n k ≡ last n (processOf n p))
+  unfolding lastOf
+  last-at p l zero e = (omega arith, sym (none (later n) (processOf n p) (chosen-absent dirs t steps true p (lt p l) e)))
+  last-at p l (suc k) e = let i = lasts-are dirs t s p k (lt p l) e in (i .lt, i .is)
+
+  some : (last : Bool) (p : ℕ) → p < length (processes n) → (k : ℕ) → bestIn steps last (take instances numbers) p ≡ k
+      → 0 < count n (processOf n p) → 0 < k
+  some last p l zero e h = absurd (omega (arith, chosen-absent dirs t steps last p (lt p l) e))
+  some last p l (suc k) e h = omega arith
+
+  pub chosen-are : Spans n spans
+  chosen-are =
+      record {
+        counts = λ p l. w .counts p (lt p l) ∙ counts-are dirs t p (lt p l);
+        first-le = λ p l. first-at p l (getD spans (1024 + p) 0) (sym (w .firsts p (lt p l))) .0;
+        firsts = λ p l. first-at p l (getD spans (1024 + p) 0) (sym (w .firsts p (lt p l))) .1;
+        first-some = λ p l. some false p l (getD spans (1024 + p) 0) (sym (w .firsts p (lt p l)));
+        last-le = λ p l. last-at p l (getD spans (2048 + p) 0) (sym (w .lasts p (lt p l))) .0;
+        lasts = λ p l. last-at p l (getD spans (2048 + p) 0) (sym (w .lasts p (lt p l))) .1;
+        last-some = λ p l. some true p l (getD spans (2048 + p) 0) (sym (w .lasts p (lt p l)));
+      }

@@ -1,8 +1,0 @@
--- Links, the rows of an array and where their words lie; src/lib.rt has the list.
-pub mod Links
-pub mod Seats
-pub mod Ends
-pub mod Layout
-pub mod Places
-pub mod Rows
-pub mod LinksMeaning

@@ -1,0 +1,64 @@
+-- `opening::open_within` meets its contract. Assumes nothing.
+use mathlib.Core.Path.{sym, _∙_, subst}
+use native.Mathlib.Omega.{arith}
+use denote.Ref.{now}
+use borrow.Author.Needs.{needs}
+use Rattle.meaning.specs.declared.Description.{Description}
+use Rattle.meaning.specs.Rules.{memoryOf}
+use Rattle.geometry.specs.UpTo.{by-gauge}
+use Rattle.stream_lines.specs.Accepted.{accepted-within}
+use Rattle.layout.specs.Spans.{Spans}
+use Rattle.opening.specs.Opening.{Grounds, grounds, opened, refused}
+use Rattle.opening.proofs.open_within.Statement.{statement}
+use Rattle.opening.proofs.open_within.Tie as tie
+
+refusal-within-requires : tie.Need-refusal-within-requires
+refusal-within-requires c κs = search needs
+
+description-requires : tie.Need-description-requires
+description-requires c κs = accepted-within _ _ (sym (c .before .refusal-within .ensures .0) ∙ c .if1 .taken) .0 .sized
+
+open-accepted-requires : tie.Need-open-accepted-requires
+open-accepted-requires c κs =
+    let b = c .before .before .before .before .before in
+    let z = c .before .before .before .before .if1 .taken in
+    let p = b .before .before .before .before .before .before .before .pre in
+    let e = sym (c .before .before .before .description .ensures) in (
+      subst Grounds e (grounds _ (by-gauge (p .0) _ (sym (b .refusal-within .ensures .0) ∙ z))),
+      subst (λ (d : Description). Spans (d .nest) (b .refusal-within .last .1 .1 .0)) e (b .refusal-within .ensures .1 z),
+      omega arith,
+      p .1,
+    )
+
+same-length : tie.Need-same-length
+same-length c = search needs
+
+returns : tie.Need-returns
+returns c =
+    let b = c .before .before .before .before .before .before .before .before in
+    let k = b .before .before .before .before .before .before .before in
+    let a = k .args in
+    let z = c .before .before .before .before .before .before .before .if1 .taken in
+    let M = memoryOf (now (a .waiting)) (now (a .received)) (now (a .state)) in
+    let e = c .before .before .before .before .before .before .description .ensures in
+    let h = opened (k .pre .0) (now (a .s)) M (sym (b .refusal-within .ensures .0) ∙ z) e (c .before .before .open-accepted .ensures) in
+    (h .0, h .1, λ _. b .refusal-within .ensures .1 z)
+
+returns-2 : tie.Need-returns-2
+returns-2 c =
+    let k = c .before .before .before .before .before .before .before .before in
+    let a = k .args in
+    let e = c .before .refusal-within .ensures in
+    let h = refused (k .pre .0) (now (a .s)) (memoryOf (now (a .waiting)) (now (a .received)) (now (a .state))) (e .0) (c .if1 .left) in
+    (h .0, h .1, e .1)
+
+pub open-within-spec : {M : Type 1} → statement M
+open-within-spec =
+    tie.close
+    (tie.spec
+    refusal-within-requires
+    description-requires
+    open-accepted-requires
+    same-length
+    returns
+    returns-2)

@@ -1,0 +1,144 @@
+// What Step, Run, Ready and Result begin with: the refusals of the description, then 20, 26, 21 and 22 of the lent memory; and, if nothing is refused,
+// the words of the processes, the port table of the array and its size.
+//
+// specs/, by file:
+//
+//   Opening   the refusals, and what holds once there is none
+//   Opened    what the rows of the port table then fit
+ghost use mathlib.Core.Path.{_≡_};
+ghost use mathlib.Core.Bool.{not};
+ghost use mathlib.Core.List.{[], _∷_};
+ghost use Prim.Native.Nat.{_≤_};
+ghost use lib.ListN.{length};
+ghost use Rattle.meaning.specs.Tests.{_if_, refusal};
+ghost use Rattle.meaning.specs.Limits.{limitsOf, gaugeLimits, UpTo};
+ghost use Rattle.meaning.specs.Description.{descriptionOf};
+ghost use Rattle.meaning.specs.Array.{arrayOf};
+ghost use Rattle.meaning.specs.Rules.{sound, memoryOf};
+ghost use Rattle.meaning.specs.Calls.{memoryTests, refusedBy};
+ghost use Rattle.layout.specs.Spans.{Spans};
+ghost use Rattle.port_table.specs.PortsOf.{PortsOf};
+ghost use Rattle.opening.specs.Opening.{lengthTests, sizeFrom, Grounds, Standing, Opens, Opened};
+use port_table::Size;
+use meaning::Description;
+use meaning::Figures;
+use meaning::Limits;
+
+// The number of the refusal, 0 for none, and the size of the array.
+pub struct Opening {
+    pub refusal: u32,
+    pub size: Size,
+}
+
+// The first of the refusals 20, 26 and 21 that applies to lists of such lengths, 0 if none does.
+fn length_refusal(f: Figures, waiting: usize, received: usize, state: usize) -> u32
+    ensures { λ r. ⌜ r ≡ refusal (lengthTests (f .elements) (f .words) waiting received state) ⌝ }
+{
+    let e = f.elements as usize;
+    let words = f.words as usize;
+    if waiting != e {
+        return 20;
+    }
+    if received != e {
+        return 26;
+    }
+    if state < words { 21 } else { 0 }
+}
+
+fn size_of(d: Description, f: Figures) -> Size
+    ensures { λ r. ⌜ r ≡ sizeFrom d f ⌝ }
+{
+    Size {
+        processes: f.processes as usize,
+        streams: d.sizes.streams as usize,
+        pipes: f.pipes as usize,
+    }
+}
+
+// 0, or 22 where the state is not sound by the port table of the array.
+fn sound_refusal(d: Description, z: Size, state: &[u32], spans: &[u32], ports: &mut [u32]) -> u32
+    requires { ⌜ (Standing d z (now state) (now ports)) × (Spans (d .nest) (now spans)) × (3072 ≤ length (now spans)) ⌝ }
+    ensures { λ r. ⌜ (r ≡ refusal ((22 if not (sound (arrayOf d) (now (state .entry)))) ∷ [])) × (PortsOf (arrayOf d) (now (ports .exit))) ⌝ }
+{
+    port_fill::fill_ports(d, spans, ports);
+    if sound::sound(ports, state, z) { 0 } else { 22 }
+}
+
+// The refusals of the memory, on an accepted description.
+fn open_accepted(
+    d: Description,
+    waiting: &[u32],
+    received: &[u32],
+    state: &[u32],
+    spans: &[u32],
+    ports: &mut [u32],
+) -> Opening
+    requires { ⌜ (Grounds d) × (Spans (d .nest) (now spans)) × (3072 ≤ length (now spans)) × (length (now ports) ≡ 116736) ⌝ }
+    ensures { λ r. ⌜ Opens d (memoryOf (now (waiting .entry)) (now (received .entry)) (now (state .entry))) (now (ports .exit)) r ⌝ }
+{
+    let f = accept::figures_of(d, spans);
+    let z = size_of(d, f);
+    let r = length_refusal(f, waiting.len(), received.len(), state.len());
+    if r == 0 {
+        Opening {
+            refusal: sound_refusal(d, z, state, spans, ports),
+            size: z,
+        }
+    } else {
+        Opening {
+            refusal: r,
+            size: z,
+        }
+    }
+}
+
+// All refusals that the four calls share, in their order.
+fn open_within(
+    s: &[u8],
+    limits: Limits,
+    waiting: &[u32],
+    received: &[u32],
+    state: &[u32],
+    spans: &mut [u32; 3072],
+    ports: &mut [u32],
+) -> Opening
+    requires { ⌜ (UpTo limits gaugeLimits) × (length (now ports) ≡ 116736) ⌝ }
+    ensures { λ r. ⌜ (r .refusal ≡ refusedBy limits (now (s .entry)) (memoryTests (descriptionOf (now (s .entry)))
+        (memoryOf (now (waiting .entry)) (now (received .entry)) (now (state .entry)))))
+        × (r .refusal ≡ 0 → Opened (now (s .entry)) (memoryOf (now (waiting .entry)) (now (received .entry)) (now (state .entry))) (now (ports .exit)) (r .size))
+        × (r .refusal ≡ 0 → Spans (descriptionOf (now (s .entry)) .nest) (now (spans .exit))) ⌝ }
+{
+    let r = refuse::refusal_within(s, limits, spans);
+    if r == 0 {
+        open_accepted(decode::description(s), waiting, received, state, spans, ports)
+    } else {
+        Opening {
+            refusal: r,
+            size: Size {
+                processes: 0,
+                streams: 0,
+                pipes: 0,
+            },
+        }
+    }
+}
+
+// The same on a board.
+pub fn open(
+    board: u32,
+    s: &[u8],
+    waiting: &[u32],
+    received: &[u32],
+    state: &[u32],
+    spans: &mut [u32; 3072],
+    ports: &mut [u32],
+) -> Opening
+    requires { ⌜ length (now ports) ≡ 116736 ⌝ }
+    ensures { λ r. ⌜ (r .refusal ≡ refusedBy (limitsOf board) (now (s .entry)) (memoryTests (descriptionOf (now (s .entry)))
+        (memoryOf (now (waiting .entry)) (now (received .entry)) (now (state .entry)))))
+        × (r .refusal ≡ 0 → Opened (now (s .entry)) (memoryOf (now (waiting .entry)) (now (received .entry)) (now (state .entry))) (now (ports .exit)) (r .size))
+        × (r .refusal ≡ 0 → Spans (descriptionOf (now (s .entry)) .nest) (now (spans .exit))) ⌝ }
+{
+    let limits = boards::limits_of(board);
+    open_within(s, limits, waiting, received, state, spans, ports)
+}

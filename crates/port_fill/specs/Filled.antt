@@ -1,0 +1,349 @@
+-- The rows of a description, stream by stream: they are those of its array. Assumes a description that is not refused.
+use mathlib.Core.Path.{_≡_, refl, sym, _∙_, ap, ap₂, subst}
+use mathlib.Core.Logic.{_⊎_, inl, inr}
+use mathlib.Core.Bool.{Bool, true, false, cond}
+use mathlib.Core.List.{List, [], _∷_}
+use Prim.Native.Nat.{ℕ, zero, suc, _+_, _-_, _*_, _≤_, _<_}
+use native.Mathlib.Nat.{eq-or-lt-of-le, le-of-suc-le-suc}
+use native.Mathlib.Decide.{decLe}
+use native.Mathlib.Numerals.{add-one}
+use native.Mathlib.Omega.{arith}
+use lib.Dec.{T}
+use lib.ListN.{length, getD, take}
+use lib.Seq.{take-length, getD-take}
+use Rattle.integers.specs.Vectors.{zero2}
+use Rattle.integers.specs.declared.V2.{V2}
+use Rattle.meaning.specs.declared.Nest.{Nest}
+use Rattle.meaning.specs.declared.Stream.{Stream}
+use Rattle.meaning.specs.declared.Description.{Description}
+use Rattle.meaning.specs.Limits.{processWordsMost}
+use Rattle.meaning.specs.Lists.{filter, total}
+use Rattle.meaning.specs.Space.{rowIndex, space, processes}
+use Rattle.meaning.specs.Streams.{hop, elements}
+use Rattle.meaning.specs.Pipes.{entries, pipeElements}
+use Rattle.meaning.specs.Description.{streamsOf, noStream}
+use Rattle.meaning.specs.Body.{streamStart}
+use Rattle.meaning.specs.Array.{Array, arrayOf, pipeNumber, partStart}
+use Rattle.geometry.specs.Members.{filter-in, total-none, total-next}
+use Rattle.geometry.specs.Sorting.{sorted-filter}
+use Rattle.geometry.specs.Places.{ahead, getD-in, ahead-getD, ahead-filter}
+use Rattle.geometry.specs.Boxes.{row-distinct, points-sorted}
+use Rattle.geometry.specs.Elements.{partOf}
+use Rattle.geometry.specs.Descriptions.{Laid}
+use Rattle.geometry.specs.Arrays.{streamAt, pipe-count}
+use Rattle.addresses.specs.Pipes.{entryCount, base, entryAt, base-next, part-start}
+use Rattle.addresses.specs.Through.{is-true, pointOf}
+use Rattle.addresses.specs.Ends.{number-lt, number-point, entry-inside}
+use Rattle.addresses.specs.Indices.{portWords as portSize, endsWords, strideOf, process-count, stream-count}
+use Rattle.ports.specs.declared.Port.{Port}
+use Rattle.ports.specs.declared.End.{End}
+use Rattle.ports.specs.Rows.{rowOf}
+use Rattle.ports.specs.Ends.{endOf}
+use Rattle.layout.specs.Spans.{Spans}
+use Rattle.elements.specs.Counts.{total-most}
+use Rattle.pipe_parts.specs.Starts.{entering, startAt, enteredAt, entered-next, one-yes}
+use Rattle.accept.specs.Shares.{Described, share-small, totals-room, stream-sharing}
+use Rattle.port_rows.specs.declared.Strand.{Strand}
+use Rattle.port_rows.specs.Strands.{Narrow, endFrom}
+use Rattle.port_rows.specs.Rows.{StrandOf, row-is, end-is}
+use Rattle.port_table.specs.Rows.{portWords, endWords}
+use Rattle.port_table.specs.PortsOf.{PortsOf}
+use Rattle.port_fill.specs.declared.Sums.{Sums}
+use Rattle.port_fill.specs.Marks.{marks-length, marks-other, marks-at, read-port, read-end}
+use Rattle.port_fill.specs.Strung.{Slack, join, strandFrom, always, portPlace, portLine, portRows, onEnd, endLine, endSpot, endRows, streamRows, StreamFillable, entered-few}
+
+-- ---- numbers and lists
+
+-- rows of an earlier stream lie apart
+rows-apart : (p k v r i : ℕ) → k < i → i < 6 → v < 10 → (60 * p + 10 * k + v < 60 * r + 10 * i) ⊎ (60 * r + 10 * i + 10 ≤ 60 * p + 10 * k + v)
+rows-apart p k v r i l hi hv = go (decLe p r)
+  where
+    go : Dec (p ≤ r) → (60 * p + 10 * k + v < 60 * r + 10 * i) ⊎ (60 * r + 10 * i + 10 ≤ 60 * p + 10 * k + v)
+    go (yes h) = inl (omega arith)
+    go (no h) = inr (omega arith)
+
+-- the members that pass before some place are the first of those that pass
+take-filter : {A : Type 0} (f : A → Bool) (k : ℕ) (l : List A) → take (length (filter f (take k l))) (filter f l) ≡ filter f (take k l)
+unfolding filter
+take-filter f zero [] = refl
+take-filter f (suc k) [] = refl
+take-filter {A} f zero (x ∷ l) = go (cond (f x) (x ∷ filter f l) (filter f l))
+  where
+    go : (m : List A) → take 0 m ≡ []
+    go [] = refl
+    go (y ∷ m) = refl
+take-filter {A} f (suc k) (x ∷ l) = go (f x) (take-filter f k l)
+  where
+    go : (b : Bool) → take (length (filter f (take k l))) (filter f l) ≡ filter f (take k l)
+        → take (length (cond b (x ∷ filter f (take k l)) (filter f (take k l)))) (cond b (x ∷ filter f l) (filter f l))
+        ≡ cond b (x ∷ filter f (take k l)) (filter f (take k l))
+    go true e = ap (λ (m : List A). x ∷ m) e
+    go false e = e
+
+-- ---- what the plan says
+
+-- of the first i streams
+pub record Filled (d : Description) (i : ℕ) (l : List ℕ) : Type 0 where
+  pub words : length l ≡ 116736
+  pub ports : (p k : ℕ) → p < length (processes (d .nest)) → k < i → (v : ℕ) → v < 10
+      → getD l (60 * p + 10 * k + v) 0 ≡ getD (portWords (rowOf (arrayOf d) p k)) v 0
+  pub ends : (q : ℕ) → q < base d i → (v : ℕ) → v < 9 → getD l (61440 + 9 * q + v) 0 ≡ getD (endWords (endOf (arrayOf d) q)) v 0
+
+-- ---- the sums
+
+abbrev pub sumsOf : Description → ℕ → Sums
+sumsOf d i =
+    record {
+      words = total (portSize (d .nest)) (take i (streamsOf d));
+      pipes = base d i;
+      ends = total (endsWords (d .nest)) (take i (streamsOf d));
+    }
+
+abbrev pub noSums : Sums
+noSums = record { words = 0; pipes = 0; ends = 0 }
+
+same-sums : {a b : Sums} → a .words ≡ b .words → a .pipes ≡ b .pipes → a .ends ≡ b .ends → a ≡ b
+same-sums e f g = λ i. record { words = e i; pipes = f i; ends = g i }
+
+pub sums-zero : (d : Description) → noSums ≡ sumsOf d 0
+sums-zero d =
+    same-sums (sym (total-none (portSize (d .nest)) (streamsOf d))) (sym (total-none (entryCount (d .nest)) (streamsOf d)))
+    (sym (total-none (endsWords (d .nest)) (streamsOf d)))
+
+-- what the functions are lent
+pub record Started (d : Description) (stride count : ℕ) (spans : List ℕ) : Type 0 where
+  pub described : Described d
+  pub laid : Laid d
+  pub narrow : stride ≤ processWordsMost
+  pub strides : stride ≡ strideOf d
+  pub counted : count ≡ length (processes (d .nest))
+  pub of-spans : Spans (d .nest) spans
+  pub long : 3072 ≤ length spans
+
+module _ (d : Description) (h : Described d) where
+  abbrev nest : Nest
+  nest = d .nest
+
+  -- stream i, as it is read
+  stream-of : (i : ℕ) {s : Stream} → i < d .sizes .streams → s ≡ getD (d .streams) i noStream → s ≡ streamAt d i
+  stream-of i l e = e ∙ sym (getD-take (d .sizes .streams) (d .streams) i noStream l)
+
+  pub six : d .sizes .streams ≤ 6
+  six = h .few .ranged .sized .most-streams
+
+  pub sums-slack : (i : ℕ) → i ≤ d .sizes .streams → Slack (sumsOf d i)
+  sums-slack i l = let r = totals-room d h i l in record { words = r .words; pipes = r .pipes; ends = r .ends }
+
+  next : (f : Stream → ℕ) (i : ℕ) → i < d .sizes .streams → total f (take i (streamsOf d)) + f (streamAt d i) ≡ total f (take (i + 1) (streamsOf d))
+  next f i l =
+      sym (ap (λ (k : ℕ). total f (take k (streamsOf d))) (add-one i) ∙ total-next f (streamsOf d) i noStream (omega (arith, h .in-use)))
+
+  pub sums-next : (i : ℕ) {s : Stream} → i < d .sizes .streams → s ≡ getD (d .streams) i noStream → {k c : ℕ} → k ≡ hop nest s → c ≡ length (entries nest s)
+      → {t : Sums} → t ≡ sumsOf d i → join t k c ≡ sumsOf d (i + 1)
+  sums-next i {s} l e {k} {c} ek ec et =
+      ap (λ (t : Sums). join t k c) et ∙ ap₂ (join (sumsOf d i)) ek ec
+      ∙ ap (λ (s : Stream). join (sumsOf d i) (hop nest s) (length (entries nest s))) (stream-of i l e)
+      ∙ same-sums (next (portSize nest) i l) (next (entryCount nest) i l) (next (endsWords nest) i l)
+
+  -- the words of a process, stream by stream
+  pub stride-zero : 1 ≡ 1 + total (portSize nest) (take 0 (streamsOf d))
+  stride-zero = ap (λ (c : ℕ). 1 + c) (sym (total-none (portSize nest) (streamsOf d)))
+
+  pub stride-next : (i : ℕ) {s : Stream} → i < d .sizes .streams → s ≡ getD (d .streams) i noStream → {k sum : ℕ} → k ≡ hop nest s
+      → sum ≡ 1 + total (portSize nest) (take i (streamsOf d)) → sum + (4 + k) ≡ 1 + total (portSize nest) (take (i + 1) (streamsOf d))
+  stride-next i l e ek es =
+      omega (arith, es, ek ∙ ap (hop nest) (stream-of i l e), next (portSize nest) i l)
+
+  pub stride-all : {i sum : ℕ} → i ≡ d .sizes .streams → sum ≡ 1 + total (portSize nest) (take i (streamsOf d)) → (sum ≡ strideOf d) × (sum ≤ processWordsMost)
+  stride-all {i} e es = (
+    es ∙ ap (λ (k : ℕ). 1 + total (portSize nest) (take k (streamsOf d))) (e ∙ sym (h .in-use))
+        ∙ ap (λ (l : List Stream). 1 + total (portSize nest) l) (take-length (streamsOf d)),
+    omega (arith, es, sums-slack i (omega arith) .words),
+  )
+
+  base-most : (i : ℕ) → i < d .sizes .streams → base d i ≤ 5120
+  base-most i l =
+      omega (
+        arith,
+        six,
+        total-most (entryCount nest) (streamsOf d) i 1024 noStream (omega (arith, h .in-use))
+            (λ j k. share-small (h .streams j (omega (arith, h .in-use))) .pipes),
+      )
+
+  first-most : (i : ℕ) → i < d .sizes .streams → streamStart nest (streamsOf d) i ≤ 24576
+  first-most i l =
+      omega (
+        arith,
+        six,
+        total-most (λ s. length (elements nest s)) (streamsOf d) i 4096 noStream (omega (arith, h .in-use)) (λ j k. h .few .few j (omega (arith, h .in-use))),
+      )
+
+  -- stream i, as the functions ask
+  pub stringing : (i : ℕ) {s : Stream} → i < d .sizes .streams → s ≡ getD (d .streams) i noStream → {g : Strand} → Narrow g → {first : ℕ}
+      → first ≡ streamStart nest (streamsOf d) i → {t : Sums} → t ≡ sumsOf d i → {spans : List ℕ} → Spans nest spans → 3072 ≤ length spans
+      → StreamFillable nest s g i first (t .pipes) spans
+  stringing i l e w ef et of-spans long =
+      record {
+        sharing = stream-sharing d h i l e;
+        of-spans = of-spans;
+        long = long;
+        narrow = w;
+        stream = omega (arith, six);
+        early = omega (arith, ef, first-most i l);
+        based = omega (arith, ap (λ (t : Sums). t .pipes) et, base-most i l);
+      }
+
+  -- ---- a stream
+
+  module _ (laid : Laid d) (i : ℕ) (l : i < d .sizes .streams) {g : Strand} (sg : StrandOf d i g) (xs : List ℕ) (done : Filled d i xs) where
+    abbrev A : Array
+    A = arrayOf d
+
+    abbrev s : Stream
+    s = streamAt d i
+
+    abbrev P : ℕ
+    P = length (processes nest)
+
+    abbrev b : ℕ
+    b = base d i
+
+    abbrev first : ℕ
+    first = streamStart nest (streamsOf d) i
+
+    abbrev ys : List ℕ
+    ys = portRows nest s g i P xs
+
+    abbrev zs : List ℕ
+    zs = endRows nest s g first b P ys
+
+    hi : i < length (streamsOf d)
+    hi = omega (arith, h .in-use)
+
+    below : i < 6
+    below = omega (arith, six)
+
+    low-stays : (a : ℕ) → a < 61440 → getD zs a 0 ≡ getD ys a 0
+    low-stays a k = marks-other (onEnd nest s) (endLine nest s g first) (endSpot nest s b) 9 P a ys (λ p _ _. inl (omega arith))
+
+    row-stays : (p k v : ℕ) → p < P → k < i → v < 10 → getD zs (60 * p + 10 * k + v) 0 ≡ getD xs (60 * p + 10 * k + v) 0
+    row-stays p k v hp m hv =
+        low-stays (60 * p + 10 * k + v) (omega (arith, h .processes, below))
+        ∙ marks-other always (portLine nest s g) (portPlace i) 10 P (60 * p + 10 * k + v) xs (λ r _ _. rows-apart p k v r i m below hv)
+
+    own-port : (p : ℕ) → p < P → (v : ℕ) → v < 10 → getD zs (60 * p + 10 * i + v) 0 ≡ getD (portWords (rowOf A p i)) v 0
+    own-port p hp v hv =
+        low-stays (60 * p + 10 * i + v) (omega (arith, h .processes, below))
+        ∙ marks-at always (portLine nest s g) (portPlace i) 10 P p v xs hp refl hv (omega (arith, done .words, h .processes, below))
+        (λ r k _ _. inl (omega arith))
+        ∙ ap (λ (k : Port). getD (portWords k) v 0) (row-is laid sg p hp)
+
+    ports-next : (p k : ℕ) → p < P → k < suc i → (v : ℕ) → v < 10 → getD zs (60 * p + 10 * k + v) 0 ≡ getD (portWords (rowOf A p k)) v 0
+    ports-next p k hp hk v hv = go (eq-or-lt-of-le (le-of-suc-le-suc hk))
+      where
+        go : (k ≡ i) ⊎ (k < i) → getD zs (60 * p + 10 * k + v) 0 ≡ getD (portWords (rowOf A p k)) v 0
+        go (inl e) = subst (λ (k : ℕ). getD zs (60 * p + 10 * k + v) 0 ≡ getD (portWords (rowOf A p k)) v 0) (sym e) (own-port p hp v hv)
+        go (inr m) = row-stays p k v hp m hv ∙ done .ports p k hp m v hv
+
+    -- more pipes enter before a later process
+    up : (p r : ℕ) → p ≤ r → r ≤ P → enteredAt nest s p ≤ enteredAt nest s r
+    up p zero h k = let e : p ≡ 0 = omega arith in omega (arith, ap (enteredAt nest s) e)
+    up p (suc r) h k = go (eq-or-lt-of-le h) (λ m. up p r m (omega arith))
+      where
+        go : (p ≡ suc r) ⊎ (p < suc r) → (p ≤ r → enteredAt nest s p ≤ enteredAt nest s r) → enteredAt nest s p ≤ enteredAt nest s (suc r)
+        go (inl e) ih = omega (arith, ap (enteredAt nest s) e)
+        go (inr m) ih = omega (arith, ih (omega arith), entered-next nest s r (omega arith) _ refl)
+
+    own-end : (j : ℕ) → j < length (entries nest s) → (v : ℕ) → v < 9
+        → getD zs (61440 + 9 * (b + j) + v) 0 ≡ getD (endWords (endOf A (b + j))) v 0
+    own-end j hj v hv =
+        let e = entryAt d i j in
+        let p = rowIndex (space nest) e in
+        let there : pointOf d p ≡ e = number-point d (entry-inside laid i j hi hj) in
+        let lt : p < P = number-lt d (entry-inside laid i j hi hj) in
+        let t : T (entering nest s (pointOf d p)) =
+        subst (λ (y : V2). T (entering nest s y)) (sym there) (filter-in (entering nest s) (processes nest) (getD-in (entries nest s) j zero2 hj) .ok) in
+        let on : onEnd nest s p ≡ true = is-true (entering nest s (pointOf d p)) t in
+        let apart = row-distinct (points-sorted (space nest)) in
+        let count : enteredAt nest s p ≡ j =
+        sym (ahead-filter (entering nest s) apart p zero2 lt t) ∙ ap (λ (y : V2). ahead y (entries nest s)) there
+        ∙ ahead-getD (entries nest s) j zero2 (sorted-filter (entering nest s) apart) hj in
+        let start : startAt nest s first p ≡ partStart A (b + j) =
+        sym (part-start d i j hi hj laid ∙ ap (λ (c : ℕ). first + partOf nest s c) (sym count)
+        ∙ ap (λ (m : List V2). first + total (λ y. length (pipeElements nest s y)) m) (take-filter (entering nest s) p (processes nest))) in
+        ap (λ (c : ℕ). getD zs (61440 + 9 * (b + c) + v) 0) (sym count)
+        ∙ marks-at (onEnd nest s) (endLine nest s g first) (endSpot nest s b) 9 P p v ys lt on hv
+        (omega (arith, marks-length always (portLine nest s g) (portPlace i) 10 P xs, done .words, base-most i l, entered-few nest s p, h .processes))
+        (λ r m k _. inl (omega (arith, up (suc p) r m (omega arith), entered-next nest s p lt 1 (one-yes nest s p on))))
+        ∙ ap (λ (c : ℕ). getD (endWords (endFrom nest s g (startAt nest s first p) c p)) v 0) count
+        ∙ ap (λ (k : End). getD (endWords k) v 0) (end-is laid sg j hj start)
+
+    ends-next : (q : ℕ) → q < base d (suc i) → (v : ℕ) → v < 9 → getD zs (61440 + 9 * q + v) 0 ≡ getD (endWords (endOf A q)) v 0
+    ends-next q hq v hv = go (decLe (suc q) b)
+      where
+        go : Dec (suc q ≤ b) → getD zs (61440 + 9 * q + v) 0 ≡ getD (endWords (endOf A q)) v 0
+        go (yes k) =
+            marks-other (onEnd nest s) (endLine nest s g first) (endSpot nest s b) 9 P (61440 + 9 * q + v) ys (λ p _ _. inl (omega arith))
+            ∙ marks-other always (portLine nest s g) (portPlace i) 10 P (61440 + 9 * q + v) xs (λ r m _. inr (omega (arith, h .processes, below)))
+            ∙ done .ends q k v hv
+        go (no k) =
+            let e : b + (q - b) ≡ q = omega arith in
+            subst (λ (q : ℕ). getD zs (61440 + 9 * q + v) 0 ≡ getD (endWords (endOf A q)) v 0) e
+            (own-end (q - b) (omega (arith, hq, base-next d i hi)) v hv)
+
+    stream-filled : Filled d (suc i) zs
+    stream-filled =
+        record {
+          words =
+              marks-length (onEnd nest s) (endLine nest s g first) (endSpot nest s b) 9 P ys
+              ∙ marks-length always (portLine nest s g) (portPlace i) 10 P xs ∙ done .words;
+          ports = ports-next;
+          ends = ends-next;
+        }
+
+-- ---- a turn of the loop over the streams
+
+module _ {d : Description} {stride count : ℕ} {spans : List ℕ} (h : Started d stride count spans) (i : ℕ) (l : i < d .sizes .streams) {s : Stream}
+    (es : s ≡ getD (d .streams) i noStream) {t : Sums} (et : t ≡ sumsOf d i) {g : Strand} (eg : g ≡ strandFrom (hop (d .nest) s) count stride t) where
+  strand-is : StrandOf d i g
+  strand-is =
+      record {
+        lt = omega (arith, h .described .in-use);
+        hop = ap (λ (g : Strand). g .hop) eg ∙ ap (hop (d .nest)) (stream-of d (h .described) i l es);
+        stride = ap (λ (g : Strand). g .stride) eg ∙ h .strides;
+        offset = ap (λ (g : Strand). g .offset) eg ∙ ap (λ (t : Sums). 1 + t .words) et;
+        tail =
+            ap (λ (g : Strand). g .tail) eg ∙ ap₂ (λ (p w : ℕ). p * w + t .ends) (h .counted) (h .strides)
+            ∙ ap (λ (t : Sums). length (processes (d .nest)) * strideOf d + t .ends) et;
+      }
+
+  pub filled-next : {first : ℕ} → first ≡ streamStart (d .nest) (streamsOf d) i → (xs : List ℕ) {out : List ℕ}
+      → out ≡ streamRows (d .nest) s g i first (t .pipes) xs → Filled d i xs → Filled d (i + 1) out
+  filled-next {first} ef xs {out} o f =
+      subst (λ (k : ℕ). Filled d k out) (sym (add-one i))
+      (subst (Filled d (suc i))
+      (sym (o ∙ ap (λ (s : Stream). streamRows (d .nest) s g i first (t .pipes) xs) (stream-of d (h .described) i l es)
+      ∙ ap₂ (λ (first base : ℕ). streamRows (d .nest) (streamAt d i) g i first base xs) ef (ap (λ (t : Sums). t .pipes) et)))
+      (stream-filled d (h .described) (h .laid) i l strand-is xs f))
+
+pub filled-zero : (d : Description) → {xs : List ℕ} → length xs ≡ 116736 → Filled d 0 xs
+filled-zero d e =
+    record {
+      words = e;
+      ports = λ p k hp hk. absurd (omega arith);
+      ends = λ q hq. absurd (omega (arith, total-none (entryCount (d .nest)) (streamsOf d)));
+    }
+
+pub ports-is : (d : Description) → Described d → {i : ℕ} → i ≡ d .sizes .streams → {xs : List ℕ} → Filled d i xs → PortsOf (arrayOf d) xs
+ports-is d h {i} e {xs} f =
+    record {
+      words = f .words;
+      ports = λ p k hp hk.
+          read-port xs (60 * p + 10 * k) (rowOf (arrayOf d) p k)
+          (f .ports p k (omega (arith, process-count d)) (omega (arith, stream-count d, h .in-use)));
+      ends = λ q hq. read-end xs (61440 + 9 * q) (endOf (arrayOf d) q) (f .ends q (omega (arith, all)));
+    }
+  where
+    all : base d i ≡ pipeNumber (arrayOf d)
+    all =
+        ap (base d) (e ∙ sym (h .in-use)) ∙ ap (total (entryCount (d .nest))) (take-length (streamsOf d)) ∙ sym (pipe-count d)

@@ -1,0 +1,255 @@
+-- The rows of a stream, what its rows share, and what the functions are lent. Assumes nothing.
+use mathlib.Core.Path.{_≡_, sym, _∙_, ap, ap₂, subst₂}
+use mathlib.Core.Bool.{Bool, true, false, cond}
+use mathlib.Core.List.{List}
+use Prim.Native.Nat.{ℕ, _+_, _*_, _≤_, _<_}
+use native.Mathlib.Omega.{arith}
+use lib.ListN.{length, getD, take, length-take}
+use lib.Seq.{take-length}
+use Rattle.integers.specs.Fill.{fillBy, fill-length, fill-at}
+use Rattle.integers.specs.declared.V2.{V2}
+use Rattle.meaning.specs.declared.Nest.{Nest}
+use Rattle.meaning.specs.declared.Stream.{Stream}
+use Rattle.meaning.specs.Limits.{processWordsMost, endWordsMost}
+use Rattle.meaning.specs.Lists.{filter}
+use Rattle.meaning.specs.Space.{processes}
+use Rattle.meaning.specs.Streams.{elements}
+use Rattle.meaning.specs.Pipes.{entries}
+use Rattle.layout.specs.Spans.{processOf, Spans}
+use Rattle.ports.specs.declared.Port.{Port}
+use Rattle.ports.specs.declared.End.{End}
+use Rattle.pipes.specs.declared.Flow.{Flow}
+use Rattle.pipes.specs.Flow.{Flows, Seen}
+use Rattle.pipes.specs.Elements.{Near}
+use Rattle.pipe_parts.specs.Starts.{entering, filter-fewer, startAt, enteredAt, start-most}
+use Rattle.accept.specs.Shares.{Sharing}
+use Rattle.port_rows.specs.declared.Strand.{Strand}
+use Rattle.port_rows.specs.Strands.{Narrow, PortGiven, rowFrom, endFrom}
+use Rattle.port_table.specs.Stored.{stored}
+use Rattle.port_table.specs.Rows.{portWords, endWords}
+use Rattle.port_fill.specs.declared.Sums.{Sums}
+use Rattle.port_fill.specs.Marks.{mark, marks, marks-step, marks-length}
+
+-- ---- what the rows share
+
+-- small enough for a further stream
+pub record Slack (t : Sums) : Type 0 where
+  pub words : 1 + t .words ≤ processWordsMost
+  pub pipes : t .pipes ≤ 6144
+  pub ends : t .ends ≤ 6 * endWordsMost
+
+abbrev pub join : Sums → ℕ → ℕ → Sums
+join t hop pipes = record { words = t .words + (4 + hop); pipes = t .pipes + pipes; ends = t .ends + pipes * (2 + hop) }
+
+abbrev pub strandFrom : ℕ → ℕ → ℕ → Sums → Strand
+strandFrom hop processes stride t = record { hop = hop; stride = stride; offset = 1 + t .words; tail = processes * stride + t .ends }
+
+-- ---- the rows
+
+-- the row of a process of stream i: every one has a row
+abbrev pub always : ℕ → Bool
+always p = true
+
+abbrev pub portPlace : ℕ → ℕ → ℕ
+portPlace i p = 60 * p + 10 * i
+
+abbrev pub portLine : Nest → Stream → Strand → ℕ → List ℕ
+portLine n s g p = portWords (rowFrom n s g p)
+
+abbrev pub portRow : Nest → Stream → Strand → ℕ → ℕ → List ℕ → List ℕ
+portRow n s g i p l = mark always (portLine n s g) (portPlace i) 10 p l
+
+abbrev pub portRows : Nest → Stream → Strand → ℕ → ℕ → List ℕ → List ℕ
+portRows n s g i k l = marks always (portLine n s g) (portPlace i) 10 k l
+
+-- the row of the pipe that enters at a process
+abbrev pub onEnd : Nest → Stream → ℕ → Bool
+onEnd n s p = entering n s (processOf n p)
+
+abbrev pub endPlace : ℕ → ℕ → ℕ
+endPlace base j = 61440 + 9 * (base + j)
+
+abbrev pub endRow : Nest → Stream → Strand → ℕ → ℕ → ℕ → ℕ → List ℕ → List ℕ
+endRow n s g start base j p l = cond (onEnd n s p) (stored (endWords (endFrom n s g start j p)) (endPlace base j) 9 l) l
+
+abbrev pub endLine : Nest → Stream → Strand → ℕ → ℕ → List ℕ
+endLine n s g first p = endWords (endFrom n s g (startAt n s first p) (enteredAt n s p) p)
+
+abbrev pub endSpot : Nest → Stream → ℕ → ℕ → ℕ
+endSpot n s base p = endPlace base (enteredAt n s p)
+
+abbrev pub endRows : Nest → Stream → Strand → ℕ → ℕ → ℕ → List ℕ → List ℕ
+endRows n s g first base k l = marks (onEnd n s) (endLine n s g first) (endSpot n s base) 9 k l
+
+abbrev pub streamRows : Nest → Stream → Strand → ℕ → ℕ → ℕ → List ℕ → List ℕ
+streamRows n s g i first base l = endRows n s g first base (length (processes n)) (portRows n s g i (length (processes n)) l)
+
+-- ---- what the functions are lent
+
+pub record PortFillable (f : Flow) (g : Strand) (spans lanes entered : List ℕ) (i p : ℕ) : Type 0 where
+  pub has-port : PortGiven f spans lanes entered p
+  pub narrow : Narrow g
+  pub small : length (elements (f .nest) (f .stream)) ≤ 4096
+  pub stream : i < 6
+
+pub record EndFillable (f : Flow) (g : Strand) (spans lanes : List ℕ) (start base j p : ℕ) : Type 0 where
+  pub near : Near f spans lanes p
+  pub narrow : Narrow g
+  pub small : length (elements (f .nest) (f .stream)) ≤ 4096
+  pub begins : start ≤ 28672
+  pub based : base ≤ 5120
+  pub pipe : j < 1024
+
+pub record PortsFillable (f : Flow) (g : Strand) (count : ℕ) (spans lanes entered : List ℕ) (i : ℕ) : Type 0 where
+  pub seen : Seen f spans lanes
+  pub counted : count ≡ length (processes (f .nest))
+  pub counts : (e : ℕ) → e < length (processes (f .nest)) → getD entered e 0 ≡ enteredAt (f .nest) (f .stream) e
+  pub long : 1024 ≤ length entered
+  pub narrow : Narrow g
+  pub small : length (elements (f .nest) (f .stream)) ≤ 4096
+  pub stream : i < 6
+
+pub record EndsFillable (f : Flow) (g : Strand) (count : ℕ) (spans lanes starts : List ℕ) (first base : ℕ) : Type 0 where
+  pub seen : Seen f spans lanes
+  pub counted : count ≡ length (processes (f .nest))
+  pub long : 1024 ≤ length starts
+  pub begins : (e : ℕ) → e < length (processes (f .nest)) → getD starts e 0 ≡ startAt (f .nest) (f .stream) first e
+  pub narrow : Narrow g
+  pub small : length (elements (f .nest) (f .stream)) ≤ 4096
+  pub early : first ≤ 24576
+  pub based : base ≤ 5120
+
+pub record StreamFillable (n : Nest) (s : Stream) (g : Strand) (i first base : ℕ) (spans : List ℕ) : Type 0 where
+  pub sharing : Sharing n s
+  pub of-spans : Spans n spans
+  pub long : 3072 ≤ length spans
+  pub narrow : Narrow g
+  pub stream : i < 6
+  pub early : first ≤ 24576
+  pub based : base ≤ 5120
+
+-- ---- a turn
+
+module _ {f : Flow} {g : Strand} {count : ℕ} {spans lanes entered : List ℕ} {i : ℕ} (h : PortsFillable f g count spans lanes entered i) where
+  pub port-fillable : (p : ℕ) → p < count → PortFillable f g spans lanes entered i p
+  port-fillable p l =
+      record {
+        has-port =
+            record {
+              near = record { seen = h .seen; lt = omega (arith, h .counted) };
+              counts = h .counts;
+              long = h .long;
+            };
+        narrow = h .narrow;
+        small = h .small;
+        stream = h .stream;
+      }
+
+-- fewer pipes enter before a process than processes stand there
+pub entered-few : (n : Nest) (s : Stream) (p : ℕ) → enteredAt n s p ≤ p
+entered-few n s p = omega (arith, filter-fewer (entering n s) (take p (processes n)), length-take p (processes n))
+
+pub entered-all : (n : Nest) (s : Stream) (p : ℕ) → p ≡ length (processes n) → enteredAt n s p ≡ length (entries n s)
+entered-all n s p e =
+    ap (enteredAt n s) e ∙ ap (λ (l : List V2). length (filter (entering n s) l)) (take-length (processes n))
+
+module _ {f : Flow} {g : Strand} {count : ℕ} {spans lanes starts : List ℕ} {first base : ℕ} (h : EndsFillable f g count spans lanes starts first base) where
+  pub end-fillable : (p : ℕ) → p < count → {j : ℕ} → j ≡ enteredAt (f .nest) (f .stream) p → EndFillable f g spans lanes (getD starts p 0) base j p
+  end-fillable p l e =
+      record {
+        near = record { seen = h .seen; lt = omega (arith, h .counted) };
+        narrow = h .narrow;
+        small = h .small;
+        begins =
+            omega (
+              arith,
+              h .begins p (omega (arith, h .counted)),
+              start-most (h .seen .flows .laid .accepted) (h .small) first p,
+              h .early,
+            );
+        based = h .based;
+        pipe = omega (arith, e, entered-few (f .nest) (f .stream) p, h .counted, h .seen .flows .laid .processes);
+      }
+
+-- ---- one row
+
+pub port-put : (n : Nest) (s : Stream) (g : Strand) (i p : ℕ) (l : List ℕ) {r : Port} → r ≡ rowFrom n s g p → {out : List ℕ}
+    → out ≡ stored (portWords r) (portPlace i p) 10 l → out ≡ portRow n s g i p l
+port-put n s g i p l er eo = eo ∙ ap (λ (r : Port). stored (portWords r) (portPlace i p) 10 l) er
+
+module _ (n : Nest) (s : Stream) (g : Strand) (start base j p : ℕ) (l : List ℕ) where
+  abbrev ended : List ℕ
+  ended = stored (endWords (endFrom n s g start j p)) (endPlace base j) 9 l
+
+  pub end-put : onEnd n s p ≡ true → {r : End} → r ≡ endFrom n s g start j p → {out : List ℕ} → out ≡ stored (endWords r) (endPlace base j) 9 l
+      → out ≡ endRow n s g start base j p l
+  end-put t er eo = eo ∙ ap (λ (r : End). stored (endWords r) (endPlace base j) 9 l) er ∙ sym (ap (λ (b : Bool). cond b ended l) t)
+
+  pub end-left : onEnd n s p ≡ false → l ≡ endRow n s g start base j p l
+  end-left t = sym (ap (λ (b : Bool). cond b ended l) t)
+
+-- ---- one row more
+
+module _ (n : Nest) (s : Stream) (g : Strand) (i p : ℕ) (l : List ℕ) {x : List ℕ} (e : x ≡ portRows n s g i p l) where
+  pub ports-length : length x ≡ length l
+  ports-length = ap length e ∙ marks-length always (portLine n s g) (portPlace i) 10 p l
+
+  pub ports-turn : {out : List ℕ} → out ≡ portRow n s g i p x → out ≡ portRows n s g i (p + 1) l
+  ports-turn o = o ∙ ap (portRow n s g i p) e ∙ sym (marks-step always (portLine n s g) (portPlace i) 10 p l)
+
+module _ (n : Nest) (s : Stream) (g : Strand) (first base p : ℕ) (l : List ℕ) {x : List ℕ} (e : x ≡ endRows n s g first base p l) where
+  pub ends-length : length x ≡ length l
+  ends-length = ap length e ∙ marks-length (onEnd n s) (endLine n s g first) (endSpot n s base) 9 p l
+
+  pub ends-turn : {start j : ℕ} → start ≡ startAt n s first p → j ≡ enteredAt n s p → {out : List ℕ} → out ≡ endRow n s g start base j p x
+      → out ≡ endRows n s g first base (p + 1) l
+  ends-turn es ej o =
+      o ∙ ap₂ (λ (start j : ℕ). endRow n s g start base j p x) es ej ∙ ap (endRow n s g (startAt n s first p) base (enteredAt n s p) p) e
+      ∙ sym (marks-step (onEnd n s) (endLine n s g first) (endSpot n s base) 9 p l)
+
+-- ---- a stream by its flow
+
+module _ {f : Flow} (flows : Flows f) {n : Nest} {s : Stream} (en : f .nest ≡ n) (es : f .stream ≡ s) {g : Strand} {i first base : ℕ} {spans : List ℕ}
+    (h : StreamFillable n s g i first base spans) where
+  pub small-here : length (elements (f .nest) (f .stream)) ≤ 4096
+  small-here = subst₂ (λ (n : Nest) (s : Stream). length (elements n s) ≤ 4096) (sym en) (sym es) (h .sharing .elements)
+
+  module _ {lanes : List ℕ} (seen : Seen f spans lanes) {count : ℕ} (c : count ≡ length (processes (f .nest))) (xs : List ℕ) (w : length xs ≡ 1024) where
+    filled-at : (v : ℕ → ℕ) {out : List ℕ} → out ≡ fillBy v count xs → (e : ℕ) → e < length (processes (f .nest)) → getD out e 0 ≡ v e
+    filled-at v o e l =
+        ap (λ (m : List ℕ). getD m e 0) o ∙ fill-at v count e xs 0 (omega (arith, c)) (omega (arith, c, w, flows .laid .processes))
+
+    filled-long : (v : ℕ → ℕ) {out : List ℕ} → out ≡ fillBy v count xs → 1024 ≤ length out
+    filled-long v o = omega (arith, ap length o, fill-length v count xs, w)
+
+    pub ports-fillable : {entered : List ℕ} → entered ≡ fillBy (enteredAt (f .nest) (f .stream)) count xs → PortsFillable f g count spans lanes entered i
+    ports-fillable o =
+        record {
+          seen = seen;
+          counted = c;
+          counts = filled-at (enteredAt (f .nest) (f .stream)) o;
+          long = filled-long (enteredAt (f .nest) (f .stream)) o;
+          narrow = h .narrow;
+          small = small-here;
+          stream = h .stream;
+        }
+
+    pub ends-fillable : {starts : List ℕ} → starts ≡ fillBy (startAt (f .nest) (f .stream) first) count xs → EndsFillable f g count spans lanes starts first base
+    ends-fillable o =
+        record {
+          seen = seen;
+          counted = c;
+          begins = filled-at (startAt (f .nest) (f .stream) first) o;
+          long = filled-long (startAt (f .nest) (f .stream) first) o;
+          narrow = h .narrow;
+          small = small-here;
+          early = h .early;
+          based = h .based;
+        }
+
+  pub strung : {count : ℕ} → count ≡ length (processes (f .nest)) → (l : List ℕ) {x out : List ℕ} → x ≡ portRows (f .nest) (f .stream) g i count l
+      → out ≡ endRows (f .nest) (f .stream) g first base count x → out ≡ streamRows n s g i first base l
+  strung {count} c l ex eo =
+      eo ∙ ap (endRows (f .nest) (f .stream) g first base count) ex
+      ∙ ap (λ (k : ℕ). endRows (f .nest) (f .stream) g first base k (portRows (f .nest) (f .stream) g i k l)) c
+      ∙ ap₂ (λ (n : Nest) (s : Stream). streamRows n s g i first base l) en es

@@ -1,0 +1,234 @@
+// The plan of a description: the rows of all its ports and of all its pipes' ends, in one lent port table. Stream by stream: what its rows share, by the sums
+// over the streams before it; then the row of each process, and the row of each pipe, by its entry.
+//
+// specs/, by file:
+//
+//   Marks     rows written where a test says so: what stands, and what stays
+//   Widths    the rows of a stream fit words
+//   Strung    the rows of a stream, and what the functions are lent
+//   Plan      stream by stream, the rows are those of the array: `filled-next`
+ghost use mathlib.Core.Path.{_≡_};
+ghost use Prim.Native.Nat.{_≤_};
+ghost use lib.ListN.{length};
+ghost use Rattle.meaning.specs.Limits.{gaugeLimits, processWordsMost};
+ghost use Rattle.meaning.specs.Streams.{hop};
+ghost use Rattle.meaning.specs.Pipes.{entries};
+ghost use Rattle.meaning.specs.Array.{arrayOf};
+ghost use Rattle.geometry.specs.Descriptions.{Laid};
+ghost use Rattle.addresses.specs.Indices.{strideOf};
+ghost use Rattle.layout.specs.Spans.{Spans};
+ghost use Rattle.pipe_parts.specs.Starts.{enteringOne};
+ghost use Rattle.accept.specs.Shares.{Described, Sharing};
+ghost use Rattle.port_rows.specs.Strands.{Narrow};
+ghost use Rattle.port_table.specs.PortsOf.{PortsOf};
+ghost use Rattle.port_fill.specs.Strung.{Slack, strandFrom, join, PortFillable, EndFillable, PortsFillable, EndsFillable, StreamFillable, portRow, endRow, portRows, endRows, streamRows};
+ghost use Rattle.port_fill.specs.Filled.{Started};
+use meaning::Description;
+use meaning::Nest;
+use meaning::Stream;
+use pipes::Flow;
+use port_rows::Strand;
+
+// Over the streams before one: their words in a process, their pipes, and the words of those pipes' ends.
+struct Sums {
+    words: u32,
+    pipes: u32,
+    ends: u32,
+}
+
+// ---- what the rows of a stream share
+
+// With a further stream, of which the links have `hop` places.
+fn joined(t: Sums, hop: u32, pipes: u32) -> Sums
+    requires { ⌜ (Slack t) × (hop ≤ gaugeLimits .hop) × (pipes ≤ 1024) ⌝ }
+    ensures { λ r. ⌜ r ≡ join t hop pipes ⌝ }
+{
+    Sums {
+        words: t.words + (4 + hop),
+        pipes: t.pipes + pipes,
+        ends: t.ends + pipes * (2 + hop),
+    }
+}
+
+fn strand_of(n: Nest, s: Stream, processes: u32, stride: u32, t: Sums) -> Strand
+    requires { ⌜ (Sharing n s) × (processes ≤ 1024) × (stride ≤ processWordsMost) × (Slack t) ⌝ }
+    ensures { λ r. ⌜ (r ≡ strandFrom (hop n s) processes stride t) × (Narrow r) ⌝ }
+{
+    Strand {
+        hop: stream_lines::hop_of(n, s),
+        stride: stride,
+        offset: 1 + t.words,
+        tail: processes * stride + t.ends,
+    }
+}
+
+// The words of a process.
+fn stride_of(d: Description) -> u32
+    requires { ⌜ Described d ⌝ }
+    ensures { λ r. ⌜ (r ≡ strideOf d) × (r ≤ processWordsMost) ⌝ }
+{
+    let n = d.nest;
+    let m = d.sizes.streams;
+    let mut sum: u32 = 1;
+    let mut i: u32 = 0;
+    while i < m {
+        sum += 4 + stream_lines::hop_of(n, decode::stream(d, i as usize));
+        i += 1;
+    }
+    sum
+}
+
+// ---- the rows of a stream
+
+// The row of process p of stream i.
+fn put_port(
+    f: Flow,
+    g: Strand,
+    spans: &[u32],
+    lanes: &[u32],
+    entered: &[u32],
+    i: usize,
+    p: usize,
+    ports: &mut [u32],
+)
+    requires { ⌜ (PortFillable f g (now spans) (now lanes) (now entered) i p) × (length (now ports) ≡ 116736) ⌝ }
+    ensures { λ r. ⌜ now (ports .exit) ≡ portRow (f .nest) (f .stream) g i p (now (ports .entry)) ⌝ }
+{
+    let k = port_rows::row_of(f, g, spans, lanes, entered, p);
+    port_table::put_port(ports, 60 * p + 10 * i, k);
+}
+
+// The rows of all processes.
+fn put_ports(
+    f: Flow,
+    g: Strand,
+    processes: u32,
+    spans: &[u32],
+    lanes: &[u32],
+    entered: &[u32],
+    i: usize,
+    ports: &mut [u32],
+)
+    requires { ⌜ (PortsFillable f g processes (now spans) (now lanes) (now entered) i) × (length (now ports) ≡ 116736) ⌝ }
+    ensures { λ r. ⌜ now (ports .exit) ≡ portRows (f .nest) (f .stream) g i processes (now (ports .entry)) ⌝ }
+{
+    let mut p: u32 = 0;
+    while p < processes {
+        put_port(f, g, spans, lanes, entered, i, p as usize, ports);
+        p += 1;
+    }
+}
+
+// The row of the stream's pipe j, if it enters at process p, and then one; else none. The pipes of the streams before it are `base`.
+fn put_end(
+    f: Flow,
+    g: Strand,
+    spans: &[u32],
+    lanes: &[u32],
+    start: u32,
+    base: u32,
+    j: u32,
+    p: usize,
+    ports: &mut [u32],
+) -> u32
+    requires { ⌜ (EndFillable f g (now spans) (now lanes) start base j p) × (length (now ports) ≡ 116736) ⌝ }
+    ensures { λ r. ⌜ (r ≡ enteringOne (f .nest) (f .stream) p) × (now (ports .exit) ≡ endRow (f .nest) (f .stream) g start base j p (now (ports .entry))) ⌝ }
+{
+    if pipe_parts::is_entry(f, spans, lanes, p) {
+        let e = port_rows::end_of(f, g, spans, lanes, start, j, p);
+        port_table::put_end(ports, (61440 + 9 * (base + j)) as usize, e);
+        1
+    } else {
+        0
+    }
+}
+
+// The rows of all pipes, and how many there are.
+fn put_ends(
+    f: Flow,
+    g: Strand,
+    processes: u32,
+    spans: &[u32],
+    lanes: &[u32],
+    starts: &[u32],
+    first: u32,
+    base: u32,
+    ports: &mut [u32],
+) -> u32
+    requires { ⌜ (EndsFillable f g processes (now spans) (now lanes) (now starts) first base) × (length (now ports) ≡ 116736) ⌝ }
+    ensures { λ r. ⌜ (r ≡ length (entries (f .nest) (f .stream))) × (now (ports .exit) ≡ endRows (f .nest) (f .stream) g first base processes (now (ports .entry))) ⌝ }
+{
+    let mut j: u32 = 0;
+    let mut p: u32 = 0;
+    while p < processes {
+        let start = starts[p as usize];
+        j += put_end(f, g, spans, lanes, start, base, j, p as usize, ports);
+        p += 1;
+    }
+    j
+}
+
+// All rows of stream i, whose elements have the numbers from `first` on and whose pipes those from `base` on; how many pipes there are.
+fn fill_stream(
+    n: Nest,
+    s: Stream,
+    g: Strand,
+    i: usize,
+    first: u32,
+    base: u32,
+    spans: &[u32],
+    ports: &mut [u32],
+) -> u32
+    requires { ⌜ (StreamFillable n s g i first base (now spans)) × (length (now ports) ≡ 116736) ⌝ }
+    ensures { λ r. ⌜ (r ≡ length (entries n s)) × (now (ports .exit) ≡ streamRows n s g i first base (now (ports .entry))) ⌝ }
+{
+    let f = pipes::flow_of(n, s);
+    let space = f.space;
+    let processes = numbering::size_of(space);
+    let mut lanes = [0u32; 4096];
+    pipes::fill_lanes(f, processes, spans, &mut lanes);
+    let mut entered = [0u32; 1024];
+    pipe_parts::fill_entered(f, processes, spans, &lanes, &mut entered);
+    put_ports(f, g, processes, spans, &lanes, &entered, i, ports);
+    let mut starts = [0u32; 1024];
+    pipe_parts::fill_starts(f, processes, spans, &lanes, first, &mut starts);
+    put_ends(f, g, processes, spans, &lanes, &starts, first, base, ports)
+}
+
+// ---- all streams
+
+fn fill_streams(d: Description, stride: u32, processes: u32, spans: &[u32], ports: &mut [u32])
+    requires { ⌜ (Started d stride processes (now spans)) × (length (now ports) ≡ 116736) ⌝ }
+    ensures { λ r. ⌜ PortsOf (arrayOf d) (now (ports .exit)) ⌝ }
+{
+    let n = d.nest;
+    let m = d.sizes.streams;
+    let mut sums = Sums {
+        words: 0,
+        pipes: 0,
+        ends: 0,
+    };
+    let mut i: u32 = 0;
+    while i < m {
+        let s = decode::stream(d, i as usize);
+        let g = strand_of(n, s, processes, stride, sums);
+        let first = elements::elements_in(d, i);
+        let base = sums.pipes;
+        let pipes = fill_stream(n, s, g, i as usize, first, base, spans, ports);
+        let hop = g.hop;
+        sums = joined(sums, hop, pipes);
+        i += 1;
+    }
+}
+
+// The plan of an accepted description.
+pub fn fill_ports(d: Description, spans: &[u32], ports: &mut [u32])
+    requires { ⌜ (Described d) × (Laid d) × (Spans (d .nest) (now spans)) × (3072 ≤ length (now spans)) × (length (now ports) ≡ 116736) ⌝ }
+    ensures { λ r. ⌜ PortsOf (arrayOf d) (now (ports .exit)) ⌝ }
+{
+    let n = d.nest;
+    let place = n.place;
+    let processes = numbering::size_of(numbering::extent_of(n, place));
+    let stride = stride_of(d);
+    fill_streams(d, stride, processes, spans, ports);
+}

@@ -1,0 +1,26 @@
+-- `sound_rows::sound_end` meets its contract. Assumes nothing.
+use borrow.Author.Needs.{needs}
+use Rattle.sound_rows.proofs.sound_end.Statement.{statement}
+use Rattle.sound_rows.proofs.sound_end.Tie as tie
+
+word-requires : tie.Need-word-requires
+word-requires c κs = search needs
+
+word-requires-2 : tie.Need-word-requires-2
+word-requires-2 c κs = search needs
+
+word-requires-3 : tie.Need-word-requires-3
+word-requires-3 c κs = search needs
+
+end-holds-requires : tie.Need-end-holds-requires
+end-holds-requires c κs = search needs
+
+returns : tie.Need-returns
+returns c =
+    let y = c .before in
+    let x = y .before in
+    rw (c .end-holds .ensures, y .word3 .ensures .0, x .word2 .ensures .0, x .before .word .ensures .0)
+
+pub sound-end-spec : {M : Type 1} → statement M
+sound-end-spec =
+    tie.close (tie.spec word-requires word-requires-2 word-requires-3 end-holds-requires returns)

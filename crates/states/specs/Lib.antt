@@ -1,4 +1,0 @@
--- Sound states by a book of rows; src/lib.rt has the list.
-pub mod Loops
-pub mod States
-pub mod Meaning

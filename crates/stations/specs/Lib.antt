@@ -1,8 +1,0 @@
--- Where the words of a process and of a pipe stand; src/lib.rt lists the theorems.
-pub mod Sums
-pub mod Pipes
-pub mod Through
-pub mod Seats
-pub mod Ends
-pub mod Indices
-pub mod Orders

@@ -1,4 +1,0 @@
--- Steps by a book of rows; src/lib.rt has the list.
-pub mod Steps
-pub mod Fits
-pub mod Meaning

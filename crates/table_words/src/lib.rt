@@ -1,0 +1,127 @@
+// Table in lent words: how rows lie in them, and the call on as many rows as fit.
+//
+// specs/, by file:
+//
+//   Words     rows of the table as words
+//   Lent      what Table leaves in lent words
+ghost use mathlib.Core.Path.{_≡_};
+ghost use Prim.Native.Nat.{_+_, _*_, _≤_};
+ghost use lib.ListN.{length};
+ghost use lib.Seq.{paste};
+ghost use mir.Syntax.{w32};
+ghost use mir.Val.{ofZ};
+ghost use Rattle.meaning.specs.Limits.{limitsOf, gaugeLimits};
+ghost use Rattle.meaning.specs.Space.{processes};
+ghost use Rattle.meaning.specs.Description.{descriptionOf};
+ghost use Rattle.meaning.specs.Accept.{refusalOf};
+ghost use Rattle.table_words.specs.Words.{laid, bits3, rowWords, wordsOf};
+ghost use Rattle.table_words.specs.Lent.{tableNumber, tableWords};
+use integers::V3;
+use meaning::Row;
+
+// ---- numbers
+
+// The 32 bits of a signed number.
+fn bits_of(z: i32) -> u32
+    ensures { λ r. ⌜ r ≡ ofZ w32 z ⌝ }
+{
+    let size = integers::magnitude(z);
+    if z < 0 {
+        0xffff_ffff - (size - 1)
+    } else {
+        size
+    }
+}
+
+// ---- rows
+
+fn vector_words(v: V3) -> [u32; 3]
+    ensures { λ r. ⌜ r ≡ bits3 v ⌝ }
+{
+    [bits_of(v.x), bits_of(v.y), bits_of(v.z)]
+}
+
+// A row in its 21 words.
+fn row_words(r: Row) -> [u32; 21]
+    ensures { λ r′. ⌜ r′ ≡ rowWords r ⌝ }
+{
+    let point = r.point;
+    let first = vector_words(r.first);
+    let last = vector_words(r.last);
+    let soak = r.soak;
+    let drain = r.drain;
+    [
+        bits_of(point.a),
+        bits_of(point.b),
+        r.count,
+        first[0],
+        first[1],
+        first[2],
+        last[0],
+        last[1],
+        last[2],
+        soak[0],
+        soak[1],
+        soak[2],
+        soak[3],
+        soak[4],
+        soak[5],
+        drain[0],
+        drain[1],
+        drain[2],
+        drain[3],
+        drain[4],
+        drain[5],
+    ]
+}
+
+// The values go into the words from word `at` on.
+fn put(values: &[u32], at: usize, words: &mut [u32])
+    requires { ⌜ at + length (now values) ≤ length (now words) ⌝ }
+    ensures { λ r. ⌜ now (words .exit) ≡ paste (now (words .entry)) at (now (values .entry)) (length (now (values .entry))) ⌝ }
+{
+    let mut i: usize = 0;
+    while i < values.len() {
+        words[at + i] = values[i];
+        i += 1;
+    }
+}
+
+// The first rows go into the words.
+fn put_rows(rows: [Row; 1024], count: usize, words: &mut [u32])
+    requires { ⌜ (count ≤ 1024) × (21 * count ≤ length (now words)) ⌝ }
+    ensures { λ r. ⌜ now (words .exit) ≡ laid (wordsOf rows count) (now (words .entry)) ⌝ }
+{
+    let mut p: usize = 0;
+    while p < count {
+        let row = row_words(rows[p]);
+        put(&row, 21 * p, words);
+        p += 1;
+    }
+}
+
+fn process_count(s: &[u8]) -> usize
+    requires { ⌜ refusalOf gaugeLimits (now s) ≡ 0 ⌝ }
+    ensures { λ r. ⌜ r ≡ length (processes (descriptionOf (now (s .entry)) .nest)) ⌝ }
+{
+    let n = decode::description(s).nest;
+    let place = n.place;
+    numbering::size_of(numbering::extent_of(n, place)) as usize
+}
+
+// The rows, 21 words each; 18 if fewer fit than there are processes.
+pub fn table_words(board: u32, bytes: &[u8], words: &mut [u32]) -> u32
+    ensures { λ r. ⌜ (r ≡ tableNumber (limitsOf board) (now (bytes .entry)) (length (now (words .entry))))
+        × (now (words .exit) ≡ laid (tableWords (limitsOf board) (now (bytes .entry)) (length (now (words .entry)))) (now (words .entry))) ⌝ }
+{
+    let listed = table_rows::table(bytes, words.len() / 21, board);
+    let answer = listed.answer;
+    let number = answer_words::number_of(answer);
+    if number == 0 {
+        let rows = listed.rows;
+        put_rows(rows, process_count(bytes), words);
+        0
+    } else {
+        number
+    }
+}

@@ -1,4 +1,0 @@
--- Passes over the instances by number, and what they mean.
-pub mod Sweep
-pub mod Ends
-pub mod Tables

@@ -1,0 +1,64 @@
+-- `wakeups::retest_gives` meets its contract: the flags of the first i gives are tested. Assumes nothing.
+use mathlib.Core.Path.{sym, _∙_}
+use Prim.Native.Nat.{_-_, _≤_}
+use native.Mathlib.Omega.{arith}
+use borrow.Author.Needs.{needs}
+use Rattle.wakeups.specs.Wakeups.{flagAt}
+use Rattle.wakeups.specs.Renewed.{GiveRank, Renewed, renewed-none, renewed-then, renewed-less, give-next}
+use Rattle.wakeups.proofs.retest_gives.Statement.{statement}
+use Rattle.wakeups.proofs.retest_gives.Tie as tie
+
+abbrev Inv-loop : tie.InvT-loop
+Inv-loop ports state z p flags₀ m i₀ flags i = (i ≤ z .streams) × (Renewed (flagAt ports state z) (GiveRank z p i) flags₀ flags)
+
+abbrev μ-loop : tie.MeasureT-loop
+μ-loop ports state z p flags₀ m i₀ flags i = z .streams - i
+
+loop-holds : tie.Need-loop-holds Inv-loop μ-loop
+loop-holds c = (omega arith, renewed-none (c .before .before .before .pre .3) (λ x (i, h, e). omega arith))
+
+give-rank-requires : tie.Need-give-rank-requires Inv-loop μ-loop
+give-rank-requires c κs = search needs
+
+retest-requires : tie.Need-retest-requires Inv-loop μ-loop
+retest-requires c κs =
+    let l = c .before .before .before in
+    let p = l .before .before .before .before .pre in (p .0, p .1, c .before .give-rank .ensures .1, l .loop .inv .1 .words)
+
+add-i : tie.Need-add-i Inv-loop μ-loop
+add-i c = search needs
+
+loop-less : tie.Need-loop-less Inv-loop μ-loop
+loop-less c = search needs
+
+loop-again : tie.Need-loop-again Inv-loop μ-loop
+loop-again c =
+    let f = c .before .before in
+    let g = f .before .before in
+    let l = g .before .before in
+    let a = l .before .before .before .before .args in (
+      omega (arith, g .before .loop-test .taken),
+      renewed-then (λ x. give-next (a .z) (a .p) (l .loop .i) (g .give-rank .result) x (g .give-rank .ensures .0)) (l .loop .inv .1) (f .retest .ensures),
+    )
+
+same-length : tie.Need-same-length Inv-loop μ-loop
+same-length c = c .before .loop .inv .1 .words ∙ sym (c .before .before .before .before .before .pre .3)
+
+returns : tie.Need-returns Inv-loop μ-loop
+returns c =
+    let l = c .before .loop in renewed-less (λ x (i, h, e). (i, omega (arith, c .loop-test .left), e)) (l .inv .1)
+
+pub retest-gives-spec : {M : Type 1} → statement M
+retest-gives-spec =
+    tie.close
+    (tie.spec
+    Inv-loop
+    μ-loop
+    loop-holds
+    give-rank-requires
+    retest-requires
+    add-i
+    loop-less
+    loop-again
+    same-length
+    returns)
