@@ -1,3 +1,2 @@
--- Sums over entries; sums over streams.
-pub mod Sums
-pub mod Shares
+-- What the call Accept answers.
+pub mod Call

@@ -35,7 +35,7 @@ use Rattle.pipes.specs.Elements.{At, Near, good, entry-lt, held-le, total-still
 use Rattle.meaning.specs.Description.{streamsOf, noStream}
 use Rattle.meaning.specs.Body.{streamStart}
 use Rattle.meaning.specs.Points.{Inside}
-use Rattle.accept.specs.Shares.{Described}
+use Rattle.figures.specs.Shares.{Described}
 use Rattle.pipe_parts.specs.Starts.{startAt, start-most}
 use Rattle.element_places.specs.Spread.{spread, spread-like}
 use Rattle.element_places.specs.Order.{instanceOf, processNumber, touchedBy, elementNumber, indexOf, placeFor, stream-of, stream-fits}

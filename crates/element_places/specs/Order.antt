@@ -43,7 +43,7 @@ use Rattle.addresses.specs.Orders.{found-at, touchedPipe, touchedIndex, place-i
 use Rattle.pipes.specs.Held.{entryNumber}
 use Rattle.elements.specs.Counts.{total-most}
 use Rattle.pipe_parts.specs.Starts.{entering, startAt}
-use Rattle.accept.specs.Shares.{Described, described}
+use Rattle.figures.specs.Shares.{Described, described}
 use Rattle.element_places.specs.Spread.{spread, spread-length, spread-keeps, spread-puts}
 
 -- the members that pass before some place are the first of those that pass

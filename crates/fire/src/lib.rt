@@ -10,9 +10,9 @@ ghost use Rattle.ports.specs.Ports.{PortFits};
 ghost use Rattle.fire.specs.Firing.{uses, canUse, usedAt, usedIn, canFire, fired, UsedFit, ProcessFits};
 use body::execute;
 use integers::V3;
+use meaning::Line;
 use ports::Port;
 use ports::word;
-use meaning::Line;
 
 // Whether firing f can use the element: the keep is filled, or the element of that firing is in hand, not yet used.
 fn uses(k: Port, x: usize, y: usize, f: usize) -> bool

@@ -23,7 +23,7 @@ use Rattle.geometry.specs.UpTo.{by-gauge}
 use Rattle.geometry.specs.Processes.{runAt}
 use Rattle.addresses.specs.Through.{pointOf}
 use Rattle.decode.specs.Refusals.{passed}
-use Rattle.accept.specs.Shares.{Described, described}
+use Rattle.figures.specs.Shares.{Described, described}
 use Rattle.body.specs.Fit.{Fit}
 use Rattle.ports.specs.Layout.{Regular}
 use Rattle.ports.specs.Rows.{rowOf}

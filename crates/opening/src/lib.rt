@@ -19,10 +19,10 @@ ghost use Rattle.meaning.specs.Calls.{memoryTests, refusedBy};
 ghost use Rattle.layout.specs.Spans.{Spans};
 ghost use Rattle.port_table.specs.PortsOf.{PortsOf};
 ghost use Rattle.opening.specs.Opening.{lengthTests, sizeFrom, Grounds, Standing, Opens, Opened};
-use port_table::Size;
 use meaning::Description;
 use meaning::Figures;
 use meaning::Limits;
+use port_table::Size;
 
 // The number of the refusal, 0 for none, and the size of the array.
 pub struct Opening {
@@ -76,7 +76,7 @@ fn open_accepted(
     requires { ⌜ (Grounds d) × (Spans (d .nest) (now spans)) × (3072 ≤ length (now spans)) × (length (now ports) ≡ 116736) ⌝ }
     ensures { λ r. ⌜ Opens d (memoryOf (now (waiting .entry)) (now (received .entry)) (now (state .entry))) (now (ports .exit)) r ⌝ }
 {
-    let f = accept::figures_of(d, spans);
+    let f = figures::figures_of(d, spans);
     let z = size_of(d, f);
     let r = length_refusal(f, waiting.len(), received.len(), state.len());
     if r == 0 {
@@ -110,7 +110,14 @@ fn open_within(
 {
     let r = refuse::refusal_within(s, limits, spans);
     if r == 0 {
-        open_accepted(decode::description(s), waiting, received, state, spans, ports)
+        open_accepted(
+            decode::description(s),
+            waiting,
+            received,
+            state,
+            spans,
+            ports,
+        )
     } else {
         Opening {
             refusal: r,

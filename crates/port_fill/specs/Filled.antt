@@ -42,7 +42,7 @@ use Rattle.ports.specs.Ends.{endOf}
 use Rattle.layout.specs.Spans.{Spans}
 use Rattle.elements.specs.Counts.{total-most}
 use Rattle.pipe_parts.specs.Starts.{entering, startAt, enteredAt, entered-next, one-yes}
-use Rattle.accept.specs.Shares.{Described, share-small, totals-room, stream-sharing}
+use Rattle.figures.specs.Shares.{Described, share-small, totals-room, stream-sharing}
 use Rattle.port_rows.specs.declared.Strand.{Strand}
 use Rattle.port_rows.specs.Strands.{Narrow, endFrom}
 use Rattle.port_rows.specs.Rows.{StrandOf, row-is, end-is}

@@ -22,7 +22,7 @@ use Rattle.pipes.specs.declared.Flow.{Flow}
 use Rattle.pipes.specs.Flow.{Flows, Seen}
 use Rattle.pipes.specs.Elements.{Near}
 use Rattle.pipe_parts.specs.Starts.{entering, filter-fewer, startAt, enteredAt, start-most}
-use Rattle.accept.specs.Shares.{Sharing}
+use Rattle.figures.specs.Shares.{Sharing}
 use Rattle.port_rows.specs.declared.Strand.{Strand}
 use Rattle.port_rows.specs.Strands.{Narrow, PortGiven, rowFrom, endFrom}
 use Rattle.port_table.specs.Stored.{stored}

@@ -18,7 +18,7 @@ ghost use Rattle.geometry.specs.Descriptions.{Laid};
 ghost use Rattle.addresses.specs.Indices.{strideOf};
 ghost use Rattle.layout.specs.Spans.{Spans};
 ghost use Rattle.pipe_parts.specs.Starts.{enteringOne};
-ghost use Rattle.accept.specs.Shares.{Described, Sharing};
+ghost use Rattle.figures.specs.Shares.{Described, Sharing};
 ghost use Rattle.port_rows.specs.Strands.{Narrow};
 ghost use Rattle.port_table.specs.PortsOf.{PortsOf};
 ghost use Rattle.port_fill.specs.Strung.{Slack, strandFrom, join, PortFillable, EndFillable, PortsFillable, EndsFillable, StreamFillable, portRow, endRow, portRows, endRows, streamRows};

@@ -26,7 +26,7 @@ use Rattle.guarantee.specs.Wired.{wired}
 use Rattle.addresses.specs.Through.{pointOf, on-is}
 use Rattle.addresses.specs.Ports.{soak-is, elements-is}
 use Rattle.addresses.specs.Indices.{stream-count, word-count}
-use Rattle.accept.specs.Shares.{described}
+use Rattle.figures.specs.Shares.{described}
 use Rattle.ports.specs.declared.Port.{Port}
 use Rattle.ports.specs.declared.End.{End}
 use Rattle.ports.specs.Ports.{portOf, PortFits}

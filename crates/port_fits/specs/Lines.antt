@@ -10,7 +10,7 @@ use Rattle.meaning.specs.Description.{descriptionOf}
 use Rattle.meaning.specs.Array.{arrayOf}
 use Rattle.meaning.specs.Accept.{refusalOf}
 use Rattle.decode.specs.Ranged.{Ranged}
-use Rattle.accept.specs.Shares.{described}
+use Rattle.figures.specs.Shares.{described}
 use Rattle.body.specs.Fit.{Fit}
 
 module _ (s : List ℕ) (ok : refusalOf gaugeLimits s ≡ 0) where

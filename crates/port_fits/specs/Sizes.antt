@@ -19,7 +19,7 @@ use Rattle.network.specs.Wiring.{Wired, stop-pipe}
 use Rattle.guarantee.specs.Wired.{wired}
 use Rattle.addresses.specs.Indices.{process-count, stream-count, word-count}
 use Rattle.stream_lines.specs.StateWords.{process-words}
-use Rattle.accept.specs.Shares.{Room, totalsOver, Described, described, totals-room, totals-all}
+use Rattle.figures.specs.Shares.{Room, totalsOver, Described, described, totals-room, totals-all}
 use Rattle.element_places.specs.Order.{elements-most}
 use Rattle.ports.specs.Layout.{Regular, part-ends}
 use Rattle.sound_rows.specs.Rows.{Single}

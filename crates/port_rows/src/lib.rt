@@ -20,9 +20,9 @@ ghost use Rattle.layout.specs.Spans.{processOf};
 ghost use Rattle.pipes.specs.Flow.{Flows};
 ghost use Rattle.pipes.specs.Elements.{Near};
 ghost use Rattle.port_rows.specs.Strands.{Narrow, beforeFrom, afterFrom, roomFrom, pipeOf, PortGiven, portFrom, offFrom, rowFrom, endFrom};
+use pipes::Flow;
 use ports::End;
 use ports::Port;
-use pipes::Flow;
 
 // What the rows of a stream share: the places of its links, the words of a process, where the stream's words begin among them, and the index of the
 // first word of its first pipe's ends.

@@ -17,8 +17,8 @@ ghost use Rattle.bits.specs.Words.{cleared};
 ghost use Rattle.bits.specs.Ready.{markedTo};
 ghost use Rattle.ready.specs.Moves.{passesBy, movesBy};
 ghost use Rattle.ready.specs.Call.{answerBy, leftBy};
-use port_table::Size;
 use meaning::Readiness;
+use port_table::Size;
 
 // Whether process p can take or give on stream i.
 fn can_pass(ports: &[u32], state: &[u32], z: Size, p: usize, i: usize) -> bool

@@ -20,9 +20,9 @@ ghost use Rattle.element_places.specs.Order.{Placeable};
 ghost use Rattle.result.specs.Out.{outBy, Asked};
 ghost use Rattle.result.specs.Order.{placed, Readable, elementOrder};
 ghost use Rattle.result.specs.Call.{ownTests, Called, Drawable};
-use port_table::Size;
 use meaning::Answer;
 use meaning::Description;
+use port_table::Size;
 
 // Whether every pipe is wholly received.
 fn all_out(ports: &[u32], state: &[u32], pipes: usize) -> bool

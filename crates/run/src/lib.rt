@@ -18,8 +18,8 @@ ghost use Rattle.layout.specs.Spans.{Spans};
 ghost use Rattle.opening.specs.Opening.{Opened};
 ghost use Rattle.run.specs.Runs.{Started, Ended};
 ghost use Rattle.run.specs.Call.{RanBy};
-use port_table::Size;
 use meaning::Ran;
+use port_table::Size;
 use step_rules::Program;
 
 // Steps, lowest first, until there are enough or none is ready; how many were done.

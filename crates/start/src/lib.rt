@@ -84,7 +84,7 @@ fn start_accepted(
     ensures { λ r. ⌜ Called d (now (values .entry)) (memoryOf (now (waiting .entry)) (now (received .entry)) (now (state .entry))) r
         (memoryOf (now (waiting .exit)) (now (received .exit)) (now (state .exit))) ⌝ }
 {
-    let f = accept::figures_of(d, spans);
+    let f = figures::figures_of(d, spans);
     let r = own_refusal(f, values.len(), waiting.len(), received.len(), state.len());
     if r == 0 {
         fill_memory(d, f, spans, values, waiting, received, state);

@@ -16,9 +16,9 @@ ghost use Rattle.step_rules.specs.Meaning.{stepNamed};
 ghost use Rattle.opening.specs.Opening.{Opened};
 ghost use Rattle.step.specs.Named.{hasPortBy, namedBy, Rows};
 ghost use Rattle.step.specs.Call.{Stepped, Steppable};
-use port_table::Size;
 use meaning::Answer;
 use meaning::Description;
+use port_table::Size;
 
 // Whether process p is on a pipe of stream i.
 fn has_port(ports: &[u32], z: Size, p: usize, i: usize) -> bool

@@ -170,9 +170,27 @@ fn retest_port(ports: &[u32], state: &[u32], z: Size, p: usize, i: usize, flags:
     requires { ⌜ (RowsFit (length (now state)) (now ports) z) × (Sized z) × (p < z .processes) × (i < z .streams) × (length (now flags) ≡ 33824) ⌝ }
     ensures { λ _. ⌜ Renewed (flagAt (now (ports .entry)) (now (state .entry)) z) (PortRank z p i) (now (flags .entry)) (now (flags .exit)) ⌝ }
 {
-    retest_named(ports, state, z, step_order::take_rank(z, p, i), 1, p, i, flags);
+    retest_named(
+        ports,
+        state,
+        z,
+        step_order::take_rank(z, p, i),
+        1,
+        p,
+        i,
+        flags,
+    );
     retest_named(ports, state, z, step_order::fire_rank(z, p), 2, p, 0, flags);
-    retest_named(ports, state, z, step_order::give_rank(z, p, i), 3, p, i, flags);
+    retest_named(
+        ports,
+        state,
+        z,
+        step_order::give_rank(z, p, i),
+        3,
+        p,
+        i,
+        flags,
+    );
 }
 
 // Those of the steps of the process or pipe of rank r.

@@ -20,7 +20,7 @@ use Rattle.meaning.specs.Calls.{lengthOf, refusedBy, window}
 use Rattle.geometry.specs.Descriptions.{Laid, laid}
 use Rattle.geometry.specs.PipeOrder.{list-length}
 use Rattle.decode.specs.Refusals.{refuses, passes, accepts}
-use Rattle.accept.specs.Shares.{Described, described}
+use Rattle.figures.specs.Shares.{Described, described}
 use Rattle.window.specs.declared.Search.{Search}
 use Rattle.window.specs.declared.Piece.{Piece}
 use Rattle.window.specs.Search.{searched, looking, finds, misses, allLengths, pipe-lengths}

@@ -17,7 +17,7 @@ ghost use Rattle.meaning.specs.Calls.{refusedBy, window};
 ghost use Rattle.layout.specs.Spans.{processOf, Spans};
 ghost use Rattle.pipes.specs.Elements.{Near};
 ghost use Rattle.pipe_parts.specs.Starts.{Counting};
-ghost use Rattle.accept.specs.Shares.{Sharing, Described};
+ghost use Rattle.figures.specs.Shares.{Sharing, Described};
 ghost use Rattle.window.specs.Search.{counted, searched, looking, visited, streamLengths, allLengths};
 ghost use Rattle.window.specs.Pieces.{Windowed, ownTests, pieceOf, nothing, Within};
 use meaning::Description;

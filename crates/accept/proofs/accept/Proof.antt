@@ -8,7 +8,8 @@ use Rattle.geometry.specs.UpTo.{by-board}
 use Rattle.stream_lines.specs.Accepted.{accepted-within}
 use Rattle.divisors.specs.Used.{Used}
 use Rattle.pipes.specs.Accepted.{streams-used}
-use Rattle.accept.specs.Shares.{described, accepts, refuses}
+use Rattle.figures.specs.Shares.{described}
+use Rattle.accept.specs.Call.{accepts, refuses}
 use Rattle.accept.proofs.accept.Statement.{statement}
 use Rattle.accept.proofs.accept.Tie as tie
 

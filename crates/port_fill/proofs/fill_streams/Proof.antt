@@ -3,7 +3,7 @@ use borrow.Author.Needs.{needs}
 use mathlib.Core.Path.{_≡_, sym, _∙_, ap, subst}
 use Prim.Native.Nat.{_-_, _≤_}
 use native.Mathlib.Omega.{arith}
-use Rattle.accept.specs.Shares.{stream-sharing, share-small}
+use Rattle.figures.specs.Shares.{stream-sharing, share-small}
 use Rattle.port_rows.specs.declared.Strand.{Strand}
 use Rattle.port_fill.specs.Strung.{Slack}
 use Rattle.port_fill.specs.Filled.{Filled, sumsOf, sums-zero, six, sums-slack, sums-next, stringing, filled-next, filled-zero, ports-is}

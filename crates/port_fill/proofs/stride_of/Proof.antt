@@ -7,7 +7,7 @@ use lib.ListN.{take}
 use Rattle.meaning.specs.Lists.{total}
 use Rattle.meaning.specs.Description.{streamsOf}
 use Rattle.addresses.specs.Indices.{portWords}
-use Rattle.accept.specs.Shares.{stream-sharing}
+use Rattle.figures.specs.Shares.{stream-sharing}
 use Rattle.port_fill.specs.Filled.{six, sums-slack, stride-zero, stride-next, stride-all}
 use Rattle.port_fill.proofs.stride_of.Statement.{statement}
 use Rattle.port_fill.proofs.stride_of.Tie as tie

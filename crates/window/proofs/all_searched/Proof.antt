@@ -7,7 +7,7 @@ use lib.Seq.{getD-take}
 use borrow.Author.Needs.{needs}
 use Rattle.meaning.specs.declared.Stream.{Stream}
 use Rattle.meaning.specs.Description.{streamsOf, noStream}
-use Rattle.accept.specs.Shares.{stream-sharing}
+use Rattle.figures.specs.Shares.{stream-sharing}
 use Rattle.window.specs.declared.Search.{Search}
 use Rattle.window.specs.Search.{searched as results, streamLengths, allLengths, stream-next, stream-end}
 use Rattle.window.proofs.all_searched.Statement.{statement}

@@ -1,14 +1,14 @@
--- `accept::share_of` meets its contract. Assumes nothing.
+-- `figures::share_of` meets its contract. Assumes nothing.
 use borrow.Author.Needs.{needs}
 use mathlib.Core.Path.{refl, sym, subst, subst₂}
 use denote.Ref.{now}
 use Rattle.meaning.specs.declared.Nest.{Nest}
 use Rattle.layout.specs.Spans.{Spans}
 use Rattle.pipes.specs.Flow.{spanning, counted-is}
-use Rattle.accept.specs.Sums.{Under}
-use Rattle.accept.specs.Shares.{Small, share-is, share-small, sharing-under}
-use Rattle.accept.proofs.share_of.Statement.{statement}
-use Rattle.accept.proofs.share_of.Tie as tie
+use Rattle.figures.specs.Sums.{Under}
+use Rattle.figures.specs.Shares.{Small, share-is, share-small, sharing-under}
+use Rattle.figures.proofs.share_of.Statement.{statement}
+use Rattle.figures.proofs.share_of.Tie as tie
 
 flow-of-requires : tie.Need-flow-of-requires
 flow-of-requires c κs = search needs

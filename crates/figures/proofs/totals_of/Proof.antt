@@ -1,11 +1,11 @@
--- `accept::totals_of` meets its contract. Assumes nothing.
+-- `figures::totals_of` meets its contract. Assumes nothing.
 use mathlib.Core.Path.{_≡_, sym, _∙_, ap, ap₂, subst}
 use Prim.Native.Nat.{_-_, _≤_}
 use native.Mathlib.Omega.{arith}
 use borrow.Author.Needs.{needs}
-use Rattle.accept.specs.Shares.{join, Room, totalsOf, totals-zero, totals-next, totals-room, stream-sharing}
-use Rattle.accept.proofs.totals_of.Statement.{statement}
-use Rattle.accept.proofs.totals_of.Tie as tie
+use Rattle.figures.specs.Shares.{join, Room, totalsOf, totals-zero, totals-next, totals-room, stream-sharing}
+use Rattle.figures.proofs.totals_of.Statement.{statement}
+use Rattle.figures.proofs.totals_of.Tie as tie
 
 abbrev Inv-loop : tie.InvT-loop
 Inv-loop d spans n m totals₀ i₀ totals i = (i ≤ d .sizes .streams) × (totals ≡ totalsOf d i)

@@ -1,4 +1,4 @@
--- `accept::pipe_steps` meets its contract. Assumes nothing.
+-- `figures::pipe_steps` meets its contract. Assumes nothing.
 use borrow.Author.Needs.{needs}
 use mathlib.Core.Path.{ap₂}
 use Prim.Native.Nat.{ℕ, _*_, _+_, _≤_}
@@ -6,8 +6,8 @@ use native.Mathlib.Nat.{mul-le-mul}
 use native.Mathlib.Omega.{arith}
 use Rattle.pipes.specs.Flow.{spanning, point-lt, going-on, reach-on}
 use Rattle.pipe_parts.specs.Entries.{entry-length}
-use Rattle.accept.proofs.pipe_steps.Statement.{statement}
-use Rattle.accept.proofs.pipe_steps.Tie as tie
+use Rattle.figures.proofs.pipe_steps.Statement.{statement}
+use Rattle.figures.proofs.pipe_steps.Tie as tie
 
 cast-point-at : tie.Need-cast-point-at
 cast-point-at c = search needs

@@ -25,7 +25,7 @@ use Rattle.geometry.specs.Positions.{pipe-distinct}
 use Rattle.geometry.specs.Elements.{entries-entry, pipes-total}
 use Rattle.layout.specs.Spans.{processOf}
 use Rattle.pipe_parts.specs.Starts.{entering, total-next, total-part, filter-fewer}
-use Rattle.accept.specs.declared.Sums.{Sums}
+use Rattle.figures.specs.declared.Sums.{Sums}
 
 -- ---- lists
 

@@ -1,9 +1,9 @@
--- `accept::joined` meets its contract. Assumes nothing.
+-- `figures::joined` meets its contract. Assumes nothing.
 use borrow.Author.Needs.{needs}
 use native.Mathlib.Omega.{arith}
 use Rattle.stream_lines.specs.StateWords.{end-words}
-use Rattle.accept.proofs.joined.Statement.{statement}
-use Rattle.accept.proofs.joined.Tie as tie
+use Rattle.figures.proofs.joined.Statement.{statement}
+use Rattle.figures.proofs.joined.Tie as tie
 
 add-t3 : tie.Need-add-t3
 add-t3 c = search needs

@@ -4,15 +4,12 @@ use mathlib.Core.List.{List, [], _∷_}
 use Prim.Native.Nat.{ℕ, suc, _+_, _*_, _≤_, _<_}
 use native.Mathlib.Numerals.{add-one}
 use native.Mathlib.Omega.{arith}
-use borrow.Author.Tests.{ne-eqb}
 use lib.ListN.{length, getD, take}
 use lib.Seq.{take-take, getD-take}
 use Rattle.meaning.specs.declared.Nest.{Nest}
 use Rattle.meaning.specs.declared.Stream.{Stream}
 use Rattle.meaning.specs.declared.Description.{Description}
 use Rattle.meaning.specs.declared.Figures.{Figures}
-use Rattle.meaning.specs.declared.Divisors.{Divisors}
-use Rattle.meaning.specs.declared.Acceptance.the-variants.{Accepted, Refused}
 use Rattle.meaning.specs.declared.Limits.{Limits}
 use Rattle.meaning.specs.Limits.{gaugeLimits, processWordsMost, endWordsMost}
 use Rattle.meaning.specs.Lists.{total}
@@ -22,7 +19,7 @@ use Rattle.meaning.specs.Streams.{hop, elements}
 use Rattle.meaning.specs.Pipes.{entries}
 use Rattle.meaning.specs.Description.{descriptionOf, streamsOf, noStream}
 use Rattle.meaning.specs.Calls.{lengthOf}
-use Rattle.meaning.specs.Accept.{refusalOf, figures, divisors, accept}
+use Rattle.meaning.specs.Accept.{refusalOf, figures}
 use Rattle.numbering.specs.Ranges.{Bounded}
 use Rattle.geometry.specs.Members.{total-next}
 use Rattle.stream_lines.specs.Accepted.{accepted-within}
@@ -34,10 +31,10 @@ use Rattle.pipes.specs.declared.Flow.{Flow}
 use Rattle.pipes.specs.Flow.{Laid, Seen}
 use Rattle.pipes.specs.Accepted.{streams-used, laid-stream}
 use Rattle.pipe_parts.specs.Starts.{entering, filter-fewer}
-use Rattle.accept.specs.declared.Share.{Share}
-use Rattle.accept.specs.declared.Sums.{Sums}
-use Rattle.accept.specs.declared.Totals.{Totals}
-use Rattle.accept.specs.Sums.{stepsOn, sumsOver, Under, under}
+use Rattle.figures.specs.declared.Share.{Share}
+use Rattle.figures.specs.declared.Sums.{Sums}
+use Rattle.figures.specs.declared.Totals.{Totals}
+use Rattle.figures.specs.Sums.{stepsOn, sumsOver, Under, under}
 
 -- ---- one stream
 
@@ -204,13 +201,3 @@ figures-are {d} h {r} {t} e p i l q w s =
     same-figures p i l (q ∙ ap (λ (t : Totals). t .pipes) g)
     (w ∙ ap₂ (λ (p : ℕ) (t : Totals). p * (1 + t .words) + t .ends) p g)
     (s ∙ ap₂ (λ (i : ℕ) (t : Totals). i + t .steps) i g)
-
--- ACCEPT
-pub accepts : (l : Limits) (s : List ℕ) {f : Figures} {g : Divisors} → refusalOf l s ≡ 0 → f ≡ figures (descriptionOf s) → g ≡ divisors (descriptionOf s)
-    → Accepted f g ≡ accept l s
-unfolding accept
-accepts l s e h k = rw e (ap₂ Accepted h k)
-
-pub refuses : (l : Limits) (s : List ℕ) {n : ℕ} → n ≡ refusalOf l s → (n ≡ 0 → ⊥) → Refused n ≡ accept l s
-unfolding accept
-refuses l s e f = rw (ne-eqb (refusalOf l s) 0 (λ z. f (e ∙ z))) (ap Refused e)

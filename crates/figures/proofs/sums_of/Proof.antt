@@ -1,11 +1,11 @@
--- `accept::sums_of` meets its contract. Assumes nothing.
+-- `figures::sums_of` meets its contract. Assumes nothing.
 use mathlib.Core.Path.{_≡_, _∙_, ap}
 use Prim.Native.Nat.{suc, _+_, _-_, _≤_}
 use native.Mathlib.Omega.{arith}
 use borrow.Author.Needs.{needs}
-use Rattle.accept.specs.Sums.{sumsAt, sums-zero, sums-all}
-use Rattle.accept.proofs.sums_of.Statement.{statement}
-use Rattle.accept.proofs.sums_of.Tie as tie
+use Rattle.figures.specs.Sums.{sumsAt, sums-zero, sums-all}
+use Rattle.figures.proofs.sums_of.Statement.{statement}
+use Rattle.figures.proofs.sums_of.Tie as tie
 
 abbrev Inv-loop : tie.InvT-loop
 Inv-loop f processes spans lanes sums₀ p₀ sums p = (p ≤ processes) × (sums ≡ sumsAt (f .nest) (f .stream) p)

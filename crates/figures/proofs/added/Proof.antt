@@ -1,14 +1,14 @@
--- `accept::added` meets its contract. Assumes nothing.
+-- `figures::added` meets its contract. Assumes nothing.
 use borrow.Author.Needs.{needs}
 use mathlib.Core.Path.{sym, _∙_, ap}
 use Prim.Native.Nat.{_+_}
 use native.Mathlib.Omega.{arith}
-use Rattle.accept.specs.declared.Sums.{Sums}
+use Rattle.figures.specs.declared.Sums.{Sums}
 use Rattle.layout.specs.Spans.{processOf}
 use Rattle.pipe_parts.specs.Starts.{entering-entry}
-use Rattle.accept.specs.Sums.{sums-yes, sums-no, steps-fit, pipes-fit}
-use Rattle.accept.proofs.added.Statement.{statement}
-use Rattle.accept.proofs.added.Tie as tie
+use Rattle.figures.specs.Sums.{sums-yes, sums-no, steps-fit, pipes-fit}
+use Rattle.figures.proofs.added.Statement.{statement}
+use Rattle.figures.proofs.added.Tie as tie
 
 is-entry-requires : tie.Need-is-entry-requires
 is-entry-requires c κs = search needs

@@ -1,13 +1,13 @@
--- `accept::figures_of` meets its contract. Assumes nothing.
+-- `figures::figures_of` meets its contract. Assumes nothing.
 use borrow.Author.Needs.{needs}
 use mathlib.Core.Path.{refl, _∙_, ap}
 use native.Mathlib.Omega.{arith}
 use lib.ListN.{length}
 use Rattle.meaning.specs.Space.{Box, points}
-use Rattle.accept.specs.Shares.{figures-are}
+use Rattle.figures.specs.Shares.{figures-are}
 use Rattle.stream_lines.specs.StateWords.{process-words}
-use Rattle.accept.proofs.figures_of.Statement.{statement}
-use Rattle.accept.proofs.figures_of.Tie as tie
+use Rattle.figures.proofs.figures_of.Statement.{statement}
+use Rattle.figures.proofs.figures_of.Tie as tie
 
 extent-of-requires : tie.Need-extent-of-requires
 extent-of-requires c κs = search needs

@@ -1,0 +1,3 @@
+-- Sums over entries; sums over streams.
+pub mod Sums
+pub mod Shares

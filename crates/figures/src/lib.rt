@@ -1,0 +1,158 @@
+// The six figures of a description: processes, instances, elements, pipes, state words and total steps.
+//
+// specs/, by file:
+//
+//   Sums      sums over the entries of a stream, process by process, and their bounds
+//   Shares    sums over the streams, stream by stream, and the figures
+ghost use mathlib.Core.Path.{_≡_};
+ghost use mathlib.Core.Bool.{true};
+ghost use Prim.Native.Nat.{suc, _≤_};
+ghost use lib.ListN.{length};
+ghost use Rattle.meaning.specs.Pipes.{isEntry, entries};
+ghost use Rattle.meaning.specs.Accept.{figures};
+ghost use Rattle.layout.specs.Spans.{processOf, Spans};
+ghost use Rattle.pipes.specs.Elements.{Near};
+ghost use Rattle.figures.specs.Sums.{stepsOn, Under, sumsOver, sumsAt};
+ghost use Rattle.figures.specs.Shares.{Summing, Sharing, Small, shareOf, join, Room, totalsOf, Described};
+use meaning::Description;
+use meaning::Figures;
+use meaning::Nest;
+use meaning::Stream;
+use pipes::Flow;
+
+// Of a stream: how many pipes it has, and the steps that they take.
+struct Sums {
+    pipes: u32,
+    steps: u32,
+}
+
+// Of a stream: the places of its links, and these.
+struct Share {
+    hop: u32,
+    pipes: u32,
+    steps: u32,
+}
+
+// Over streams: the words of a process, the pipes, their words, and the steps.
+struct Totals {
+    words: u32,
+    pipes: u32,
+    ends: u32,
+    steps: u32,
+}
+
+// ---- one stream
+
+// The steps of the pipe that enters at process p: twice its elements times one more than its processes.
+fn pipe_steps(f: Flow, spans: &[u32], lanes: &[u32], p: usize) -> u32
+    requires { ⌜ (Near f (now spans) (now lanes) p) × (isEntry (f .nest) (f .stream) (processOf (f .nest) p) ≡ true) ⌝ }
+    ensures { λ r. ⌜ r ≡ stepsOn (f .nest) (f .stream) (processOf (f .nest) p) ⌝ }
+{
+    let space = f.space;
+    let way = f.way;
+    let y = layout::point_at(space, p as u32);
+    let elements = pipes::total_at(f, spans, lanes, p);
+    2 * (elements * (layout::reach_of(space, way, y) + 2))
+}
+
+// With the pipe of process p, if it is an entry.
+fn added(f: Flow, spans: &[u32], lanes: &[u32], p: usize, sums: Sums) -> Sums
+    requires { ⌜ (Near f (now spans) (now lanes) p) × (sums ≡ sumsAt (f .nest) (f .stream) p) × (Under (f .nest) (f .stream)) ⌝ }
+    ensures { λ r. ⌜ r ≡ sumsAt (f .nest) (f .stream) (suc p) ⌝ }
+{
+    if pipe_parts::is_entry(f, spans, lanes, p) {
+        Sums {
+            pipes: sums.pipes + 1,
+            steps: sums.steps + pipe_steps(f, spans, lanes, p),
+        }
+    } else {
+        sums
+    }
+}
+
+// Over all processes.
+fn sums_of(f: Flow, processes: u32, spans: &[u32], lanes: &[u32]) -> Sums
+    requires { ⌜ Summing f processes (now spans) (now lanes) ⌝ }
+    ensures { λ r. ⌜ r ≡ sumsOver (f .nest) (f .stream) (entries (f .nest) (f .stream)) ⌝ }
+{
+    let mut sums = Sums { pipes: 0, steps: 0 };
+    let mut p: u32 = 0;
+    while p < processes {
+        sums = added(f, spans, lanes, p as usize, sums);
+        p += 1;
+    }
+    sums
+}
+
+// A stream's part of the figures.
+fn share_of(n: Nest, s: Stream, spans: &[u32]) -> Share
+    requires { ⌜ (Sharing n s) × (Spans n (now spans)) × (3072 ≤ length (now spans)) ⌝ }
+    ensures { λ r. ⌜ (r ≡ shareOf n s) × (Small r) ⌝ }
+{
+    let f = pipes::flow_of(n, s);
+    let space = f.space;
+    let processes = numbering::size_of(space);
+    let mut lanes = [0u32; 4096];
+    pipes::fill_lanes(f, processes, spans, &mut lanes);
+    let sums = sums_of(f, processes, spans, &lanes);
+    Share {
+        hop: stream_lines::hop_of(n, s),
+        pipes: sums.pipes,
+        steps: sums.steps,
+    }
+}
+
+// ---- all streams
+
+// With a further stream.
+fn joined(t: Totals, s: Share) -> Totals
+    requires { ⌜ (Room t) × (Small s) ⌝ }
+    ensures { λ r. ⌜ r ≡ join t s ⌝ }
+{
+    Totals {
+        words: t.words + (4 + s.hop),
+        pipes: t.pipes + s.pipes,
+        ends: t.ends + s.pipes * (2 + s.hop),
+        steps: t.steps + s.steps,
+    }
+}
+
+fn totals_of(d: Description, spans: &[u32]) -> Totals
+    requires { ⌜ (Described d) × (Spans (d .nest) (now spans)) × (3072 ≤ length (now spans)) ⌝ }
+    ensures { λ r. ⌜ (r ≡ totalsOf d (d .sizes .streams)) × (Room r) ⌝ }
+{
+    let n = d.nest;
+    let m = d.sizes.streams;
+    let mut totals = Totals {
+        words: 0,
+        pipes: 0,
+        ends: 0,
+        steps: 0,
+    };
+    let mut i: u32 = 0;
+    while i < m {
+        totals = joined(totals, share_of(n, decode::stream(d, i as usize), spans));
+        i += 1;
+    }
+    totals
+}
+
+// The six figures.
+pub fn figures_of(d: Description, spans: &[u32]) -> Figures
+    requires { ⌜ (Described d) × (Spans (d .nest) (now spans)) × (3072 ≤ length (now spans)) ⌝ }
+    ensures { λ r. ⌜ r ≡ figures d ⌝ }
+{
+    let n = d.nest;
+    let place = n.place;
+    let processes = numbering::size_of(numbering::extent_of(n, place));
+    let instances = numbering::instance_count(n);
+    let t = totals_of(d, spans);
+    Figures {
+        processes: processes,
+        instances: instances,
+        elements: elements::element_count(d),
+        pipes: t.pipes,
+        words: processes * (1 + t.words) + t.ends,
+        steps: instances + t.steps,
+    }
+}
