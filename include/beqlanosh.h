@@ -1,14 +1,14 @@
 /* Beqlanosh: the calls of document 01 as C functions, from target/staticlib/libbeqlanosh.a (`rt staticlib beqlanosh`, x86-64 Linux).
  *
- * Every call is told the board that it serves, and is lent a description. It declines by 33 if there is no such board, before all else, then by 1 to 17 if the
- * description is not accepted on it, and then by the numbers that its comment names.
+ * Every call is told the board that it serves, and is lent a description. It declines by 33 if there is no such board, before all else,
+ * then by 1 to 17 if the description is not accepted on it, and then by the numbers that its comment names.
  *
- * Every call answers 0, or the documents' number by which it declines, and then changes no lent word; 9 is never given (request 2.2). Words beyond those
- * that a comment names never change. A call keeps nothing between calls and allocates nothing. It takes up to 1.3 MB of stack: Accept and Window 70 KB, Plain run 120, Start 170,
- * Table 240, Step and Ready 600, Result 680, Run 1,300.
+ * Every call answers 0, or the documents' number by which it declines, and then changes no lent word; 9 is never given (request 2.2).
+ * Words beyond those that a comment names never change. A call keeps nothing between calls and allocates nothing. It takes up to 1.3 MB of
+ * stack: Accept and Window 70 KB, Plain run 120, Start 170, Table 240, Step and Ready 600, Result 680, Run 1,300.
  *
- * What is proved holds if each pointer is not null, is aligned for its type and points to as many elements as its length says, also if that is 0, and
- * if no list that a call writes overlaps another list of that call. Lengths count elements. */
+ * What is proved holds if each pointer is not null, is aligned for its type and points to as many elements as its length says, also if
+ * that is 0, and if no list that a call writes overlaps another list of that call. Lengths count elements. */
 #ifndef BEQLANOSH_H
 #define BEQLANOSH_H
 
@@ -22,55 +22,62 @@ extern "C" {
 /* The words of a row of the table: point 2, count 1, first 3, last 3, soak 6, drain 6. A signed number stands as its 32 bits. */
 #define BEQLANOSH_ROW_WORDS 21
 
-/* The boards (request 2.9): the gauge holds 1,024 processes and 4,096 instances, the bench 256 and 1,024, by refusals 10 and 6. What the bench accepts, the
- * gauge accepts with the same answer. */
+/* The boards (request 2.9): the gauge holds 1,024 processes and 4,096 instances, the bench 256 and 1,024, by refusals 10 and 6. What the
+ * bench accepts, the gauge accepts with the same answer. */
 enum beqlanosh_board { BEQLANOSH_GAUGE = 0, BEQLANOSH_BENCH = 1 };
 
 /* The most processes, and so the most rows, of a description that the gauge accepts; the bench accepts at most 256. */
 #define BEQLANOSH_MOST_PROCESSES 1024
 
-/* Accept: processes, instances, elements, pipes, state words and total steps go into the first six figures, then the divisor of place and those of the six
- * streams, 0 past the streams in use. The divisor of a matrix is the greatest common divisor of its row's two words, or of the words of its rows' cross
- * product: of all whole points one in so many is a value of the matrix. Declines by 33, then by 1 to 17. */
+/* Accept: processes, instances, elements, pipes, state words and total steps go into the first six figures, then the divisor of place and
+ * those of the six streams, 0 past the streams in use. The divisor of a matrix is the greatest common divisor of its row's two words, or of
+ * the words of its rows' cross product: of all whole points one in so many is a value of the matrix. Declines by 33, then by 1 to 17. */
 uint32_t beqlanosh_accept(uint32_t board, const uint8_t *bytes, size_t length, uint32_t figures[13]);
 
-/* Table: a row for each process, in row order, goes into the words, 21 words a row. Declines by 33, by 1 to 17, and by 18 if there is no room for all rows. */
+/* Table: a row for each process, in row order, goes into the words, 21 words a row. Declines by 33, by 1 to 17, and by 18 if there is no
+ * room for all rows. */
 uint32_t beqlanosh_table(uint32_t board, const uint8_t *bytes, size_t length, uint32_t *words, size_t words_length);
 
-/* Start: the values, in element order, go into the waiting list, and received and the state's words are cleared. Declines by 33, by 1 to 17, by 20 if
- * values or waiting are not as many as the elements, by 26 if received is not, and by 21 if the state is short. */
-uint32_t beqlanosh_start(uint32_t board, const uint8_t *bytes, size_t length, const uint32_t *values, size_t values_length, uint32_t *waiting, size_t waiting_length,
-                         uint32_t *received, size_t received_length, uint32_t *state, size_t state_length);
+/* Start: the values, in element order, go into the waiting list, and received and the state's words are cleared. Declines by 33, by 1 to
+ * 17, by 20 if values or waiting are not as many as the elements, by 26 if received is not, and by 21 if the state is short. */
+uint32_t beqlanosh_start(uint32_t board, const uint8_t *bytes, size_t length, const uint32_t *values, size_t values_length,
+                         uint32_t *waiting, size_t waiting_length, uint32_t *received, size_t received_length, uint32_t *state,
+                         size_t state_length);
 
-/* Step: does a step of the kind 0 send, 1 take, 2 fire, 3 give or 4 receive, of the process or pipe with that number, and of that stream (unused by 0, 2 and
- * 4). Declines by 33, 1 to 17, 20, 26 and 21 as Start, by 22 if the state is not sound, by 23 if there is no such step, and by 24 if it is not ready. */
-uint32_t beqlanosh_step(uint32_t board, const uint8_t *bytes, size_t length, uint32_t kind, uint32_t number, uint32_t stream, const uint32_t *waiting,
-                        size_t waiting_length, uint32_t *received, size_t received_length, uint32_t *state, size_t state_length);
+/* Step: does a step of the kind 0 send, 1 take, 2 fire, 3 give or 4 receive, of the process or pipe with that number, and of that stream
+ * (unused by 0, 2 and 4). Declines by 33, 1 to 17, 20, 26 and 21 as Start, by 22 if the state is not sound, by 23 if there is no such step,
+ * and by 24 if it is not ready. */
+uint32_t beqlanosh_step(uint32_t board, const uint8_t *bytes, size_t length, uint32_t kind, uint32_t number, uint32_t stream,
+                        const uint32_t *waiting, size_t waiting_length, uint32_t *received, size_t received_length, uint32_t *state,
+                        size_t state_length);
 
-/* Run: does so many steps, fewer only when none is ready, always the lowest ready one. The steps done go into the first word of the answer, and 1 if any is
- * ready, else 0, into the second. Declines by 33, 1 to 17, 20, 26, 21 and 22 as Step. */
-uint32_t beqlanosh_run(uint32_t board, const uint8_t *bytes, size_t length, uint32_t steps, const uint32_t *waiting, size_t waiting_length, uint32_t *received,
-                       size_t received_length, uint32_t *state, size_t state_length, uint32_t answer[2]);
+/* Run: does so many steps, fewer only when none is ready, always the lowest ready one. The steps done go into the first word of the answer,
+ * and 1 if any is ready, else 0, into the second. Declines by 33, 1 to 17, 20, 26, 21 and 22 as Step. */
+uint32_t beqlanosh_run(uint32_t board, const uint8_t *bytes, size_t length, uint32_t steps, const uint32_t *waiting, size_t waiting_length,
+                       uint32_t *received, size_t received_length, uint32_t *state, size_t state_length, uint32_t answer[2]);
 
-/* Ready: process p is bit p modulo 64 of word p divided by 64, set if it can take, fire or give; the other bits of the first 16 words are cleared. How many
- * are set and the lowest (the number of processes when none is) go into the answer. Declines by 33, 1 to 17, 20, 26, 21 and 22 as Step, and by 27 if
- * there are fewer than 16 words. */
-uint32_t beqlanosh_ready(uint32_t board, const uint8_t *bytes, size_t length, uint64_t *words, size_t words_length, const uint32_t *waiting, size_t waiting_length,
-                         const uint32_t *received, size_t received_length, const uint32_t *state, size_t state_length, uint32_t answer[2]);
+/* Ready: process p is bit p modulo 64 of word p divided by 64, set if it can take, fire or give; the other bits of the first 16 words are
+ * cleared. How many are set and the lowest (the number of processes when none is) go into the answer. Declines by 33, 1 to 17, 20, 26, 21
+ * and 22 as Step, and by 27 if there are fewer than 16 words. */
+uint32_t beqlanosh_ready(uint32_t board, const uint8_t *bytes, size_t length, uint64_t *words, size_t words_length, const uint32_t *waiting,
+                         size_t waiting_length, const uint32_t *received, size_t received_length, const uint32_t *state,
+                         size_t state_length, uint32_t answer[2]);
 
-/* Window: where a pipe's part of the waiting values (side 0) or of the received ones (side 1) begins in that list, and how many words it has, go into the
- * answer. Declines by 33, 1 to 17, 20 and 26 as Start, and by 19 if there is no such pipe or side. */
-uint32_t beqlanosh_window(uint32_t board, const uint8_t *bytes, size_t length, uint32_t pipe, uint32_t side, const uint32_t *waiting, size_t waiting_length,
-                          const uint32_t *received, size_t received_length, uint32_t answer[2]);
+/* Window: where a pipe's part of the waiting values (side 0) or of the received ones (side 1) begins in that list, and how many words it
+ * has, go into the answer. Declines by 33, 1 to 17, 20 and 26 as Start, and by 19 if there is no such pipe or side. */
+uint32_t beqlanosh_window(uint32_t board, const uint8_t *bytes, size_t length, uint32_t pipe, uint32_t side, const uint32_t *waiting,
+                          size_t waiting_length, const uint32_t *received, size_t received_length, uint32_t answer[2]);
 
-/* Result: the received values, in element order. Declines by 33, 1 to 17, 20, 26, 21 and 22 as Step, by 25 if some pipe is not wholly received, and by 28
- * if the places for the output are not as many as the elements. */
-uint32_t beqlanosh_result(uint32_t board, const uint8_t *bytes, size_t length, uint32_t *output, size_t output_length, const uint32_t *waiting, size_t waiting_length,
-                          const uint32_t *received, size_t received_length, const uint32_t *state, size_t state_length);
+/* Result: the received values, in element order. Declines by 33, 1 to 17, 20, 26, 21 and 22 as Step, by 25 if some pipe is not wholly
+ * received, and by 28 if the places for the output are not as many as the elements. */
+uint32_t beqlanosh_result(uint32_t board, const uint8_t *bytes, size_t length, uint32_t *output, size_t output_length,
+                          const uint32_t *waiting, size_t waiting_length, const uint32_t *received, size_t received_length,
+                          const uint32_t *state, size_t state_length);
 
-/* Plain run: the final values of the values given, both in element order. Declines by 33, by 1 to 17, by 20 if the values are not as many as the
- * elements, and by 28 if the places for the output are not. */
-uint32_t beqlanosh_plain_run(uint32_t board, const uint8_t *bytes, size_t length, const uint32_t *values, size_t values_length, uint32_t *output, size_t output_length);
+/* Plain run: the final values of the values given, both in element order. Declines by 33, by 1 to 17, by 20 if the values are not as many
+ * as the elements, and by 28 if the places for the output are not. */
+uint32_t beqlanosh_plain_run(uint32_t board, const uint8_t *bytes, size_t length, const uint32_t *values, size_t values_length,
+                             uint32_t *output, size_t output_length);
 
 #ifdef __cplusplus
 }
