@@ -6,7 +6,7 @@ use Prim.Native.Nat.{ℕ, _≤_, _<_}
 use native.Mathlib.Omega.{arith}
 use lib.Dec.{eqb, ltb}
 use lib.ListN.{length, take}
-use borrow.Author.Tests.{ne-eqb, eqb-true, not-false, ltb-false}
+use borrow.Author.Tests.{ne-eqb, not-false}
 use Rattle.meaning.specs.declared.Description.{Description}
 use Rattle.meaning.specs.declared.Figures.{Figures}
 use Rattle.meaning.specs.Tests.{Test, _if_, refusal}
@@ -23,6 +23,7 @@ use Rattle.geometry.specs.UpTo.{by-gauge}
 use Rattle.geometry.specs.Processes.{runAt}
 use Rattle.addresses.specs.Through.{pointOf}
 use Rattle.decode.specs.Refusals.{passed}
+use Rattle.declines.specs.Tests.{memoryLengths, memory-fits}
 use Rattle.figures.specs.Shares.{Described, described}
 use Rattle.body.specs.Fit.{Fit}
 use Rattle.ports.specs.Layout.{Regular}
@@ -37,11 +38,6 @@ use Rattle.port_fits.specs.Sizes.{sizeOf, regular, single, size-of}
 use Rattle.port_fits.specs.Fits.{rows-fit, parts-fit, on-total}
 use Rattle.port_fits.specs.Lines.{lines-fit, lines-are}
 use Rattle.opening.specs.declared.Opening.{Opening}
-
--- the tests of lengths, of so many elements and words of a state
-abbrev pub lengthTests : ℕ → ℕ → ℕ → ℕ → ℕ → List Test
-lengthTests elements words waiting received state =
-    (20 if not (eqb waiting elements)) ∷ (26 if not (eqb received elements)) ∷ (21 if ltb state words) ∷ []
 
 abbrev pub sizeFrom : Description → Figures → Size
 sizeFrom d f = record { processes = f .processes; streams = d .sizes .streams; pipes = f .pipes }
@@ -118,7 +114,7 @@ pub record Opened (s : List ℕ) (M : Memory) (b : List ℕ) (z : Size) : Type 0
 
 module _ (d : Description) (M : Memory) where
   abbrev lengths : List Test
-  lengths = lengthTests (lengthOf d) (stateLength d) (length (M .waiting)) (length (M .received)) (length (M .state))
+  lengths = memoryLengths (lengthOf d) (stateLength d) (length (M .waiting)) (length (M .received)) (length (M .state))
 
   abbrev soundTest : List Test
   soundTest = (22 if not (sound (arrayOf d) (M .state))) ∷ []
@@ -165,19 +161,12 @@ module _ (d : Description) {f : Figures} (e : f ≡ figures d) where
   pub size-is : sizeFrom d f ≡ sizeOf d
   size-is = ap (sizeFrom d) e
 
-  module _ (M : Memory) {n : ℕ} (r : n ≡ refusal (lengthTests (f .elements) (f .words) (length (M .waiting)) (length (M .received)) (length (M .state)))) where
+  module _ (M : Memory) {n : ℕ} (r : n ≡ refusal (memoryLengths (f .elements) (f .words) (length (M .waiting)) (length (M .received)) (length (M .state)))) where
     own : n ≡ refusal (lengths d M)
-    own = r ∙ ap (λ (f : Figures). refusal (lengthTests (f .elements) (f .words) (length (M .waiting)) (length (M .received)) (length (M .state)))) e
+    own = r ∙ ap (λ (f : Figures). refusal (memoryLengths (f .elements) (f .words) (length (M .waiting)) (length (M .received)) (length (M .state)))) e
 
     pub lengths-hold : n ≡ 0 → (length (M .waiting) ≡ lengthOf d) × (length (M .received) ≡ lengthOf d) × (stateLength d ≤ length (M .state))
-    lengths-hold z =
-        let p20 = passed 20 _ _ (λ g. omega arith) (sym own ∙ z) in
-        let p26 = passed 26 _ _ (λ g. omega arith) (p20 .1) in
-        let p21 = passed 21 _ _ (λ g. omega arith) (p26 .1) in (
-          eqb-true (length (M .waiting)) (lengthOf d) (not-false _ (p20 .0)),
-          eqb-true (length (M .received)) (lengthOf d) (not-false _ (p26 .0)),
-          ltb-false (length (M .state)) (stateLength d) (p21 .0),
-        )
+    lengths-hold z = memory-fits (lengthOf d) (stateLength d) _ _ _ (sym own ∙ z)
 
     -- a length is refused
     pub lengths-refused : {b : List ℕ} {z : Size} → (n ≡ 0 → ⊥) → Opens d M b (record { refusal = n; size = z })

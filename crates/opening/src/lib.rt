@@ -18,7 +18,7 @@ ghost use Rattle.meaning.specs.Rules.{sound, memoryOf};
 ghost use Rattle.meaning.specs.Calls.{memoryTests, refusedBy};
 ghost use Rattle.layout.specs.Spans.{Spans};
 ghost use Rattle.port_table.specs.PortsOf.{PortsOf};
-ghost use Rattle.opening.specs.Opening.{lengthTests, sizeFrom, Grounds, Standing, Opens, Opened};
+ghost use Rattle.opening.specs.Opening.{sizeFrom, Grounds, Standing, Opens, Opened};
 use meaning::Description;
 use meaning::Figures;
 use meaning::Limits;
@@ -28,21 +28,6 @@ use port_table::Size;
 pub struct Opening {
     pub refusal: u32,
     pub size: Size,
-}
-
-// The first of the refusals 20, 26 and 21 that applies to lists of such lengths, 0 if none does.
-fn length_refusal(f: Figures, waiting: usize, received: usize, state: usize) -> u32
-    ensures { λ r. ⌜ r ≡ refusal (lengthTests (f .elements) (f .words) waiting received state) ⌝ }
-{
-    let e = f.elements as usize;
-    let words = f.words as usize;
-    if waiting != e {
-        return 20;
-    }
-    if received != e {
-        return 26;
-    }
-    if state < words { 21 } else { 0 }
 }
 
 fn size_of(d: Description, f: Figures) -> Size
@@ -78,7 +63,7 @@ fn open_accepted(
 {
     let f = figures::figures_of(d, spans);
     let z = size_of(d, f);
-    let r = length_refusal(f, waiting.len(), received.len(), state.len());
+    let r = declines::of_memory(f, waiting.len(), received.len(), state.len());
     if r == 0 {
         Opening {
             refusal: sound_refusal(d, z, state, spans, ports),

@@ -1,6 +1,6 @@
 -- The run of the instances one by one, a list copied, and what the call answers. Assumes nothing.
 use mathlib.Core.Path.{_≡_, refl, sym, _∙_, ap, ap₂, subst}
-use mathlib.Core.Bool.{not, cond}
+use mathlib.Core.Bool.{cond}
 use mathlib.Core.List.{List, [], _∷_}
 use Prim.Native.Nat.{ℕ, _+_, _*_, _-_, _≤_, _<_}
 use native.Mathlib.Numerals.{add-one}
@@ -8,7 +8,7 @@ use native.Mathlib.Omega.{arith}
 use lib.Dec.{eqb}
 use lib.ListN.{length, getD, take, drop, drop-of-length-le}
 use lib.Seq.{drop-cons, ext-getD}
-use borrow.Author.Tests.{ne-eqb, eqb-true, not-false}
+use borrow.Author.Tests.{ne-eqb}
 use Rattle.integers.specs.Fill.{fillBy, fill-length, fill-at}
 use Rattle.integers.specs.Vectors.{zero3}
 use Rattle.integers.specs.declared.V3.{V3}
@@ -16,14 +16,14 @@ use Rattle.meaning.specs.declared.Description.{Description}
 use Rattle.meaning.specs.declared.Answer.{Answer}
 use Rattle.meaning.specs.declared.Answer.the-variants.{Done, Refused}
 use Rattle.meaning.specs.declared.Limits.{Limits}
-use Rattle.meaning.specs.Tests.{Test, _if_, refusal}
+use Rattle.meaning.specs.Tests.{Test, refusal}
 use Rattle.meaning.specs.Limits.{gaugeLimits}
 use Rattle.meaning.specs.Loops.{instances}
 use Rattle.meaning.specs.Description.{descriptionOf, linesOf}
 use Rattle.meaning.specs.Body.{execute, executeAll, finalValues}
 use Rattle.meaning.specs.Accept.{refusalOf}
 use Rattle.meaning.specs.Calls.{lengthOf, answer, plainRun}
-use Rattle.decode.specs.Refusals.{passed}
+use Rattle.declines.specs.Tests.{plainLengths, plain-fits}
 use Rattle.stream_lines.specs.Accepted.{accepted-within}
 use Rattle.elements.specs.Few.{accepted-few}
 use Rattle.body.specs.Execute.{executeAt, execute-touched}
@@ -60,20 +60,21 @@ copied vs out e =
 
 -- the call's own tests, of the lengths of values and of output
 abbrev pub ownTests : Description → ℕ → ℕ → List Test
-ownTests d values output = (20 if not (eqb values (lengthOf d))) ∷ (28 if not (eqb output (lengthOf d))) ∷ []
+ownTests d values output = plainLengths (lengthOf d) values output
 
 -- what the call answers and leaves once its description is accepted
 pub record Called (d : Description) (values output : List ℕ) (r : Answer) (out : List ℕ) : Type 0 where
   pub answers : r ≡ answer (refusal (ownTests d (length values) (length output)))
   pub leaves : out ≡ cond (eqb (refusal (ownTests d (length values) (length output))) 0) (finalValues d values) output
 
--- none of them applies
+-- the number by the count of elements, and none of them applies
+pub own-is : (d : Description) (values output : ℕ) {n k : ℕ} → k ≡ lengthOf d → n ≡ refusal (plainLengths k values output)
+    → n ≡ refusal (ownTests d values output)
+own-is d values output k e = e ∙ ap (λ (k : ℕ). refusal (plainLengths k values output)) k
+
 pub lengths-are : (d : Description) (values output : ℕ) {n : ℕ} → n ≡ refusal (ownTests d values output) → n ≡ 0
     → (values ≡ lengthOf d) × (output ≡ lengthOf d)
-lengths-are d values output e z =
-    let p20 = passed 20 (not (eqb values (lengthOf d))) _ (λ g. omega arith) (sym e ∙ z) in
-    let p28 = passed 28 (not (eqb output (lengthOf d))) _ (λ g. omega arith) (p20 .1) in
-    (eqb-true values (lengthOf d) (not-false _ (p20 .0)), eqb-true output (lengthOf d) (not-false _ (p28 .0)))
+lengths-are d values output e z = plain-fits (lengthOf d) values output (sym e ∙ z)
 
 module _ (d : Description) (values output : List ℕ) {n : ℕ} (e : n ≡ refusal (ownTests d (length values) (length output))) where
   -- the values copied, and the instances run on the copy

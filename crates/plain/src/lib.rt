@@ -19,7 +19,7 @@ ghost use Rattle.numbering.specs.Extents.{Numbered, boxed};
 ghost use Rattle.elements.specs.Counts.{Few};
 ghost use Rattle.plain.specs.Columns.{column};
 ghost use Rattle.plain.specs.Places.{Fitting, Filling, Table, numberFrom, place, columns};
-ghost use Rattle.plain.specs.Run.{ownTests, Called};
+ghost use Rattle.plain.specs.Run.{Called};
 use integers::Matrix;
 use meaning::Answer;
 use meaning::Description;
@@ -134,25 +134,13 @@ fn copy(values: &[u32], output: &mut [u32])
     }
 }
 
-// The first of the refusals 20 and 28 that applies to so many values and places for them, 0 if none does.
-fn own_refusal(d: Description, values: usize, output: usize) -> u32
-    requires { ⌜ Few d ⌝ }
-    ensures { λ r. ⌜ r ≡ refusal (ownTests d values output) ⌝ }
-{
-    let e = elements::element_count(d) as usize;
-    if values == e {
-        if output == e { 0 } else { 28 }
-    } else {
-        20
-    }
-}
-
 // The call on an accepted description.
 fn run_accepted(d: Description, values: &[u32], output: &mut [u32]) -> Answer
     requires { ⌜ Fitting d ⌝ }
     ensures { λ r. ⌜ Called d (now (values .entry)) (now (output .entry)) r (now (output .exit)) ⌝ }
 {
-    let r = own_refusal(d, values.len(), output.len());
+    let e = elements::element_count(d);
+    let r = declines::of_plain(e, values.len(), output.len());
     if r == 0 {
         copy(values, output);
         run_loops(d, output);

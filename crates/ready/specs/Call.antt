@@ -6,7 +6,7 @@ use Prim.Native.Nat.{ℕ, zero, suc, _≤_, _<_}
 use native.Mathlib.Omega.{arith}
 use lib.Dec.{ltb}
 use lib.ListN.{length, take}
-use borrow.Author.Tests.{ne-eqb, lt-ltb, le-ltb}
+use borrow.Author.Tests.{ne-eqb, le-ltb, ltb-false}
 use Rattle.meaning.specs.declared.Limits.{Limits}
 use Rattle.meaning.specs.declared.Readiness.{Readiness}
 use Rattle.meaning.specs.declared.Readiness.the-variants.{Ready, Refused}
@@ -15,6 +15,8 @@ use Rattle.meaning.specs.Description.{descriptionOf}
 use Rattle.meaning.specs.Array.{arrayOf}
 use Rattle.meaning.specs.Rules.{Memory}
 use Rattle.meaning.specs.Calls.{canMove, memoryTests, refusedBy, Readied, readyCall}
+use Rattle.decode.specs.Refusals.{passed}
+use Rattle.declines.specs.Tests.{readyLengths}
 use Rattle.port_table.specs.declared.Size.{Size}
 use Rattle.port_table.specs.PortsOf.{RowsFit}
 use Rattle.step_rules.specs.Meaning.{Stands}
@@ -43,9 +45,17 @@ module _ (b st : List ℕ) (z : Size) (words : List ℕ) where
   unfoldable pub leftBy : List ℕ
   leftBy = cond (ltb (length words) 16) words markedBy
 
-  pub answer-few : length words < 16 → (Refused 27 ≡ answerBy) × (words ≡ leftBy)
-  unfolding answerBy leftBy
-  answer-few h = let t = lt-ltb (length words) 16 h in (rw t refl, rw t refl)
+  module _ {n : ℕ} (e : n ≡ refusal (readyLengths (length words))) where
+    pub answer-few : (n ≡ 0 → ⊥) → (Refused n ≡ answerBy) × (words ≡ leftBy)
+    unfolding answerBy leftBy refusal
+    answer-few f = go (ltb (length words) 16) e
+      where
+        go : (b : Bool) → n ≡ refusal ((27 if b) ∷ []) → (Refused n ≡ cond b (Refused 27) (answerOf (z .processes) markedBy)) × (words ≡ cond b words markedBy)
+        go true k = (ap Refused k, refl)
+        go false k = absurd (f k)
+
+    pub many-words : n ≡ 0 → 16 ≤ length words
+    many-words h = ltb-false (length words) 16 (passed 27 _ [] (λ g. omega arith) (sym e ∙ h) .0)
 
   pub answer-marked : {left : List ℕ} → 16 ≤ length words → left ≡ markedBy → (answerOf (z .processes) left ≡ answerBy) × (left ≡ leftBy)
   unfolding answerBy leftBy

@@ -70,8 +70,9 @@ fn ready_opened(ports: &[u32], state: &[u32], z: Size, words: &mut [u64]) -> Rea
     ensures { λ r. ⌜ (r ≡ answerBy (now (ports .entry)) (now (state .entry)) z (now (words .entry)))
         × (now (words .exit) ≡ leftBy (now (ports .entry)) (now (state .entry)) z (now (words .entry))) ⌝ }
 {
-    if words.len() < 16 {
-        return Readiness::Refused(27);
+    let r = declines::of_ready(words.len());
+    if r != 0 {
+        return Readiness::Refused(r);
     }
     mark_ready(ports, state, z, words);
     let processes = z.processes as u32;

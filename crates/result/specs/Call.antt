@@ -12,7 +12,7 @@ use Rattle.meaning.specs.declared.Limits.{Limits}
 use Rattle.meaning.specs.declared.Answer.{Answer}
 use Rattle.meaning.specs.declared.Answer.the-variants.{Done, Refused}
 use Rattle.meaning.specs.Lists.{every, numbers}
-use Rattle.meaning.specs.Tests.{Test, _if_, refusal}
+use Rattle.meaning.specs.Tests.{Test, refusal}
 use Rattle.meaning.specs.Limits.{gaugeLimits}
 use Rattle.meaning.specs.Description.{descriptionOf}
 use Rattle.meaning.specs.Array.{arrayOf}
@@ -20,6 +20,7 @@ use Rattle.meaning.specs.Accept.{refusalOf}
 use Rattle.meaning.specs.Rules.{Memory}
 use Rattle.meaning.specs.Calls.{lengthOf, orElse, memoryTests, refusedBy, answer, allOut, result}
 use Rattle.decode.specs.Refusals.{passed}
+use Rattle.declines.specs.Tests.{resultTests}
 use Rattle.element_places.specs.Order.{Placeable, placeable}
 use Rattle.port_table.specs.declared.Size.{Size}
 use Rattle.port_table.specs.PortsOf.{SizeOf, PortsOf, RowsFit}
@@ -28,12 +29,9 @@ use Rattle.opening.specs.Opened.{size-of, fits}
 use Rattle.result.specs.Out.{outBy, all-out}
 use Rattle.result.specs.Order.{elementOrder}
 
--- the call's own tests: whether all values are out, and whether the output is as long as they are many
-abbrev pub ownTests : Bool → Bool → List Test
-ownTests out fits = (25 if not out) ∷ (28 if not fits) ∷ []
-
+-- the call's own tests
 abbrev testsOf : List ℕ → List ℕ → List ℕ → List Test
-testsOf s state output = ownTests (allOut gaugeLimits s state) (eqb (length output) (lengthOf (descriptionOf s)))
+testsOf s state output = resultTests (allOut gaugeLimits s state) (eqb (length output) (lengthOf (descriptionOf s)))
 
 -- what it answers and leaves once nothing else is refused
 pub record Called (s received state output : List ℕ) (r : Answer) (out : List ℕ) : Type 0 where
@@ -49,11 +47,11 @@ pub record Drawable (s b : List ℕ) (z : Size) (received state : List ℕ) : Ty
   pub long : length received ≡ lengthOf (descriptionOf s)
 
 module _ {s b : List ℕ} {z : Size} {received state : List ℕ} (h : Drawable s b z received state) (output : List ℕ) {n : ℕ} {out : Bool}
-    (o : out ≡ every (outBy b state) (numbers (z .pipes))) (r : n ≡ refusal (ownTests out (eqb (length output) (length received)))) where
+    (o : out ≡ every (outBy b state) (numbers (z .pipes))) (r : n ≡ refusal (resultTests out (eqb (length output) (length received)))) where
   own : n ≡ refusal (testsOf s state output)
   own =
       r
-      ∙ ap₂ (λ (out : Bool) (e : ℕ). refusal (ownTests out (eqb (length output) e))) (o ∙ all-out gaugeLimits s (h .planned) (h .size) state) (h .long)
+      ∙ ap₂ (λ (out : Bool) (e : ℕ). refusal (resultTests out (eqb (length output) e))) (o ∙ all-out gaugeLimits s (h .planned) (h .size) state) (h .long)
 
   -- none of them applies
   module _ (none : n ≡ 0) {d : Description} (e : d ≡ descriptionOf s) where

@@ -19,7 +19,7 @@ ghost use Rattle.layout.specs.Spans.{Spans};
 ghost use Rattle.element_places.specs.Order.{Placeable};
 ghost use Rattle.result.specs.Out.{outBy, Asked};
 ghost use Rattle.result.specs.Order.{placed, Readable, elementOrder};
-ghost use Rattle.result.specs.Call.{ownTests, Called, Drawable};
+ghost use Rattle.result.specs.Call.{Called, Drawable};
 use meaning::Answer;
 use meaning::Description;
 use port_table::Size;
@@ -63,13 +63,6 @@ fn fill_output(d: Description, spans: &[u32], received: &[u32], output: &mut [u3
     put_in_order(received, &places, received.len(), output);
 }
 
-// The first of the refusals 25 and 28 that applies, 0 if none does.
-fn own_refusal(out: bool, fits: bool) -> u32
-    ensures { λ r. ⌜ r ≡ refusal (ownTests out fits) ⌝ }
-{
-    if out { if fits { 0 } else { 28 } } else { 25 }
-}
-
 // The call once the memory is opened.
 fn result_opened(
     s: &[u8],
@@ -85,7 +78,7 @@ fn result_opened(
     ensures { λ r. ⌜ Called (now (s .entry)) (now (received .entry)) (now (state .entry)) (now (output .entry)) r (now (output .exit)) ⌝ }
 {
     let out = all_out(ports, state, z.pipes);
-    let r = own_refusal(out, output.len() == received.len());
+    let r = declines::of_result(out, output.len() == received.len());
     if r == 0 {
         fill_output(decode::description(s), spans, received, output);
         Answer::Done

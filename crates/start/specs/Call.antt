@@ -1,26 +1,26 @@
 -- The call's own refusals, and what it answers and leaves. Assumes nothing.
 use mathlib.Core.Path.{_≡_, refl, sym, _∙_, ap, subst}
-use mathlib.Core.Bool.{not, cond, _||_}
+use mathlib.Core.Bool.{cond}
 use mathlib.Core.List.{List, [], _∷_, _++_}
 use Prim.Native.Nat.{ℕ, _≤_}
 use native.Mathlib.Omega.{arith}
 use lib.Dec.{eqb, ltb}
 use lib.ListN.{length, drop, replicate}
-use borrow.Author.Tests.{ne-eqb, eqb-true, not-false, ltb-false}
+use borrow.Author.Tests.{ne-eqb}
 use Rattle.integers.specs.Fill.{fillBy}
 use Rattle.meaning.specs.declared.Description.{Description}
 use Rattle.meaning.specs.declared.Figures.{Figures}
 use Rattle.meaning.specs.declared.Limits.{Limits}
 use Rattle.meaning.specs.declared.Answer.{Answer}
 use Rattle.meaning.specs.declared.Answer.the-variants.{Done, Refused}
-use Rattle.meaning.specs.Tests.{Test, _if_, refusal}
+use Rattle.meaning.specs.Tests.{refusal}
 use Rattle.meaning.specs.Description.{descriptionOf}
 use Rattle.meaning.specs.Body.{gather}
 use Rattle.meaning.specs.Array.{arrayOf, pipeOrder}
 use Rattle.meaning.specs.Rules.{Memory, memoryOf}
 use Rattle.meaning.specs.Accept.{refusalOf, figures}
 use Rattle.meaning.specs.Calls.{lengthOf, stateLength, answer, start}
-use Rattle.decode.specs.Refusals.{neither, passed}
+use Rattle.declines.specs.Tests.{startLengths, start-fits}
 use Rattle.element_places.specs.Order.{PlacesOf, Placeable, elements-most}
 use Rattle.start.specs.Values.{Puttable, put, puttable, gathered, cleared, cleared-all}
 
@@ -33,13 +33,9 @@ startedBy d values M =
       state = replicate (stateLength d) 0 ++ drop (stateLength d) (M .state);
     }
 
--- the call's own tests: of so many elements and words of a state, and of the lengths of the four lists
-abbrev pub ownTests : ℕ → ℕ → ℕ → ℕ → ℕ → ℕ → List Test
-ownTests elements words values waiting received state =
-    (20 if (not (eqb values elements) || not (eqb waiting elements))) ∷ (26 if not (eqb received elements)) ∷ (21 if ltb state words) ∷ []
-
+-- the call's own refusal
 abbrev pub ownRefusal : Description → List ℕ → Memory → ℕ
-ownRefusal d values M = refusal (ownTests (lengthOf d) (stateLength d) (length values) (length (M .waiting)) (length (M .received)) (length (M .state)))
+ownRefusal d values M = refusal (startLengths (lengthOf d) (stateLength d) (length values) (length (M .waiting)) (length (M .received)) (length (M .state)))
 
 -- what it answers and leaves once its description is accepted
 pub record Called (d : Description) (values : List ℕ) (M : Memory) (r : Answer) (M' : Memory) : Type 0 where
@@ -78,27 +74,17 @@ module _ {d : Description} {f : Figures} {values : List ℕ} {M : Memory} (h : F
       λ i. record { waiting = a i; received = b i; state = c i }
 
 module _ (d : Description) {f : Figures} (e : f ≡ figures d) (values : List ℕ) (M : Memory) {n : ℕ}
-    (r : n ≡ refusal (ownTests (f .elements) (f .words) (length values) (length (M .waiting)) (length (M .received)) (length (M .state)))) where
+    (r : n ≡ refusal (startLengths (f .elements) (f .words) (length values) (length (M .waiting)) (length (M .received)) (length (M .state)))) where
   own : n ≡ ownRefusal d values M
   own =
       r
-      ∙ ap (λ (f : Figures). refusal (ownTests (f .elements) (f .words) (length values) (length (M .waiting)) (length (M .received)) (length (M .state)))) e
+      ∙ ap (λ (f : Figures). refusal (startLengths (f .elements) (f .words) (length values) (length (M .waiting)) (length (M .received)) (length (M .state)))) e
 
   -- none of them applies
   pub fitting : Placeable d → n ≡ 0 → Fitting d f values M
   fitting h z =
-      let p20 = passed 20 _ _ (λ g. omega arith) (sym own ∙ z) in
-      let p26 = passed 26 _ _ (λ g. omega arith) (p20 .1) in
-      let p21 = passed 21 _ _ (λ g. omega arith) (p26 .1) in
-      let a = neither (not (eqb (length values) (lengthOf d))) (not (eqb (length (M .waiting)) (lengthOf d))) (p20 .0) in
-      record {
-        placeable = h;
-        figured = e;
-        given = eqb-true (length values) (lengthOf d) (not-false _ (a .0));
-        waiting = eqb-true (length (M .waiting)) (lengthOf d) (not-false _ (a .1));
-        received = eqb-true (length (M .received)) (lengthOf d) (not-false _ (p26 .0));
-        state = ltb-false (length (M .state)) (stateLength d) (p21 .0);
-      }
+      let l = start-fits (lengthOf d) (stateLength d) _ _ _ _ (sym own ∙ z) in
+      record { placeable = h; figured = e; given = l .0; waiting = l .1; received = l .2; state = l .3 }
 
   pub call-done : n ≡ 0 → {M' : Memory} → M' ≡ startedBy d values M → Called d values M Done M'
   call-done z g = let q = sym own ∙ z in record { answers = rw q refl; leaves = rw q g }

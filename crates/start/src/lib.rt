@@ -14,7 +14,7 @@ ghost use Rattle.meaning.specs.Calls.{start};
 ghost use Rattle.layout.specs.Spans.{Spans};
 ghost use Rattle.element_places.specs.Order.{Placeable};
 ghost use Rattle.start.specs.Values.{Puttable, put};
-ghost use Rattle.start.specs.Call.{startedBy, ownTests, Called, Fitting};
+ghost use Rattle.start.specs.Call.{startedBy, Called, Fitting};
 use meaning::Answer;
 use meaning::Description;
 use meaning::Figures;
@@ -53,24 +53,6 @@ fn fill_memory(
     sweeps::clear(f.words, state);
 }
 
-// The first of the refusals 20, 26 and 21 that applies to lists of such lengths, 0 if none does.
-fn own_refusal(f: Figures, values: usize, waiting: usize, received: usize, state: usize) -> u32
-    ensures { λ r. ⌜ r ≡ refusal (ownTests (f .elements) (f .words) values waiting received state) ⌝ }
-{
-    let e = f.elements as usize;
-    let words = f.words as usize;
-    if values != e {
-        return 20;
-    }
-    if waiting != e {
-        return 20;
-    }
-    if received != e {
-        return 26;
-    }
-    if state < words { 21 } else { 0 }
-}
-
 // The call on an accepted description.
 fn start_accepted(
     d: Description,
@@ -85,7 +67,7 @@ fn start_accepted(
         (memoryOf (now (waiting .exit)) (now (received .exit)) (now (state .exit))) ⌝ }
 {
     let f = figures::figures_of(d, spans);
-    let r = own_refusal(f, values.len(), waiting.len(), received.len(), state.len());
+    let r = declines::of_start(f, values.len(), waiting.len(), received.len(), state.len());
     if r == 0 {
         fill_memory(d, f, spans, values, waiting, received, state);
         Answer::Done

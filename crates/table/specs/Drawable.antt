@@ -7,18 +7,19 @@ use native.Mathlib.Omega.{arith}
 use lib.Dec.{eqb, ltb}
 use lib.ListN.{length, getD}
 use lib.Seq.{getD-take}
-use borrow.Author.Tests.{eqb-true, eqb-false, eq-eqb, ne-eqb, lt-ltb, le-ltb, ltb-false}
+use borrow.Author.Tests.{eqb-true, eqb-false, eq-eqb, ne-eqb, ltb-false}
 use Rattle.meaning.specs.declared.Stream.{Stream}
 use Rattle.meaning.specs.declared.Description.{Description}
 use Rattle.meaning.specs.declared.Limits.{Limits}
 use Rattle.meaning.specs.Limits.{gaugeLimits}
-use Rattle.meaning.specs.Tests.{Test, _if_, refusal}
+use Rattle.meaning.specs.Tests.{Test, refusal}
 use Rattle.meaning.specs.Space.{processes}
 use Rattle.meaning.specs.Description.{sizesOf, descriptionOf, streamsOf, noStream}
 use Rattle.meaning.specs.Accept.{refusalOf}
 use Rattle.geometry.specs.Descriptions.{laid}
 use Rattle.decode.specs.Offsets.{Sized}
-use Rattle.decode.specs.Refusals.{refuses, passes, accepts, passed}
+use Rattle.decode.specs.Refusals.{passed}
+use Rattle.declines.specs.Tests.{tableLengths}
 use Rattle.numbering.specs.Ranges.{Bounded}
 use Rattle.stream_lines.specs.InRange.{nest-bounded}
 use Rattle.stream_lines.specs.Accepted.{accepted-within}
@@ -64,7 +65,7 @@ module _ {d : Description} {i : ℕ} {t : Stream} (g : Drawable d) (l : i < d .s
 
 module _ (l : Limits) (s : List ℕ) (room : ℕ) where
   abbrev own : List Test
-  own = (18 if ltb room (length (processes (descriptionOf s .nest)))) ∷ []
+  own = tableLengths (length (processes (descriptionOf s .nest))) room
 
   pub refused-first : {r : ℕ} → r ≡ refusalOf l s → (r ≡ 0 → ⊥) → r ≡ refusedFor l s room
   refused-first {r} e h =
@@ -73,11 +74,9 @@ module _ (l : Limits) (s : List ℕ) (room : ℕ) where
   then-own : refusalOf l s ≡ 0 → refusal own ≡ refusedFor l s room
   then-own e = ap (λ (b : Bool). cond b (refusal own) (refusalOf l s)) (sym (eq-eqb (refusalOf l s) 0 e))
 
-  pub refused-18 : refusalOf l s ≡ 0 → room < length (processes (descriptionOf s .nest)) → 18 ≡ refusedFor l s room
-  refused-18 e h = refuses 18 [] (lt-ltb room _ h) ∙ then-own e
-
-  pub refused-none : refusalOf l s ≡ 0 → length (processes (descriptionOf s .nest)) ≤ room → 0 ≡ refusedFor l s room
-  refused-none e h = passes 18 [] (le-ltb room _ h) accepts ∙ then-own e
+  pub refused-own : {r n : ℕ} → refusalOf l s ≡ 0 → n ≡ length (processes (descriptionOf s .nest)) → r ≡ refusal (tableLengths n room)
+      → r ≡ refusedFor l s room
+  refused-own e n h = h ∙ ap (λ (n : ℕ). refusal (tableLengths n room)) n ∙ then-own e
 
   -- a refusal of 0
   pub none-refused : refusedFor l s room ≡ 0 → (refusalOf l s ≡ 0) × (length (processes (descriptionOf s .nest)) ≤ room)

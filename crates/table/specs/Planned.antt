@@ -17,7 +17,6 @@ use Rattle.meaning.specs.declared.Stream.{Stream}
 use Rattle.meaning.specs.declared.Description.{Description}
 use Rattle.meaning.specs.declared.Row.{Row}
 use Rattle.meaning.specs.declared.Limits.{Limits}
-use Rattle.meaning.specs.Tests.{_if_}
 use Rattle.meaning.specs.Loops.{instances}
 use Rattle.meaning.specs.Space.{Box, points, space, processes, count, first, last}
 use Rattle.meaning.specs.Description.{descriptionOf, streamsOf, noStream}
@@ -29,13 +28,14 @@ use Rattle.numbering.specs.Extents.{Spanning, boxed, box-spanning}
 use Rattle.numbering.specs.Numbers.{filled}
 use Rattle.layout.specs.Spans.{processOf, numbered, Spans}
 use Rattle.pipes.specs.Elements.{rowDrain}
+use Rattle.declines.specs.Tests.{tableLengths}
 use Rattle.table.specs.declared.Shape.{Shape}
 use Rattle.table.specs.Rows.{byStream, rowFrom, Readable}
 use Rattle.table.specs.Blocks.{Streamed}
 
 -- the refusal of the call
 abbrev pub refusedFor : Limits → List ℕ → ℕ → ℕ
-refusedFor l s room = refusedBy l s ((18 if ltb room (length (processes (descriptionOf s .nest)))) ∷ [])
+refusedFor l s room = refusedBy l s (tableLengths (length (processes (descriptionOf s .nest))) room)
 
 -- the shape of a nest
 pub record Shaped (n : Nest) (h : Shape) : Type 0 where

@@ -185,7 +185,7 @@ fn refusal_for(s: &[u8], limits: Limits, room: usize, spans: &mut [u32; 3072]) -
     let r = refuse::refusal_within(s, limits, spans);
     if r == 0 {
         let n = decode::description(s).nest;
-        if room < process_count(n) { 18 } else { 0 }
+        declines::of_table(process_count(n), room)
     } else {
         r
     }

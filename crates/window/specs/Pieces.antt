@@ -20,6 +20,7 @@ use Rattle.meaning.specs.Calls.{lengthOf, refusedBy, window}
 use Rattle.geometry.specs.Descriptions.{Laid, laid}
 use Rattle.geometry.specs.PipeOrder.{list-length}
 use Rattle.decode.specs.Refusals.{refuses, passes, accepts}
+use Rattle.declines.specs.Tests.{windowLengths, window-fits}
 use Rattle.figures.specs.Shares.{Described, described}
 use Rattle.window.specs.declared.Search.{Search}
 use Rattle.window.specs.declared.Piece.{Piece}
@@ -119,45 +120,47 @@ module _ (d : Description) (pipe side waiting received : ℕ) where
   abbrev pipes : ℕ
   pipes = pipeNumber (arrayOf d)
 
-  pub by-waiting : (waiting ≡ lengthOf d → ⊥) → 20 ≡ refusal (ownTests d pipe side waiting received)
-  by-waiting f = refuses 20 _ (ap not (ne-eqb waiting (lengthOf d) f))
+  -- what is refused before the pipe is looked for
+  pub by-lists : {k n : ℕ} → k ≡ lengthOf d → n ≡ refusal (windowLengths k side waiting received) → (n ≡ 0 → ⊥)
+      → n ≡ refusal (ownTests d pipe side waiting received)
+  unfolding refusal
+  by-lists e h f =
+      let g = h ∙ ap (λ (k : ℕ). refusal (windowLengths k side waiting received)) e in
+      g ∙ go (not (eqb waiting (lengthOf d))) (not (eqb received (lengthOf d))) (not (ltb side 2)) (not (ltb pipe pipes)) (λ z. f (g ∙ z))
+    where
+      go : (a b c e : Bool) → (refusal ((20 if a) ∷ (26 if b) ∷ (19 if c) ∷ []) ≡ 0 → ⊥)
+          → refusal ((20 if a) ∷ (26 if b) ∷ (19 if c) ∷ []) ≡ refusal ((20 if a) ∷ (26 if b) ∷ (19 if (e || c)) ∷ [])
+      go true b c e f = refl
+      go false true c e f = refl
+      go false false true true f = refl
+      go false false true false f = refl
+      go false false false e f = absurd (f refl)
 
-  module _ (ew : waiting ≡ lengthOf d) where
-    later : {k : ℕ} → k ≡ refusal ((26 if not (eqb received (lengthOf d))) ∷ (19 if (not (ltb pipe pipes) || not (ltb side 2))) ∷ [])
-        → k ≡ refusal (ownTests d pipe side waiting received)
-    later h = passes 20 _ (ap not (eq-eqb waiting (lengthOf d) ew)) h
+  pub lists-fit : {k n : ℕ} → k ≡ lengthOf d → n ≡ refusal (windowLengths k side waiting received) → n ≡ 0
+      → (waiting ≡ lengthOf d) × (received ≡ lengthOf d) × (side < 2)
+  lists-fit e h z =
+      window-fits (lengthOf d) side waiting received (sym (h ∙ ap (λ (k : ℕ). refusal (windowLengths k side waiting received)) e) ∙ z)
 
-    pub by-received : (received ≡ lengthOf d → ⊥) → 26 ≡ refusal (ownTests d pipe side waiting received)
-    by-received f = later (refuses 26 _ (ap not (ne-eqb received (lengthOf d) f)))
+  module _ (ew : waiting ≡ lengthOf d) (er : received ≡ lengthOf d) where
+    pub by-pipe : side < 2 → cond (ltb pipe pipes) 0 19 ≡ refusal (ownTests d pipe side waiting received)
+    by-pipe h =
+        passes 20 _ (ap not (eq-eqb waiting (lengthOf d) ew))
+        (passes 26 _ (ap not (eq-eqb received (lengthOf d) er)) (go (ltb pipe pipes) (ltb side 2) (lt-ltb side 2 h)))
+      where
+        go : (b c : Bool) → c ≡ true → cond b 0 19 ≡ refusal ((19 if (not b || not c)) ∷ [])
+        go true c e = passes 19 _ (ap not e) accepts
+        go false c e = refuses 19 _ refl
 
-    module _ (er : received ≡ lengthOf d) where
-      last : {k : ℕ} → k ≡ refusal ((19 if (not (ltb pipe pipes) || not (ltb side 2))) ∷ []) → k ≡ refusal (ownTests d pipe side waiting received)
-      last h = later (passes 26 _ (ap not (eq-eqb received (lengthOf d) er)) h)
-
-      pub by-side : 2 ≤ side → 19 ≡ refusal (ownTests d pipe side waiting received)
-      by-side h = last (refuses 19 _ (ap (λ (b : Bool). not (ltb pipe pipes) || not b) (le-ltb side 2 h) ∙ go (not (ltb pipe pipes))))
-        where
-          go : (b : Bool) → b || true ≡ true
-          go true = refl
-          go false = refl
-
-      pub by-pipe : side < 2 → cond (ltb pipe pipes) 0 19 ≡ refusal (ownTests d pipe side waiting received)
-      by-pipe h = last (go (ltb pipe pipes) (ltb side 2) (lt-ltb side 2 h))
-        where
-          go : (b c : Bool) → c ≡ true → cond b 0 19 ≡ refusal ((19 if (not b || not c)) ∷ [])
-          go true c e = passes 19 _ (ap not e) accepts
-          go false c e = refuses 19 _ refl
-
-      pub located-within : Laid d → Within (pieceOf d pipe (cond (ltb pipe pipes) 0 19)) waiting received
-      located-within laid = go (decLe pipes pipe)
-        where
-          go : Dec (pipes ≤ pipe) → Within (pieceOf d pipe (cond (ltb pipe pipes) 0 19)) waiting received
-          go (yes k) = rw (le-ltb pipe pipes k) (nothing-within 19 waiting received)
-          go (no k) =
-              let m : pipe < pipes = omega arith in
-              let b = part-below (λ r. r .elements) (arrayOf d .pipes) pipe noPipe m in
-              rw (lt-ltb pipe pipes m)
-              (record { in-waiting = omega (arith, b, list-length laid, ew); in-received = omega (arith, b, list-length laid, er) })
+    pub located-within : Laid d → Within (pieceOf d pipe (cond (ltb pipe pipes) 0 19)) waiting received
+    located-within laid = go (decLe pipes pipe)
+      where
+        go : Dec (pipes ≤ pipe) → Within (pieceOf d pipe (cond (ltb pipe pipes) 0 19)) waiting received
+        go (yes k) = rw (le-ltb pipe pipes k) (nothing-within 19 waiting received)
+        go (no k) =
+            let m : pipe < pipes = omega arith in
+            let b = part-below (λ r. r .elements) (arrayOf d .pipes) pipe noPipe m in
+            rw (lt-ltb pipe pipes m)
+            (record { in-waiting = omega (arith, b, list-length laid, ew); in-received = omega (arith, b, list-length laid, er) })
 
 -- ---- the call
 

@@ -170,19 +170,12 @@ fn accepted_piece(
     requires { ⌜ (Windowed d) × (Spans (d .nest) (now spans)) × (3072 ≤ length (now spans)) ⌝ }
     ensures { λ r. ⌜ (r ≡ pieceOf d pipe (refusal (ownTests d pipe side waiting received))) × (Within r waiting received) ⌝ }
 {
-    let e = elements::element_count(d) as usize;
-    if waiting == e {
-        if received == e {
-            if side < 2 {
-                located(d, spans, pipe)
-            } else {
-                refused(19)
-            }
-        } else {
-            refused(26)
-        }
+    let e = elements::element_count(d);
+    let r = declines::of_window(e, side, waiting, received);
+    if r == 0 {
+        located(d, spans, pipe)
     } else {
-        refused(20)
+        refused(r)
     }
 }
 

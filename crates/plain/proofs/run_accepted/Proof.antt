@@ -3,26 +3,33 @@ use mathlib.Core.Path.{sym, _∙_, ap}
 use lib.ListN.{length}
 use denote.Ref.{now}
 use borrow.Author.Needs.{needs}
-use Rattle.plain.specs.Run.{lengths-are, run-done, run-refused}
+use Rattle.plain.specs.Run.{own-is, lengths-are, run-done, run-refused}
 use Rattle.plain.proofs.run_accepted.Statement.{statement}
 use Rattle.plain.proofs.run_accepted.Tie as tie
 
-own-refusal-requires : tie.Need-own-refusal-requires
-own-refusal-requires c κs = search needs
+element-count-requires : tie.Need-element-count-requires
+element-count-requires c κs = c .before .pre .few
+
+of-plain-requires : tie.Need-of-plain-requires
+of-plain-requires c κs = search needs
 
 copy-requires : tie.Need-copy-requires
 copy-requires c κs =
     let r = c .before .before in
-    let a = r .before .before .before .args in
-    let l = lengths-are (a .d) (length (now (a .values))) (length (now (a .output))) (r .own-refusal .ensures) (c .before .if1 .taken) in l .1 ∙ sym (l .0)
+    let k = r .before .before .before in
+    let a = k .before .args in
+    let n = own-is (a .d) (length (now (a .values))) (length (now (a .output))) (k .element-count .ensures .0) (r .of-plain .ensures) in
+    let l = lengths-are (a .d) (length (now (a .values))) (length (now (a .output))) n (c .before .if1 .taken) in l .1 ∙ sym (l .0)
 
 run-loops-requires : tie.Need-run-loops-requires
 run-loops-requires c κs =
     let i = c .before .before .before .before .before in
     let r = i .before in
-    let s = r .before .before .before in
+    let k = r .before .before .before in
+    let s = k .before in
     let a = s .args in
-    let l = lengths-are (a .d) (length (now (a .values))) (length (now (a .output))) (r .own-refusal .ensures) (i .if1 .taken) in
+    let n = own-is (a .d) (length (now (a .values))) (length (now (a .output))) (k .element-count .ensures .0) (r .of-plain .ensures) in
+    let l = lengths-are (a .d) (length (now (a .values))) (length (now (a .output))) n (i .if1 .taken) in
     (s .pre, ap length (c .before .before .before .copy .ensures) ∙ l .0)
 
 same-length : tie.Need-same-length
@@ -31,17 +38,21 @@ same-length c = search needs
 returns : tie.Need-returns
 returns c =
     let l = c .before .before in
-    let k = l .before .before .before .before in
-    let i = k .before .before in
-    let a = i .before .before .before .before .args in
-    run-done (a .d) (now (a .values)) (now (a .output)) (i .before .own-refusal .ensures) (i .if1 .taken) (k .copy .ensures) (l .run-loops .ensures)
+    let f = l .before .before .before .before in
+    let i = f .before .before in
+    let k = i .before .before .before .before in
+    let a = k .before .args in
+    let n = own-is (a .d) (length (now (a .values))) (length (now (a .output))) (k .element-count .ensures .0) (i .before .of-plain .ensures) in
+    run-done (a .d) (now (a .values)) (now (a .output)) n (i .if1 .taken) (f .copy .ensures) (l .run-loops .ensures)
 
 returns-2 : tie.Need-returns-2
 returns-2 c =
-    let a = c .before .before .before .before .args in
-    run-refused (a .d) (now (a .values)) (now (a .output)) (c .before .own-refusal .ensures) (c .if1 .left)
+    let k = c .before .before .before .before in
+    let a = k .before .args in
+    let n = own-is (a .d) (length (now (a .values))) (length (now (a .output))) (k .element-count .ensures .0) (c .before .of-plain .ensures) in
+    run-refused (a .d) (now (a .values)) (now (a .output)) n (c .if1 .left)
 
 pub run-accepted-spec : {M : Type 1} → statement M
 run-accepted-spec =
     tie.close
-    (tie.spec own-refusal-requires copy-requires run-loops-requires same-length returns returns-2)
+    (tie.spec element-count-requires of-plain-requires copy-requires run-loops-requires same-length returns returns-2)

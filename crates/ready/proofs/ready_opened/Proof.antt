@@ -3,15 +3,19 @@ use mathlib.Core.Path.{_∙_, ap₂}
 use native.Mathlib.Omega.{arith}
 use borrow.Author.Needs.{needs}
 use Rattle.meaning.specs.declared.Readiness.the-variants.{Ready}
-use Rattle.ready.specs.Call.{answer-few, answer-marked}
+use Rattle.ready.specs.Call.{answer-few, many-words, answer-marked}
 use Rattle.ready.proofs.ready_opened.Statement.{statement}
 use Rattle.ready.proofs.ready_opened.Tie as tie
 
+of-ready-requires : tie.Need-of-ready-requires
+of-ready-requires c κs = search needs
+
 returns : tie.Need-returns
-returns c = answer-few _ _ _ _ (omega (arith, c .if1 .taken))
+returns c = answer-few _ _ _ _ (c .before .of-ready .ensures) (c .if1 .taken)
 
 mark-ready-requires : tie.Need-mark-ready-requires
-mark-ready-requires c κs = search needs
+mark-ready-requires c κs =
+    let k = c .before .before in (k .before .before .pre, many-words _ _ _ _ (k .of-ready .ensures) (c .before .if1 .left))
 
 cast-processes : tie.Need-cast-processes
 cast-processes c = search needs
@@ -29,13 +33,14 @@ returns-2 : tie.Need-returns-2
 returns-2 c =
     let q = c .before .before .before .before .before .before .before in
     let a = q .before .before .before .before .before .before .args in
-    let m = answer-marked _ _ _ (a .words .now) (omega (arith, q .before .before .if1 .left)) (q .mark-ready .ensures) in
+    let m = answer-marked _ _ _ (a .words .now) (many-words _ _ _ _ (q .before .before .before .of-ready .ensures) (q .before .before .if1 .left)) (q .mark-ready .ensures) in
     (ap₂ Ready (c .before .before .count .ensures) (c .lowest .ensures) ∙ m .0, m .1)
 
 pub ready-opened-spec : {M : Type 1} → statement M
 ready-opened-spec =
     tie.close
     (tie.spec
+    of-ready-requires
     returns
     mark-ready-requires
     cast-processes

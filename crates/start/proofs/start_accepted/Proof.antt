@@ -9,8 +9,8 @@ use Rattle.start.proofs.start_accepted.Tie as tie
 figures-of-requires : tie.Need-figures-of-requires
 figures-of-requires c κs = let p = c .before .before .before .before .before .pre in (p .0 .described, p .1, p .2)
 
-own-refusal-requires : tie.Need-own-refusal-requires
-own-refusal-requires c κs = search needs
+of-start-requires : tie.Need-of-start-requires
+of-start-requires c κs = search needs
 
 fill-memory-requires : tie.Need-fill-memory-requires
 fill-memory-requires c κs =
@@ -18,7 +18,7 @@ fill-memory-requires c κs =
     let s = f .before .before .before .before .before .before in
     let a = s .args in (
       fitting (a .d) (f .figures-of .ensures) (now (a .values)) (memoryOf (now (a .waiting)) (now (a .received)) (now (a .state)))
-          (c .before .before .before .before .own-refusal .ensures) (s .pre .0) (c .before .before .before .if1 .taken),
+          (c .before .before .before .before .of-start .ensures) (s .pre .0) (c .before .before .before .if1 .taken),
       s .pre .1,
       s .pre .2,
     )
@@ -37,20 +37,20 @@ returns c =
     let f = c .before .before .before .before .before .before .before .before .before .before .before .before in
     let a = f .before .before .before .before .before .before .args in
     call-done (a .d) (f .figures-of .ensures) (now (a .values)) (memoryOf (now (a .waiting)) (now (a .received)) (now (a .state)))
-    (c .before .before .before .before .before .before .before .before .before .before .before .own-refusal .ensures) (c .before .before .before .before .before .before .before .before .before .before .if1 .taken) (c .before .before .before .before .before .before .fill-memory .ensures)
+    (c .before .before .before .before .before .before .before .before .before .before .before .of-start .ensures) (c .before .before .before .before .before .before .before .before .before .before .if1 .taken) (c .before .before .before .before .before .before .fill-memory .ensures)
 
 returns-2 : tie.Need-returns-2
 returns-2 c =
     let a = c .before .before .before .before .before .before .before .before .args in
     call-refused (a .d) (c .before .before .figures-of .ensures) (now (a .values)) (memoryOf (now (a .waiting)) (now (a .received)) (now (a .state)))
-    (c .before .own-refusal .ensures) (c .if1 .left)
+    (c .before .of-start .ensures) (c .if1 .left)
 
 pub start-accepted-spec : {M : Type 1} → statement M
 start-accepted-spec =
     tie.close
     (tie.spec
     figures-of-requires
-    own-refusal-requires
+    of-start-requires
     fill-memory-requires
     same-length
     same-length-2

@@ -1,17 +1,14 @@
--- `opening::length_refusal` meets its contract. Assumes nothing.
+-- `declines::of_window` meets its contract. Assumes nothing.
 use mathlib.Core.Path.{ap}
 use mathlib.Core.Bool.{not}
 use borrow.Author.Needs.{needs}
 use borrow.Author.Tests.{eq-eqb, ne-eqb, lt-ltb, le-ltb}
 use Rattle.decode.specs.Refusals.{refuses, passes, accepts}
-use Rattle.opening.proofs.length_refusal.Statement.{statement}
-use Rattle.opening.proofs.length_refusal.Tie as tie
+use Rattle.declines.proofs.of_window.Statement.{statement}
+use Rattle.declines.proofs.of_window.Tie as tie
 
 cast-e : tie.Need-cast-e
 cast-e c = search needs
-
-cast-words : tie.Need-cast-words
-cast-words c = search needs
 
 returns : tie.Need-returns
 returns c = refuses 20 _ (ap not (ne-eqb _ _ (c .if1 .taken)))
@@ -22,12 +19,12 @@ returns-2 c = passes 20 _ (ap not (eq-eqb _ _ (c .before .if1 .left))) (refuses 
 returns-3 : tie.Need-returns-3
 returns-3 c =
     passes 20 _ (ap not (eq-eqb _ _ (c .before .before .if1 .left)))
-    (passes 26 _ (ap not (eq-eqb _ _ (c .before .if2 .left))) (refuses 21 _ (lt-ltb _ _ (c .if3 .taken))))
+    (passes 26 _ (ap not (eq-eqb _ _ (c .before .if2 .left))) (passes 19 _ (ap not (lt-ltb _ _ (c .if3 .taken))) accepts))
 
 returns-4 : tie.Need-returns-4
 returns-4 c =
     passes 20 _ (ap not (eq-eqb _ _ (c .before .before .if1 .left)))
-    (passes 26 _ (ap not (eq-eqb _ _ (c .before .if2 .left))) (passes 21 _ (le-ltb _ _ (c .if3 .left)) accepts))
+    (passes 26 _ (ap not (eq-eqb _ _ (c .before .if2 .left))) (refuses 19 _ (ap not (le-ltb _ _ (c .if3 .left)))))
 
-pub length-refusal-spec : {M : Type 1} → statement M
-length-refusal-spec = tie.close (tie.spec cast-e cast-words returns returns-2 returns-3 returns-4)
+pub of-window-spec : {M : Type 1} → statement M
+of-window-spec = tie.close (tie.spec cast-e returns returns-2 returns-3 returns-4)

@@ -1,0 +1,2 @@
+-- The calls' tests of lengths, in their order.
+pub mod Tests
