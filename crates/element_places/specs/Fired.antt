@@ -28,9 +28,9 @@ use Rattle.geometry.specs.Soaks.{soak-first}
 use Rattle.numbering.specs.declared.Extent.{Extent}
 use Rattle.numbering.specs.Extents.{boxed, Numbered, Spanning, box-spanning, image-inside}
 use Rattle.layout.specs.Spans.{processOf, Spans}
-use Rattle.pipes.specs.declared.Flow.{Flow}
-use Rattle.pipes.specs.Held.{entryNumber}
-use Rattle.pipes.specs.Flow.{Laid, Flows, Seen}
+use Rattle.lanes.specs.declared.Flow.{Flow}
+use Rattle.lanes.specs.Held.{entryNumber}
+use Rattle.lanes.specs.Flow.{Laid, Flows, Seen}
 use Rattle.pipes.specs.Elements.{At, Near, good, entry-lt, held-le, total-still, still-of}
 use Rattle.meaning.specs.Description.{streamsOf, noStream}
 use Rattle.meaning.specs.Body.{streamStart}

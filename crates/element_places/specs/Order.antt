@@ -40,7 +40,7 @@ use Rattle.addresses.specs.Pipes.{part-start}
 use Rattle.addresses.specs.Through.{entryNumber as entryRank, entry-lt, entry-rank, through-is}
 use Rattle.addresses.specs.Ends.{number-lt}
 use Rattle.addresses.specs.Orders.{found-at, touchedPipe, touchedIndex, place-inside, place-on-pipe, touched-lt, touched-waits}
-use Rattle.pipes.specs.Held.{entryNumber}
+use Rattle.lanes.specs.Held.{entryNumber}
 use Rattle.elements.specs.Counts.{total-most}
 use Rattle.pipe_parts.specs.Starts.{entering, startAt}
 use Rattle.figures.specs.Shares.{Described, described}

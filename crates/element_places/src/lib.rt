@@ -18,11 +18,11 @@ ghost use Rattle.element_places.specs.Spread.{spread};
 ghost use Rattle.element_places.specs.Order.{elementNumber, indexOf, placeFor, PlacesOf, Placeable};
 ghost use Rattle.element_places.specs.Fired.{Fired, Placing, Putting, Streaming, placeBy};
 use integers::Matrix;
+use lanes::Flow;
 use meaning::Description;
 use meaning::Nest;
 use meaning::Stream;
 use numbering::Extent;
-use pipes::Flow;
 
 // ---- one instance
 
@@ -91,11 +91,11 @@ fn fill_stream(n: Nest, s: Stream, first: u32, spans: &[u32], places: &mut [u32]
     requires { ⌜ Streaming n s first (now spans) (now places) ⌝ }
     ensures { λ r. ⌜ now (places .exit) ≡ spread (elementNumber n s first) (placeFor n s first) (length (instances n)) (now (places .entry)) ⌝ }
 {
-    let f = pipes::flow_of(n, s);
+    let f = lanes::flow_of(n, s);
     let space = f.space;
     let processes = numbering::size_of(space);
     let mut lanes = [0u32; 4096];
-    pipes::fill_lanes(f, processes, spans, &mut lanes);
+    lanes::fill_lanes(f, processes, spans, &mut lanes);
     let mut starts = [0u32; 1024];
     pipe_parts::fill_starts(f, processes, spans, &lanes, first, &mut starts);
     put_places(f, spans, &lanes, &starts, first, places);

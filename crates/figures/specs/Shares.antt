@@ -27,9 +27,9 @@ use Rattle.stream_lines.specs.InRange.{nest-bounded}
 use Rattle.stream_lines.specs.StateWords.{end-words}
 use Rattle.elements.specs.Counts.{Few, total-most}
 use Rattle.elements.specs.Few.{accepted-few}
-use Rattle.pipes.specs.declared.Flow.{Flow}
-use Rattle.pipes.specs.Flow.{Laid, Seen}
-use Rattle.pipes.specs.Accepted.{streams-used, laid-stream}
+use Rattle.lanes.specs.declared.Flow.{Flow}
+use Rattle.lanes.specs.Flow.{Laid, Seen}
+use Rattle.lanes.specs.Accepted.{streams-used, laid-stream}
 use Rattle.pipe_parts.specs.Starts.{entering, filter-fewer}
 use Rattle.figures.specs.declared.Share.{Share}
 use Rattle.figures.specs.declared.Sums.{Sums}

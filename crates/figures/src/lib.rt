@@ -14,11 +14,11 @@ ghost use Rattle.layout.specs.Spans.{processOf, Spans};
 ghost use Rattle.pipes.specs.Elements.{Near};
 ghost use Rattle.figures.specs.Sums.{stepsOn, Under, sumsOver, sumsAt};
 ghost use Rattle.figures.specs.Shares.{Summing, Sharing, Small, shareOf, join, Room, totalsOf, Described};
+use lanes::Flow;
 use meaning::Description;
 use meaning::Figures;
 use meaning::Nest;
 use meaning::Stream;
-use pipes::Flow;
 
 // Of a stream: how many pipes it has, and the steps that they take.
 struct Sums {
@@ -89,11 +89,11 @@ fn share_of(n: Nest, s: Stream, spans: &[u32]) -> Share
     requires { ⌜ (Sharing n s) × (Spans n (now spans)) × (3072 ≤ length (now spans)) ⌝ }
     ensures { λ r. ⌜ (r ≡ shareOf n s) × (Small r) ⌝ }
 {
-    let f = pipes::flow_of(n, s);
+    let f = lanes::flow_of(n, s);
     let space = f.space;
     let processes = numbering::size_of(space);
     let mut lanes = [0u32; 4096];
-    pipes::fill_lanes(f, processes, spans, &mut lanes);
+    lanes::fill_lanes(f, processes, spans, &mut lanes);
     let sums = sums_of(f, processes, spans, &lanes);
     Share {
         hop: stream_lines::hop_of(n, s),

@@ -13,7 +13,7 @@ ghost use Rattle.meaning.specs.Pipes.{isEntry, isPipe};
 ghost use Rattle.layout.specs.Spans.{processOf};
 ghost use Rattle.pipes.specs.Elements.{Near};
 ghost use Rattle.pipe_parts.specs.Starts.{enteringLength, enteringOne, Counting, Parting, startAt, enteredAt};
-use pipes::Flow;
+use lanes::Flow;
 
 // Whether process p is the entry of a pipe.
 pub fn is_entry(f: Flow, spans: &[u32], lanes: &[u32], p: usize) -> bool

@@ -34,10 +34,10 @@ use Rattle.vectors.specs.Within.{Rows, wider}
 use Rattle.numbering.specs.Extents.{Spanning, boxed, box-spanning}
 use Rattle.layout.specs.Rays.{Going}
 use Rattle.layout.specs.Spans.{processOf, numbered, Spans}
-use Rattle.pipes.specs.declared.Flow.{Flow}
-use Rattle.pipes.specs.Lanes.{One, One.nobody, One.somebody, held-le as held-most}
-use Rattle.pipes.specs.Held.{entryNumber, computes, heldOn, held-is, running-below, soak-held}
-use Rattle.pipes.specs.Flow.{Flows, Seen}
+use Rattle.lanes.specs.declared.Flow.{Flow}
+use Rattle.lanes.specs.Lanes.{One, One.nobody, One.somebody, held-le as held-most}
+use Rattle.lanes.specs.Held.{entryNumber, computes, heldOn, held-is, running-below, soak-held}
+use Rattle.lanes.specs.Flow.{Flows, Seen}
 
 -- a computing process
 pub record At (f : Flow) (spans : List ℕ) (p : ℕ) : Type 0 where

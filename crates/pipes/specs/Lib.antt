@@ -1,7 +1,3 @@
--- Lanes by numbers; what they hold of a stream's pipes; what a stream's way needs.
-pub mod Lanes
-pub mod Held
-pub mod Flow
+-- The elements of a pipe; soak and drain at each process.
 pub mod Elements
 pub mod Passed
-pub mod Accepted

@@ -18,8 +18,8 @@ use Rattle.meaning.specs.Pipes.{entries}
 use Rattle.layout.specs.Spans.{processOf, Spans}
 use Rattle.ports.specs.declared.Port.{Port}
 use Rattle.ports.specs.declared.End.{End}
-use Rattle.pipes.specs.declared.Flow.{Flow}
-use Rattle.pipes.specs.Flow.{Flows, Seen}
+use Rattle.lanes.specs.declared.Flow.{Flow}
+use Rattle.lanes.specs.Flow.{Flows, Seen}
 use Rattle.pipes.specs.Elements.{Near}
 use Rattle.pipe_parts.specs.Starts.{entering, filter-fewer, startAt, enteredAt, start-most}
 use Rattle.figures.specs.Shares.{Sharing}

@@ -23,8 +23,8 @@ use Rattle.geometry.specs.Pipes.{in-on}
 use Rattle.geometry.specs.Elements.{elements-distinct}
 use Rattle.addresses.specs.Ends.{backOf, onOf, exitOf, back-inside, on-inside, last-inside}
 use Rattle.layout.specs.Spans.{processOf}
-use Rattle.pipes.specs.declared.Flow.{Flow}
-use Rattle.pipes.specs.Held.{entryNumber}
+use Rattle.lanes.specs.declared.Flow.{Flow}
+use Rattle.lanes.specs.Held.{entryNumber}
 use Rattle.pipes.specs.Elements.{Near, good, inside, few}
 use Rattle.pipe_parts.specs.Starts.{entered-le}
 use Rattle.port_rows.specs.declared.Strand.{Strand}

@@ -23,10 +23,10 @@ ghost use Rattle.port_rows.specs.Strands.{Narrow};
 ghost use Rattle.port_table.specs.PortsOf.{PortsOf};
 ghost use Rattle.port_fill.specs.Strung.{Slack, strandFrom, join, PortFillable, EndFillable, PortsFillable, EndsFillable, StreamFillable, portRow, endRow, portRows, endRows, streamRows};
 ghost use Rattle.port_fill.specs.Filled.{Started};
+use lanes::Flow;
 use meaning::Description;
 use meaning::Nest;
 use meaning::Stream;
-use pipes::Flow;
 use port_rows::Strand;
 
 // Over the streams before one: their words in a process, their pipes, and the words of those pipes' ends.
@@ -182,11 +182,11 @@ fn fill_stream(
     requires { ⌜ (StreamFillable n s g i first base (now spans)) × (length (now ports) ≡ 116736) ⌝ }
     ensures { λ r. ⌜ (r ≡ length (entries n s)) × (now (ports .exit) ≡ streamRows n s g i first base (now (ports .entry))) ⌝ }
 {
-    let f = pipes::flow_of(n, s);
+    let f = lanes::flow_of(n, s);
     let space = f.space;
     let processes = numbering::size_of(space);
     let mut lanes = [0u32; 4096];
-    pipes::fill_lanes(f, processes, spans, &mut lanes);
+    lanes::fill_lanes(f, processes, spans, &mut lanes);
     let mut entered = [0u32; 1024];
     pipe_parts::fill_entered(f, processes, spans, &lanes, &mut entered);
     put_ports(f, g, processes, spans, &lanes, &entered, i, ports);

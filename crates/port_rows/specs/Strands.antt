@@ -31,9 +31,9 @@ use Rattle.ports.specs.declared.End.{End}
 use Rattle.ports.specs.Ports.{same-port}
 use Rattle.pipe_parts.specs.Starts.{filter-fewer, enteredAt, entered-le}
 use Rattle.pipe_parts.specs.Entries.{pipe-test}
-use Rattle.pipes.specs.declared.Flow.{Flow}
-use Rattle.pipes.specs.Held.{entryNumber}
-use Rattle.pipes.specs.Flow.{Flows, point-is, inside-space, going-on, reach-on}
+use Rattle.lanes.specs.declared.Flow.{Flow}
+use Rattle.lanes.specs.Held.{entryNumber}
+use Rattle.lanes.specs.Flow.{Flows, point-is, inside-space, going-on, reach-on}
 use Rattle.pipes.specs.Elements.{Near, computes-is, entry-lt}
 use Rattle.port_rows.specs.declared.Strand.{Strand}
 

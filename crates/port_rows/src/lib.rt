@@ -17,10 +17,10 @@ ghost use Rattle.meaning.specs.Streams.{move};
 ghost use Rattle.meaning.specs.Pipes.{reach, before};
 ghost use Rattle.addresses.specs.Ends.{backOf};
 ghost use Rattle.layout.specs.Spans.{processOf};
-ghost use Rattle.pipes.specs.Flow.{Flows};
+ghost use Rattle.lanes.specs.Flow.{Flows};
 ghost use Rattle.pipes.specs.Elements.{Near};
 ghost use Rattle.port_rows.specs.Strands.{Narrow, beforeFrom, afterFrom, roomFrom, pipeOf, PortGiven, portFrom, offFrom, rowFrom, endFrom};
-use pipes::Flow;
+use lanes::Flow;
 use ports::End;
 use ports::Port;
 

@@ -23,8 +23,8 @@ use Rattle.declines.specs.Tests.{tableLengths}
 use Rattle.numbering.specs.Ranges.{Bounded}
 use Rattle.stream_lines.specs.InRange.{nest-bounded}
 use Rattle.stream_lines.specs.Accepted.{accepted-within}
-use Rattle.pipes.specs.Flow.{Laid}
-use Rattle.pipes.specs.Accepted.{streams-used, laid-stream}
+use Rattle.lanes.specs.Flow.{Laid}
+use Rattle.lanes.specs.Accepted.{streams-used, laid-stream}
 use Rattle.table.specs.declared.Shape.{Shape}
 use Rattle.table.specs.Planned.{refusedFor, Drawn, Planned}
 

@@ -20,11 +20,11 @@ ghost use Rattle.pipe_parts.specs.Starts.{Counting};
 ghost use Rattle.figures.specs.Shares.{Sharing, Described};
 ghost use Rattle.window.specs.Search.{counted, searched, looking, visited, streamLengths, allLengths};
 ghost use Rattle.window.specs.Pieces.{Windowed, ownTests, pieceOf, nothing, Within};
+use lanes::Flow;
 use meaning::Description;
 use meaning::Limits;
 use meaning::Nest;
 use meaning::Stream;
-use pipes::Flow;
 
 // A pipe looked for: how many are still to be passed over, the elements of those that were, and once it is found its own.
 struct Search {
@@ -99,11 +99,11 @@ fn stream_searched(n: Nest, s: Stream, spans: &[u32], w: Search) -> Search
     requires { ⌜ (Sharing n s) × (Spans n (now spans)) × (3072 ≤ length (now spans)) × (w .start ≤ 25165824) ⌝ }
     ensures { λ r. ⌜ (r ≡ searched w (streamLengths n s)) × (r .start ≤ w .start + 4194304) ⌝ }
 {
-    let f = pipes::flow_of(n, s);
+    let f = lanes::flow_of(n, s);
     let space = f.space;
     let processes = numbering::size_of(space);
     let mut lanes = [0u32; 4096];
-    pipes::fill_lanes(f, processes, spans, &mut lanes);
+    lanes::fill_lanes(f, processes, spans, &mut lanes);
     searched(f, processes, spans, &lanes, w)
 }
 

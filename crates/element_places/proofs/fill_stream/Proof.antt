@@ -7,7 +7,7 @@ use lib.ListN.{length-replicate}
 use denote.Ref.{now}
 use Rattle.meaning.specs.declared.Nest.{Nest}
 use Rattle.layout.specs.Spans.{Spans}
-use Rattle.pipes.specs.Flow.{spanning, counted-is}
+use Rattle.lanes.specs.Flow.{spanning, counted-is}
 use Rattle.element_places.specs.Fired.{streaming, placing, said}
 use Rattle.element_places.proofs.fill_stream.Statement.{statement}
 use Rattle.element_places.proofs.fill_stream.Tie as tie

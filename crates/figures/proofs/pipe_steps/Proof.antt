@@ -4,7 +4,7 @@ use mathlib.Core.Path.{ap₂}
 use Prim.Native.Nat.{ℕ, _*_, _+_, _≤_}
 use native.Mathlib.Nat.{mul-le-mul}
 use native.Mathlib.Omega.{arith}
-use Rattle.pipes.specs.Flow.{spanning, point-lt, going-on, reach-on}
+use Rattle.lanes.specs.Flow.{spanning, point-lt, going-on, reach-on}
 use Rattle.pipe_parts.specs.Entries.{entry-length}
 use Rattle.figures.proofs.pipe_steps.Statement.{statement}
 use Rattle.figures.proofs.pipe_steps.Tie as tie

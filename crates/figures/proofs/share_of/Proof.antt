@@ -4,7 +4,7 @@ use mathlib.Core.Path.{refl, sym, subst, subst₂}
 use denote.Ref.{now}
 use Rattle.meaning.specs.declared.Nest.{Nest}
 use Rattle.layout.specs.Spans.{Spans}
-use Rattle.pipes.specs.Flow.{spanning, counted-is}
+use Rattle.lanes.specs.Flow.{spanning, counted-is}
 use Rattle.figures.specs.Sums.{Under}
 use Rattle.figures.specs.Shares.{Small, share-is, share-small, sharing-under}
 use Rattle.figures.proofs.share_of.Statement.{statement}

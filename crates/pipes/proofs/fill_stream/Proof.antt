@@ -7,7 +7,7 @@ use denote.Ref.{now}
 use Rattle.meaning.specs.declared.Nest.{Nest}
 use Rattle.meaning.specs.Space.{processes}
 use Rattle.layout.specs.Spans.{Spans}
-use Rattle.pipes.specs.Flow.{spanning, counted-is}
+use Rattle.lanes.specs.Flow.{spanning, counted-is}
 use Rattle.pipes.specs.Passed.{passed, first-room, second-room}
 use Rattle.pipes.proofs.fill_stream.Statement.{statement}
 use Rattle.pipes.proofs.fill_stream.Tie as tie

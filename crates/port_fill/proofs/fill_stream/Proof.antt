@@ -9,7 +9,7 @@ use Rattle.meaning.specs.declared.Nest.{Nest}
 use Rattle.meaning.specs.declared.Stream.{Stream}
 use Rattle.meaning.specs.Pipes.{entries}
 use Rattle.layout.specs.Spans.{Spans}
-use Rattle.pipes.specs.Flow.{spanning, counted-is}
+use Rattle.lanes.specs.Flow.{spanning, counted-is}
 use Rattle.port_fill.specs.Strung.{small-here, ports-fillable, ends-fillable, ports-length, strung}
 use Rattle.port_fill.proofs.fill_stream.Statement.{statement}
 use Rattle.port_fill.proofs.fill_stream.Tie as tie

@@ -9,7 +9,7 @@ use Rattle.meaning.specs.Space.{rowIndex, space}
 use Rattle.meaning.specs.Streams.{move}
 use Rattle.layout.specs.Spans.{processOf}
 use Rattle.ports.specs.Ends.{same-end}
-use Rattle.pipes.specs.Flow.{spanning, point-lt, going-on, reach-on}
+use Rattle.lanes.specs.Flow.{spanning, point-lt, going-on, reach-on}
 use Rattle.port_rows.specs.Strands.{portIndex}
 use Rattle.port_rows.proofs.end_of.Statement.{statement}
 use Rattle.port_rows.proofs.end_of.Tie as tie

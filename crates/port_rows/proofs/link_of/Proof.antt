@@ -2,7 +2,7 @@
 use borrow.Author.Needs.{needs}
 use mathlib.Core.Path.{sym, _∙_}
 use native.Mathlib.Omega.{arith}
-use Rattle.pipes.specs.Flow.{spanning, point-lt, going-on, reach-on}
+use Rattle.lanes.specs.Flow.{spanning, point-lt, going-on, reach-on}
 use Rattle.port_rows.specs.Strands.{link-last, link-next}
 use Rattle.port_rows.proofs.link_of.Statement.{statement}
 use Rattle.port_rows.proofs.link_of.Tie as tie

@@ -1,6 +1,6 @@
 -- `port_rows::number_back` meets its contract. Assumes nothing.
 use native.Mathlib.Omega.{arith}
-use Rattle.pipes.specs.Flow.{spanning, point-lt, point-small}
+use Rattle.lanes.specs.Flow.{spanning, point-lt, point-small}
 use Rattle.port_rows.specs.Strands.{back-box, back-number}
 use Rattle.port_rows.proofs.number_back.Statement.{statement}
 use Rattle.port_rows.proofs.number_back.Tie as tie

@@ -1,5 +1,5 @@
 -- `port_rows::number_on` meets its contract. Assumes nothing.
-use Rattle.pipes.specs.Flow.{spanning, point-lt, point-small}
+use Rattle.lanes.specs.Flow.{spanning, point-lt, point-small}
 use Rattle.port_rows.specs.Strands.{way-small, on-far, on-box, on-number}
 use Rattle.port_rows.proofs.number_on.Statement.{statement}
 use Rattle.port_rows.proofs.number_on.Tie as tie

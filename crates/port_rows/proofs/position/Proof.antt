@@ -1,5 +1,5 @@
 -- `port_rows::position` meets its contract. Assumes nothing.
-use Rattle.pipes.specs.Flow.{spanning, point-lt, going-back}
+use Rattle.lanes.specs.Flow.{spanning, point-lt, going-back}
 use Rattle.port_rows.specs.Strands.{position-is}
 use Rattle.port_rows.proofs.position.Statement.{statement}
 use Rattle.port_rows.proofs.position.Tie as tie

@@ -5,7 +5,7 @@ use denote.Ref.{now}
 use Rattle.meaning.specs.declared.Nest.{Nest}
 use Rattle.meaning.specs.declared.Stream.{Stream}
 use Rattle.layout.specs.Spans.{Spans}
-use Rattle.pipes.specs.Flow.{spanning, counted-is}
+use Rattle.lanes.specs.Flow.{spanning, counted-is}
 use Rattle.window.specs.Search.{searched as results, streamLengths}
 use Rattle.window.proofs.stream_searched.Statement.{statement}
 use Rattle.window.proofs.stream_searched.Tie as tie

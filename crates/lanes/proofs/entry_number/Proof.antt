@@ -1,7 +1,7 @@
--- `pipes::entry_number` meets its contract. Assumes nothing.
-use Rattle.pipes.specs.Flow.{spanning, point-lt, going-back, point-small, entry-box, entry-number}
-use Rattle.pipes.proofs.entry_number.Statement.{statement}
-use Rattle.pipes.proofs.entry_number.Tie as tie
+-- `lanes::entry_number` meets its contract. Assumes nothing.
+use Rattle.lanes.specs.Flow.{spanning, point-lt, going-back, point-small, entry-box, entry-number}
+use Rattle.lanes.proofs.entry_number.Statement.{statement}
+use Rattle.lanes.proofs.entry_number.Tie as tie
 
 point-at-requires : tie.Need-point-at-requires
 point-at-requires c κs = let p = c .before .before .pre in (spanning (p .0), point-lt (p .0) (p .1))

@@ -12,7 +12,7 @@ use Rattle.meaning.specs.Accept.{refusalOf}
 use Rattle.geometry.specs.Members.{numbers-length}
 use Rattle.geometry.specs.Descriptions.{laid}
 use Rattle.stream_lines.specs.Accepted.{accepted-within}
-use Rattle.pipes.specs.Flow.{Laid}
+use Rattle.lanes.specs.Flow.{Laid}
 
 pub streams-used : (s : List ℕ) → length (streamsOf (descriptionOf s)) ≡ descriptionOf s .sizes .streams
 unfolding descriptionOf

@@ -30,7 +30,7 @@ use Rattle.geometry.specs.Soaks.{soak-rank}
 use Rattle.geometry.specs.Elements.{entryOf, entry-pipe, entry-is, one-entry}
 use Rattle.geometry.specs.Arrays.{one-number}
 use Rattle.layout.specs.Spans.{processOf}
-use Rattle.pipes.specs.Lanes.{heldBy}
+use Rattle.lanes.specs.Lanes.{heldBy}
 
 -- ---- a list turned round
 

@@ -30,9 +30,9 @@ use Rattle.numbering.specs.Ranges.{between-apart}
 use Rattle.numbering.specs.Extents.{Spanning, boxed, box-spanning}
 use Rattle.layout.specs.Rays.{Going}
 use Rattle.layout.specs.Spans.{processOf, Spans}
-use Rattle.pipes.specs.declared.Flow.{Flow}
-use Rattle.pipes.specs.Lanes.{Lanes}
-use Rattle.pipes.specs.Held.{entryNumber, computes}
+use Rattle.lanes.specs.declared.Flow.{Flow}
+use Rattle.lanes.specs.Lanes.{Lanes}
+use Rattle.lanes.specs.Held.{entryNumber, computes}
 
 -- a vector that leads back, by the test of its first component
 pub back-level : (v : V2) → eqZ (v .a) (pos 0) ≡ true → ltZ (v .b) (pos 0) ≡ backward v

@@ -1,13 +1,13 @@
--- `pipes::backward` meets its contract. Assumes nothing.
+-- `lanes::backward` meets its contract. Assumes nothing.
 use mathlib.Core.Path.{sym, _∙_, ap}
 use lib.IntN.{ℤ, pos}
 use lib.Signed.{ltZ}
 use borrow.Author.Tests.{eq-eqb, ne-eqb}
 use Rattle.integers.specs.Words.{at}
 use Rattle.layout.specs.Rays.{step-test}
-use Rattle.pipes.specs.Flow.{back-level, back-steep}
-use Rattle.pipes.proofs.backward.Statement.{statement}
-use Rattle.pipes.proofs.backward.Tie as tie
+use Rattle.lanes.specs.Flow.{back-level, back-steep}
+use Rattle.lanes.proofs.backward.Statement.{statement}
+use Rattle.lanes.proofs.backward.Tie as tie
 
 returns : tie.Need-returns
 returns c =

@@ -1,14 +1,14 @@
--- `pipes::fill_lanes` meets its contract. Assumes nothing.
+-- `lanes::fill_lanes` meets its contract. Assumes nothing.
 use mathlib.Core.Path.{_≡_, ap, subst}
 use mathlib.Core.Bool.{not}
 use Prim.Native.Nat.{ℕ, _≤_, _-_}
 use native.Mathlib.Omega.{arith}
 use lib.Dec.{eqb}
 use borrow.Author.Needs.{needs}
-use Rattle.pipes.specs.Lanes.{Lanes, lanes-start, lanes-step, cleared-at, cleared-length, held-le}
-use Rattle.pipes.specs.Held.{entryNumber, computes}
-use Rattle.pipes.proofs.fill_lanes.Statement.{statement}
-use Rattle.pipes.proofs.fill_lanes.Tie as tie
+use Rattle.lanes.specs.Lanes.{Lanes, lanes-start, lanes-step, cleared-at, cleared-length, held-le}
+use Rattle.lanes.specs.Held.{entryNumber, computes}
+use Rattle.lanes.proofs.fill_lanes.Statement.{statement}
+use Rattle.lanes.proofs.fill_lanes.Tie as tie
 
 abbrev Inv-loop : tie.InvT-loop
 Inv-loop f processes spans lanes₀ p₀ lanes p =

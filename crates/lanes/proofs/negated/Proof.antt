@@ -1,8 +1,8 @@
--- `pipes::negated` meets its contract. Assumes nothing.
+-- `lanes::negated` meets its contract. Assumes nothing.
 use Rattle.integers.specs.Vectors.{same2}
 use Rattle.integers.specs.Words.{at, box, minus, fits, bounded}
-use Rattle.pipes.proofs.negated.Statement.{statement}
-use Rattle.pipes.proofs.negated.Tie as tie
+use Rattle.lanes.proofs.negated.Statement.{statement}
+use Rattle.lanes.proofs.negated.Tie as tie
 
 sub-t2 : tie.Need-sub-t2
 sub-t2 c = fits tt (minus (at tt (c .before .before .pre .first)))

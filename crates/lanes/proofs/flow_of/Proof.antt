@@ -1,12 +1,12 @@
--- `pipes::flow_of` meets its contract. Assumes nothing.
+-- `lanes::flow_of` meets its contract. Assumes nothing.
 use mathlib.Core.Path.{refl, sym, _∙_, ap, subst}
 use borrow.Author.Needs.{needs}
 use Rattle.integers.specs.Vectors.{neg2, image}
 use Rattle.meaning.specs.Pipes.{backward}
 use Rattle.vectors.specs.Within.{Within2}
-use Rattle.pipes.specs.Flow.{wider2, neg-small}
-use Rattle.pipes.proofs.flow_of.Statement.{statement}
-use Rattle.pipes.proofs.flow_of.Tie as tie
+use Rattle.lanes.specs.Flow.{wider2, neg-small}
+use Rattle.lanes.proofs.flow_of.Statement.{statement}
+use Rattle.lanes.proofs.flow_of.Tie as tie
 
 move-of-requires : tie.Need-move-of-requires
 move-of-requires c κs = search needs

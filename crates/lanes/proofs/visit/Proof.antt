@@ -1,12 +1,12 @@
--- `pipes::visit` meets its contract. Assumes nothing.
+-- `lanes::visit` meets its contract. Assumes nothing.
 use mathlib.Core.Path.{refl}
 use Prim.Native.Nat.{_+_}
 use native.Mathlib.Omega.{arith}
 use lib.ListN.{getD, set, length-set}
 use denote.Ref.{now}
 use borrow.Author.Needs.{needs}
-use Rattle.pipes.proofs.visit.Statement.{statement}
-use Rattle.pipes.proofs.visit.Tie as tie
+use Rattle.lanes.proofs.visit.Statement.{statement}
+use Rattle.lanes.proofs.visit.Tie as tie
 
 add-held : tie.Need-add-held
 add-held c = search needs

@@ -1,0 +1,117 @@
+// The lanes of a stream: which line of processes each process is on, and who computes there.
+//
+// One pass over the processes leaves the lanes, 1,024 words each: the entry of a process's line; how many before it compute there; for an entry,
+// how many compute on its line, and the number plus one of one of them. All else is then found at once for each process.
+//
+// specs/, by file:
+//
+//   Lanes     the pass, by numbers alone
+//   Held      what the lanes hold of a stream's pipes: `held-is`, `soak-held`
+//   Flow      what is known of a stream once and for all its processes: `Flows`
+//   Accepted  `laid-stream`: every stream of an accepted description is laid out as the functions ask
+ghost use mathlib.Core.Path.{_≡_};
+ghost use Prim.Native.Nat.{_<_};
+ghost use lib.ListN.{length};
+ghost use Rattle.integers.specs.Vectors.{neg2};
+ghost use Rattle.meaning.specs.Space.{processes};
+ghost use Rattle.meaning.specs.Pipes.{backward};
+ghost use Rattle.vectors.specs.Within.{Within2};
+ghost use Rattle.lanes.specs.Lanes.{visited};
+ghost use Rattle.lanes.specs.Held.{entryNumber};
+ghost use Rattle.lanes.specs.Flow.{Laid, Flows, Visitable, Fillable, Seen};
+use integers::V2;
+use meaning::Nest;
+use meaning::Stream;
+use numbering::Extent;
+
+// A stream in its nest: the process space and its own box, its move and index map times increment, each also turned round; whether it moves, and
+// whether its move leads back in row order.
+pub struct Flow {
+    pub nest: Nest,
+    pub stream: Stream,
+    pub space: Extent,
+    pub elements: Extent,
+    pub way: V2,
+    pub back: V2,
+    pub pass: V2,
+    pub against: V2,
+    pub moving: bool,
+    pub turned: bool,
+}
+
+fn negated(v: V2) -> V2
+    requires { ⌜ Within2 4800 v ⌝ }
+    ensures { λ r. ⌜ (r ≡ neg2 v) × (Within2 4800 r) ⌝ }
+{
+    V2 { a: -v.a, b: -v.b }
+}
+
+// Whether a vector leads back in row order.
+fn backward(v: V2) -> bool
+    requires { ⌜ Within2 4800 v ⌝ }
+    ensures { λ r. ⌜ r ≡ backward v ⌝ }
+{
+    if v.a == 0 { v.b < 0 } else { v.a < 0 }
+}
+
+pub fn flow_of(n: Nest, s: Stream) -> Flow
+    requires { ⌜ Laid n s ⌝ }
+    ensures { λ r. ⌜ (r .nest ≡ n) × (r .stream ≡ s) × (Flows r) ⌝ }
+{
+    let place = n.place;
+    let map = s.map;
+    let way = stream_lines::move_of(n, s);
+    let pass = vectors::image_of(map, vectors::line_of(n, place));
+    Flow {
+        nest: n,
+        stream: s,
+        space: numbering::extent_of(n, place),
+        elements: numbering::extent_of(n, map),
+        way: way,
+        back: negated(way),
+        pass: pass,
+        against: negated(pass),
+        moving: stream_lines::moves(n, s),
+        turned: backward(way),
+    }
+}
+
+// The number of the entry of process p's line.
+fn entry_number(f: Flow, p: u32) -> u32
+    requires { ⌜ (Flows f) × (p < length (processes (f .nest))) ⌝ }
+    ensures { λ r. ⌜ (r ≡ entryNumber (f .nest) (f .stream) p) × (r < length (processes (f .nest))) ⌝ }
+{
+    let space = f.space;
+    let back = f.back;
+    let y = layout::point_at(space, p);
+    let k = layout::reach_of(space, back, y);
+    numbering::row_number(space, layout::moved(y, back, k))
+}
+
+// Process p, whose line enters at e, joins its lane.
+fn visit(lanes: &mut [u32], p: usize, e: usize, computing: bool)
+    requires { ⌜ Visitable (now lanes) p e ⌝ }
+    ensures { λ r. ⌜ now (lanes .exit) ≡ visited (now (lanes .entry)) p e computing ⌝ }
+{
+    let held = lanes[2048 + e];
+    lanes[p] = e as u32;
+    if computing {
+        lanes[1024 + p] = held;
+        lanes[2048 + e] = held + 1;
+        lanes[3072 + e] = p as u32 + 1;
+    }
+}
+
+// The lanes of all processes.
+pub fn fill_lanes(f: Flow, processes: u32, spans: &[u32], lanes: &mut [u32])
+    requires { ⌜ Fillable f processes (now spans) (now lanes) ⌝ }
+    ensures { λ r. ⌜ Seen f (now (spans .entry)) (now (lanes .exit)) ⌝ }
+{
+    sweeps::clear(4096, lanes);
+    let mut p: u32 = 0;
+    while p < processes {
+        let e = entry_number(f, p);
+        visit(lanes, p as usize, e as usize, spans[p as usize] != 0);
+        p += 1;
+    }
+}
