@@ -1,4 +1,4 @@
-//! A plain Rust Run of the library's design, whose time is that of the design alone: rows by seat and pipe, ready steps as flags by rank, and after a
+//! A plain Rust Run of the library's design, whose time is that of the design alone: rows by port and pipe, ready steps as flags by rank, and after a
 //! step only the steps near it tested anew.
 
 use reference::board::GAUGE;
@@ -8,7 +8,7 @@ use reference::geometry::Process;
 use reference::network::{Network, Step};
 use reference::pipes::{Pipe, Station};
 
-// The words of a seat after its beginning.
+// The words of a port after its beginning.
 const TAKEN: usize = 0;
 const GIVEN: usize = 1;
 const HAND: usize = 2;
@@ -41,12 +41,12 @@ fn first(process: &Process) -> Instance {
 // Rows.
 
 /// A process and a stream: at which indices the words of its rules stand in a state, and what else they ask. Off every pipe its links have no place.
-struct Seat {
-    /// Of taken, with given, hand, keep and the places of the link into the seat behind it.
+struct Port {
+    /// Of taken, with given, hand, keep and the places of the link into the port behind it.
     at: usize,
     /// Of what was put into that link.
     before: usize,
-    /// Of what was taken out of the link out of the seat.
+    /// Of what was taken out of the link out of the port.
     after: usize,
     /// Of that link's first place.
     room: usize,
@@ -102,17 +102,17 @@ fn taken_out(network: &Network, number: usize, position: usize) -> (usize, usize
 }
 
 /// The row of a process and a stream.
-fn seat(network: &Network, process: usize, stream: usize) -> Seat {
+fn port(network: &Network, process: usize, stream: usize) -> Port {
     match &network.array.stations[process][stream] {
-        Some(station) => seat_on_pipe(network, process, stream, station),
-        None => seat_off_pipes(network, process, stream),
+        Some(station) => port_on_pipe(network, process, stream, station),
+        None => port_off_pipes(network, process, stream),
     }
 }
 
-fn seat_on_pipe(network: &Network, process: usize, stream: usize, station: &Station) -> Seat {
+fn port_on_pipe(network: &Network, process: usize, stream: usize, station: &Station) -> Port {
     let array = &network.array;
     let (after, room) = taken_out(network, station.pipe, station.position + 1);
-    Seat {
+    Port {
         at: network.layout.stations[process][stream],
         before: put_into(network, station.pipe, station.position),
         after,
@@ -126,9 +126,9 @@ fn seat_on_pipe(network: &Network, process: usize, stream: usize, station: &Stat
     }
 }
 
-fn seat_off_pipes(network: &Network, process: usize, stream: usize) -> Seat {
+fn port_off_pipes(network: &Network, process: usize, stream: usize) -> Port {
     let at = network.layout.stations[process][stream];
-    Seat {
+    Port {
         at,
         before: at + TAKEN,
         after: at + GIVEN,
@@ -172,7 +172,7 @@ fn pull(state: &mut [u32], first: usize, fill: u32) -> u32 {
     oldest
 }
 
-impl Seat {
+impl Port {
     /// The link has an element, and the hand, or the keep before the first take, is empty.
     fn can_take(&self, state: &[u32]) -> bool {
         let (taken, given) = (state[self.at + TAKEN], state[self.at + GIVEN]);
@@ -327,7 +327,7 @@ pub struct Design {
     firsts: Vec<Instance>,
     increment: Instance,
     /// By process, then stream.
-    seats: Vec<Seat>,
+    ports: Vec<Port>,
     /// By pipe.
     ends: Vec<End>,
     /// By word of a state, the rank of the step that looks at it from a neighbouring process or pipe end.
@@ -341,8 +341,8 @@ impl Design {
         let network = calls.network().expect("the description is accepted");
         let array = &network.array;
         let (processes, streams) = (array.processes.len(), array.streams.len());
-        let seats = (0..processes * streams)
-            .map(|number| seat(network, number / streams, number % streams));
+        let ports = (0..processes * streams)
+            .map(|number| port(network, number / streams, number % streams));
         let pipes = array.pipes.iter().enumerate();
         let ends = pipes.map(|(number, pipe)| end(network, number, pipe));
         let mut design = Design {
@@ -351,7 +351,7 @@ impl Design {
             lines: array.description.body.clone(),
             firsts: array.processes.iter().map(first).collect(),
             increment: instance(&array.increment),
-            seats: seats.collect(),
+            ports: ports.collect(),
             ends: ends.collect(),
             watch: vec![None; network.words()],
         };
@@ -384,12 +384,12 @@ impl Design {
         done
     }
 
-    fn seat(&self, process: usize, stream: usize) -> &Seat {
-        &self.seats[process * self.streams + stream]
+    fn port(&self, process: usize, stream: usize) -> &Port {
+        &self.ports[process * self.streams + stream]
     }
 
-    fn seats(&self, process: usize) -> &[Seat] {
-        &self.seats[process * self.streams..(process + 1) * self.streams]
+    fn ports(&self, process: usize) -> &[Port] {
+        &self.ports[process * self.streams..(process + 1) * self.streams]
     }
 }
 
@@ -445,25 +445,25 @@ impl Design {
     fn ready(&self, state: &[u32], step: Step) -> bool {
         match step {
             Step::Send { pipe } => self.ends[pipe].can_send(state),
-            Step::Take { process, stream } => self.seat(process, stream).can_take(state),
+            Step::Take { process, stream } => self.port(process, stream).can_take(state),
             Step::Fire { process } => self.can_fire(state, process),
-            Step::Give { process, stream } => self.seat(process, stream).can_give(state),
+            Step::Give { process, stream } => self.port(process, stream).can_give(state),
             Step::Receive { pipe } => self.ends[pipe].can_receive(state),
         }
     }
 
     /// An instance is left, and it can use the element of every stream.
     fn can_fire(&self, state: &[u32], process: usize) -> bool {
-        let seats = self.seats(process);
-        state[seats[0].fired] < seats[0].count && seats.iter().all(|seat| seat.can_use(state))
+        let ports = self.ports(process);
+        state[ports[0].fired] < ports[0].count && ports.iter().all(|port| port.can_use(state))
     }
 
     fn apply(&self, waiting: &[u32], received: &mut [u32], state: &mut [u32], step: Step) {
         match step {
             Step::Send { pipe } => self.ends[pipe].send(waiting, state),
-            Step::Take { process, stream } => self.seat(process, stream).take(state),
+            Step::Take { process, stream } => self.port(process, stream).take(state),
             Step::Fire { process } => self.fire(state, process),
-            Step::Give { process, stream } => self.seat(process, stream).give(state),
+            Step::Give { process, stream } => self.port(process, stream).give(state),
             Step::Receive { pipe } => self.ends[pipe].receive(received, state),
         }
     }
@@ -478,35 +478,35 @@ impl Design {
     }
 
     fn fire(&self, state: &mut [u32], process: usize) {
-        let seats = self.seats(process);
+        let ports = self.ports(process);
         let mut registers = [0; REGISTERS];
-        for (register, seat) in registers.iter_mut().zip(seats) {
-            *register = state[seat.used()];
+        for (register, port) in registers.iter_mut().zip(ports) {
+            *register = state[port.used()];
         }
-        let next = self.instance(process, state[seats[0].fired]);
+        let next = self.instance(process, state[ports[0].fired]);
         for line in self.lines.iter().filter(|line| line.guard.lets_run(&next)) {
             let (first, second) = (registers[line.first], registers[line.second]);
             registers[line.target] = line.operation.apply(first, second);
         }
-        for (register, seat) in registers.iter().zip(seats) {
-            state[seat.used()] = *register;
+        for (register, port) in registers.iter().zip(ports) {
+            state[port.used()] = *register;
         }
-        state[seats[0].fired] += 1;
+        state[ports[0].fired] += 1;
     }
 
     /// The word that a step looks at and a neighbour counts up.
     fn foreign(&self, step: Step) -> Option<usize> {
-        let on_pipe = |seat: &Seat, word| (seat.hop > 0).then_some(word);
+        let on_pipe = |port: &Port, word| (port.hop > 0).then_some(word);
         match step {
             Step::Send { pipe } => Some(self.ends[pipe].after),
             Step::Take { process, stream } => {
-                let seat = self.seat(process, stream);
-                on_pipe(seat, seat.before)
+                let port = self.port(process, stream);
+                on_pipe(port, port.before)
             }
             Step::Fire { .. } => None,
             Step::Give { process, stream } => {
-                let seat = self.seat(process, stream);
-                on_pipe(seat, seat.after)
+                let port = self.port(process, stream);
+                on_pipe(port, port.after)
             }
             Step::Receive { pipe } => Some(self.ends[pipe].before),
         }
@@ -516,9 +516,9 @@ impl Design {
     fn counter(&self, step: Step) -> usize {
         match step {
             Step::Send { pipe } => self.ends[pipe].sent,
-            Step::Take { process, stream } => self.seat(process, stream).at + TAKEN,
-            Step::Fire { process } => self.seat(process, 0).fired,
-            Step::Give { process, stream } => self.seat(process, stream).at + GIVEN,
+            Step::Take { process, stream } => self.port(process, stream).at + TAKEN,
+            Step::Fire { process } => self.port(process, 0).fired,
+            Step::Give { process, stream } => self.port(process, stream).at + GIVEN,
             Step::Receive { pipe } => self.ends[pipe].received,
         }
     }

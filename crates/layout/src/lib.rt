@@ -6,7 +6,7 @@
 //   Rays      how often one can go on is the least that either coordinate allows
 //   Points    the point of a row number; points moved on
 //   Parts     what stands where a part of a list was replaced
-//   Ends      what the words say of the processes: `Spans`
+//   Spans     what the words say of the processes: `Spans`
 ghost use mathlib.Core.Path.{_≡_};
 ghost use Prim.Native.Nat.{_≤_, _<_};
 ghost use lib.IntN.{pos};

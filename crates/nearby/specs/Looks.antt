@@ -1,5 +1,5 @@
 -- What the guard of a step of the abstract network looks at: the step's own counter, the counter of the other end of its link, and the counters of its
--- station. Assumes nothing.
+-- stop. Assumes nothing.
 use mathlib.Core.Path.{_≡_, sym, _∙_, ap, subst}
 use mathlib.Core.Logic.{_↔_}
 use Prim.Native.Nat.{ℕ, zero, suc, _<_}

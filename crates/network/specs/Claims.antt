@@ -82,9 +82,9 @@ module _ (X : System) where
         go (less b) = omega (arith, all-get net (Q .inv) (laid .shapes) q (o q) k b .0, below-head net (Q .inv) q k l)
         go (atLeast b) = let e : k ≡ stops q = omega arith in omega (arith, o q, ap (λ (k : ℕ). c (get q k)) e, below-head net (Q .inv) q k l)
 
-    pub finish-station : Out c → (q k : ℕ) → k < stops q → (W .hand q k ≡ 0) × (W .kept q k ≡ 0)
+    pub finish-stop : Out c → (q k : ℕ) → k < stops q → (W .hand q k ≡ 0) × (W .kept q k ≡ 0)
     unfolding Out
-    finish-station o q k l =
+    finish-stop o q k l =
         let e = all-get net (Q .inv) (laid .shapes) q (o q) k l .0 in
         let d = all-put net (Q .inv) (laid .shapes) q (o q) (stops q - suc k) (suc k) (omega arith) in
         go (omega arith) (Q .stored .holds q k l)

@@ -10,18 +10,18 @@ pub data Kind : Type 0 where
   through : Kind
   keep : Kind
 
--- what the numbers of a station satisfy
+-- what the numbers of a stop satisfy
 pub data Shape (n s t : ℕ) : Kind → Type 0 where
   room : s + t ≤ n → Shape n s t through
   some : 0 < n → Shape n s t keep
 
 -- n elements of the pipe, soak s, count t; taken x, given y, fired f
 module _ (n s t x y f : ℕ) where
-  pub data Station : Kind → Type 0 where
-    passing : y ≤ x → x ≤ suc y → min (y - s) t ≤ f → f ≤ x - s → Station through
-    fresh : x ≡ 0 → y ≡ 0 → f ≡ 0 → Station keep
-    holding : suc y ≤ x → x ≤ suc (suc y) → y < n → Station keep
-    gone : x ≡ n → y ≡ n → f ≡ t → Station keep
+  pub data AtStop : Kind → Type 0 where
+    passing : y ≤ x → x ≤ suc y → min (y - s) t ≤ f → f ≤ x - s → AtStop through
+    fresh : x ≡ 0 → y ≡ 0 → f ≡ 0 → AtStop keep
+    holding : suc y ≤ x → x ≤ suc (suc y) → y < n → AtStop keep
+    gone : x ≡ n → y ≡ n → f ≡ t → AtStop keep
 
   -- the hand is empty
   pub data Hand : Kind → Type 0 where
@@ -43,43 +43,43 @@ module _ (n s t x y f : ℕ) where
     held : y < x → Use keep
 
 module _ {n s t x y f : ℕ} where
-  pub station-get : {K : Kind} → x < n → Station n s t x y f K → Hand n s t x y f K → Station n s t (suc x) y f K
-  station-get l (passing a b u v) (empty e) = passing (omega arith) (omega arith) u (omega arith)
-  station-get l (fresh a b u) h = holding (omega arith) (omega arith) (omega arith)
-  station-get l (holding a b u) (first e) = absurd (omega arith)
-  station-get l (holding a b u) (free e) = holding (omega arith) (omega arith) u
-  station-get l (gone a b u) h = absurd (omega arith)
+  pub stop-get : {K : Kind} → x < n → AtStop n s t x y f K → Hand n s t x y f K → AtStop n s t (suc x) y f K
+  stop-get l (passing a b u v) (empty e) = passing (omega arith) (omega arith) u (omega arith)
+  stop-get l (fresh a b u) h = holding (omega arith) (omega arith) (omega arith)
+  stop-get l (holding a b u) (first e) = absurd (omega arith)
+  stop-get l (holding a b u) (free e) = holding (omega arith) (omega arith) u
+  stop-get l (gone a b u) h = absurd (omega arith)
 
-  pub station-put : {K : Kind} → x ≤ n → Station n s t x y f K → Offer n s t x y f K → Station n s t x (suc y) f K
-  station-put l (passing a b u v) (soaked d e) = passing d (omega arith) (omega arith) v
-  station-put l (passing a b u v) (drained d e) = passing d (omega arith) (omega arith) v
-  station-put l (passing a b u v) (used d e) = passing d (omega arith) (omega arith) v
-  station-put l (fresh a b u) (passed d) = absurd (omega arith)
-  station-put l (fresh a b u) (kept d e g) = absurd (omega arith)
-  station-put l (holding a b u) (passed d) = holding (omega arith) (omega arith) (omega arith)
-  station-put l (holding a b u) (kept d e g) = gone e (omega arith) g
-  station-put l (gone a b u) (passed d) = absurd (omega arith)
-  station-put l (gone a b u) (kept d e g) = absurd (omega arith)
+  pub stop-put : {K : Kind} → x ≤ n → AtStop n s t x y f K → Offer n s t x y f K → AtStop n s t x (suc y) f K
+  stop-put l (passing a b u v) (soaked d e) = passing d (omega arith) (omega arith) v
+  stop-put l (passing a b u v) (drained d e) = passing d (omega arith) (omega arith) v
+  stop-put l (passing a b u v) (used d e) = passing d (omega arith) (omega arith) v
+  stop-put l (fresh a b u) (passed d) = absurd (omega arith)
+  stop-put l (fresh a b u) (kept d e g) = absurd (omega arith)
+  stop-put l (holding a b u) (passed d) = holding (omega arith) (omega arith) (omega arith)
+  stop-put l (holding a b u) (kept d e g) = gone e (omega arith) g
+  stop-put l (gone a b u) (passed d) = absurd (omega arith)
+  stop-put l (gone a b u) (kept d e g) = absurd (omega arith)
 
-  pub station-fire : {K : Kind} → f < t → Station n s t x y f K → Use n s t x y f K → Station n s t x y (suc f) K
-  station-fire l (passing a b u v) (hand d e) = passing a b (omega arith) (omega arith)
-  station-fire l (fresh a b u) (held d) = absurd (omega arith)
-  station-fire l (holding a b u) (held d) = holding a b u
-  station-fire l (gone a b u) (held d) = absurd (omega arith)
+  pub stop-fire : {K : Kind} → f < t → AtStop n s t x y f K → Use n s t x y f K → AtStop n s t x y (suc f) K
+  stop-fire l (passing a b u v) (hand d e) = passing a b (omega arith) (omega arith)
+  stop-fire l (fresh a b u) (held d) = absurd (omega arith)
+  stop-fire l (holding a b u) (held d) = holding a b u
+  stop-fire l (gone a b u) (held d) = absurd (omega arith)
 
   -- given is never ahead of taken
-  pub station-order : {K : Kind} → Station n s t x y f K → y ≤ x
-  station-order (passing a b u v) = a
-  station-order (fresh a b u) = omega arith
-  station-order (holding a b u) = omega arith
-  station-order (gone a b u) = omega arith
+  pub stop-order : {K : Kind} → AtStop n s t x y f K → y ≤ x
+  stop-order (passing a b u v) = a
+  stop-order (fresh a b u) = omega arith
+  stop-order (holding a b u) = omega arith
+  stop-order (gone a b u) = omega arith
 
   -- all given: all taken, all fired
-  pub station-done : {K : Kind} → Shape n s t K → x ≤ n → f ≤ t → y ≡ n → Station n s t x y f K → (x ≡ n) × (f ≡ t)
-  station-done (room p) l w e (passing a b u v) = omega arith
-  station-done (some h) l w e (fresh a b u) = absurd (omega arith)
-  station-done (some h) l w e (holding a b u) = absurd (omega arith)
-  station-done (some h) l w e (gone a b u) = (a, u)
+  pub stop-done : {K : Kind} → Shape n s t K → x ≤ n → f ≤ t → y ≡ n → AtStop n s t x y f K → (x ≡ n) × (f ≡ t)
+  stop-done (room p) l w e (passing a b u v) = omega arith
+  stop-done (some h) l w e (fresh a b u) = absurd (omega arith)
+  stop-done (some h) l w e (holding a b u) = absurd (omega arith)
+  stop-done (some h) l w e (gone a b u) = (a, u)
 
 -- Steps. Link k of pipe q lies before its place k.
 pub data Step : Type 0 where
@@ -103,7 +103,7 @@ pub record Net : Type 0 where
 module _ (N : Net) where
   open Net N using (stops, elements, hop, process, kind, soak, count)
 
-  -- a law of stations at place k of pipe q
+  -- a law of stops at place k of pipe q
   abbrev pub At : (ℕ → ℕ → ℕ → ℕ → ℕ → ℕ → Kind → Type 0) → Counts → ℕ → ℕ → Type 0
   At F c q k = F (elements q) (soak q k) (count (process q k)) (c (get q k)) (c (put q (suc k))) (c (fire (process q k))) (kind q k)
 
@@ -119,7 +119,7 @@ module _ (N : Net) where
     pub fires : (p : ℕ) → c (fire p) ≤ count p
     pub head : (q : ℕ) → c (put q 0) ≤ elements q
     pub link : (q k : ℕ) → k ≤ stops q → (c (get q k) ≤ c (put q k)) × (c (put q k) ≤ c (get q k) + hop q)
-    pub station : (q k : ℕ) → k < stops q → At Station c q k
+    pub stop : (q k : ℕ) → k < stops q → At AtStop c q k
 
 -- c' is c with one more of a
 pub record OneMore (c c' : Counts) (a : Step) : Type 0 where
@@ -182,7 +182,7 @@ module _ (N : Net) where
     below-head q zero h = I .head q
     below-head q (suc k) h =
         let l : k ≤ stops q = omega arith in
-        omega (arith, below-head q k l, I .link q k l, station-order (I .station q k h))
+        omega (arith, below-head q k l, I .link q k l, stop-order (I .stop q k h))
 
     pub get-elements : (q k : ℕ) → k ≤ stops q → c (get q k) ≤ elements q
     get-elements q k h = omega (arith, below-head q k h, I .link q k h .0)
@@ -196,14 +196,14 @@ module _ (N : Net) where
           let o = rw e at out in omega (arith, below-head q k (omega arith), I .link q k (omega arith) .0)
       all-put (suc j) k h =
           let ih = all-put j (suc k) (omega arith) in
-          let d = station-done (shapes q k (omega arith)) (get-elements q k (omega arith)) (I .fires (process q k)) ih
-          (I .station q k (omega arith)) in
+          let d = stop-done (shapes q k (omega arith)) (get-elements q k (omega arith)) (I .fires (process q k)) ih
+          (I .stop q k (omega arith)) in
           omega (arith, below-head q k (omega arith), I .link q k (omega arith) .0)
 
       pub all-get : (k : ℕ) → k < stops q → (c (get q k) ≡ elements q) × (c (fire (process q k)) ≡ count (process q k))
       all-get k h =
-          station-done (shapes q k h) (get-elements q k (omega arith)) (I .fires (process q k)) (all-put (stops q - suc k) (suc k) (omega arith))
-          (I .station q k h)
+          stop-done (shapes q k h) (get-elements q k (omega arith)) (I .fires (process q k)) (all-put (stops q - suc k) (suc k) (omega arith))
+          (I .stop q k h)
 
     -- what is taken out further on was put in here
     pub along : (q k j : ℕ) → k < j → j ≤ stops q → c (get q j) ≤ c (put q (suc k))
@@ -211,7 +211,7 @@ module _ (N : Net) where
     along q k (suc j) h l = go (order k j) (λ d. along q k j d (omega arith))
       where
         go : Order k j → (k < j → c (get q j) ≤ c (put q (suc k))) → c (get q (suc j)) ≤ c (put q (suc k))
-        go (less d) ih = omega (arith, ih d, station-order (I .station q j l), I .link q (suc j) l .0)
+        go (less d) ih = omega (arith, ih d, stop-order (I .stop q j l), I .link q (suc j) l .0)
         go (atLeast d) ih = let e : k ≡ j = omega arith in rw e (I .link q (suc j) l .0)
 
   module _ {c c' : Counts} {a : Step} (B : OneMore c c' a) (I : Inv N c) (g : Guard N c a) where
@@ -246,22 +246,22 @@ module _ (N : Net) where
         go (miss n u) (hit e v) i = let w = free-place q k (turned e) in omega arith
         go (miss n u) (miss n' v) i = omega arith
 
-    keep-station : (q k : ℕ) → k < stops q → At N Station c' q k
-    keep-station q k l = go (hit? B (get q k)) (hit? B (put q (suc k))) (hit? B (fire (process q k)))
+    keep-stop : (q k : ℕ) → k < stops q → At N AtStop c' q k
+    keep-stop q k l = go (hit? B (get q k)) (hit? B (put q (suc k))) (hit? B (fire (process q k)))
       where
-        go : Hit B (get q k) → Hit B (put q (suc k)) → Hit B (fire (process q k)) → At N Station c' q k
+        go : Hit B (get q k) → Hit B (put q (suc k)) → Hit B (fire (process q k)) → At N AtStop c' q k
         go (hit d u) (hit e v) w = absurd (put≢get (sym e ∙ d))
         go (hit d u) (miss n v) (hit e w) = absurd (get≢fire (sym d ∙ e))
         go (miss n u) (hit d v) (hit e w) = absurd (put≢fire (sym d ∙ e))
         go (hit d u) (miss n v) (miss n' w) =
-            rw (u, v, w) (station-get (omega (arith, turned d .1, below-head I q k (omega arith))) (I .station q k l) (turned d .2 l))
-        go (miss n u) (hit d v) (miss n' w) = rw (u, v, w) (station-put (get-elements I q k (omega arith)) (I .station q k l) (turned d .2))
-        go (miss n u) (miss n' v) (hit d w) = rw (u, v, w) (station-fire (turned d .0) (I .station q k l) (turned d .1 q k l refl))
-        go (miss n u) (miss n' v) (miss n'' w) = rw (u, v, w) (I .station q k l)
+            rw (u, v, w) (stop-get (omega (arith, turned d .1, below-head I q k (omega arith))) (I .stop q k l) (turned d .2 l))
+        go (miss n u) (hit d v) (miss n' w) = rw (u, v, w) (stop-put (get-elements I q k (omega arith)) (I .stop q k l) (turned d .2))
+        go (miss n u) (miss n' v) (hit d w) = rw (u, v, w) (stop-fire (turned d .0) (I .stop q k l) (turned d .1 q k l refl))
+        go (miss n u) (miss n' v) (miss n'' w) = rw (u, v, w) (I .stop q k l)
 
     -- every granted step keeps the invariant
     pub inv-step : Inv N c'
-    inv-step = record { fires = keep-fires; head = keep-head; link = keep-link; station = keep-station }
+    inv-step = record { fires = keep-fires; head = keep-head; link = keep-link; stop = keep-stop }
 
   -- it holds at the start
   pub inv-start : Inv N (λ a. 0)
@@ -270,9 +270,9 @@ module _ (N : Net) where
         fires = λ p. omega arith;
         head = λ q. omega arith;
         link = λ q k l. omega arith;
-        station = λ q k l. begin (kind q k);
+        stop = λ q k l. begin (kind q k);
       }
     where
-      begin : {n s t : ℕ} (K : Kind) → Station n s t 0 0 0 K
+      begin : {n s t : ℕ} (K : Kind) → AtStop n s t 0 0 0 K
       begin through = passing (omega arith) (omega arith) (omega arith) (omega arith)
       begin keep = fresh refl refl refl

@@ -6,7 +6,7 @@ use native.Mathlib.Nat.{le-refl}
 use native.Mathlib.Omega.{arith}
 use Rattle.network.specs.Cases.{Order, less, atLeast, order}
 use Rattle.network.specs.Descent.{Blocked, descend}
-use Rattle.network.specs.Counters.{Kind, Shape, Station, Hand, Offer, soaked, drained, used, passed, kept, Use, Step, put, get, fire, Counts, Net, At, Guard, Inv, get-elements, below-head}
+use Rattle.network.specs.Counters.{Kind, Shape, AtStop, Hand, Offer, soaked, drained, used, passed, kept, Use, Step, put, get, fire, Counts, Net, At, Guard, Inv, get-elements, below-head}
 use Rattle.network.specs.Waits.{Late, Clocked, judge-hand, judge-offer, judge-use}
 
 module _ (N : Net) where
@@ -72,7 +72,7 @@ module _ (N : Net) where
 
     judge-fire : (q k : ℕ) → k < stops q → c (fire (process q k)) < count (process q k)
         → At N Use c q k ⊎ Stuck (due (fire (process q k)) (c (fire (process q k))))
-    judge-fire q k l h = go (judge-use (C .clocked q k l) (D .shapes q k l) h (I .station q k l))
+    judge-fire q k l h = go (judge-use (C .clocked q k l) (D .shapes q k l) h (I .stop q k l))
       where
         go : At N Use c q k ⊎ Late (elements q) (c (get q k)) (due (get q k)) (due (fire (process q k)) (c (fire (process q k))))
             → At N Use c q k ⊎ Stuck (due (fire (process q k)) (c (fire (process q k))))
@@ -116,7 +116,7 @@ module _ (N : Net) where
         go : (c (put q 0) < c (get q 0) + hop q) ⊎ Stuck (due (put q 0) (c (put q 0))) → Guard N c (put q 0) ⊎ Stuck (due (put q 0) (c (put q 0)))
         go (inl o) = inl (h, o)
         go (inr w) = inr w
-    judge (put q (suc k)) (l, h) = go (judge-place q (suc k) l h) (judge-offer (C .clocked q k l) (I .fires (process q k)) h (I .station q k l))
+    judge (put q (suc k)) (l, h) = go (judge-place q (suc k) l h) (judge-offer (C .clocked q k l) (I .fires (process q k)) h (I .stop q k l))
       where
         d : ℕ
         d = due (put q (suc k)) (c (put q (suc k)))
@@ -142,7 +142,7 @@ module _ (N : Net) where
         go : Order (c (get q k)) (c (put q k)) → Order k (stops q) → Guard N c (get q k) ⊎ Stuck d
         go (atLeast r) o = inr (record { by = put q k; at = c (get q k); occurs = (l, h); undone = r; earlier = C .arrives q k (c (get q k)) l h })
         go (less r) (atLeast o) = inl (l, r, λ o'. absurd (omega arith))
-        go (less r) (less o) = empty-hand o r (judge-hand (C .clocked q k o) h (I .station q k o))
+        go (less r) (less o) = empty-hand o r (judge-hand (C .clocked q k o) h (I .stop q k o))
     judge (fire p) h = go (scan p h streams (le-refl streams))
       where
         Uses : ℕ → Type 0
@@ -175,9 +175,9 @@ module _ (N : Net) where
   -- a step that is ready has an occurrence left
   pub ready-occurs : {c : Counts} → Inv N c → (a : Step) → Guard N c a → Occurs a (c a)
   ready-occurs {c} I (put q zero) g = (omega arith, g .0)
-  ready-occurs {c} I (put q (suc k)) g = (g .0, omega (arith, offer-lt (g .2) (I .station q k (g .0)) (get-elements N I q k (omega (arith, g .0)))))
+  ready-occurs {c} I (put q (suc k)) g = (g .0, omega (arith, offer-lt (g .2) (I .stop q k (g .0)) (get-elements N I q k (omega (arith, g .0)))))
     where
-      offer-lt : {n s t x y f : ℕ} {K : Kind} → Offer n s t x y f K → Station n s t x y f K → x ≤ n → y < n
+      offer-lt : {n s t x y f : ℕ} {K : Kind} → Offer n s t x y f K → AtStop n s t x y f K → x ≤ n → y < n
       offer-lt (soaked a b) S h = omega arith
       offer-lt (drained a b) S h = omega arith
       offer-lt (used a b) S h = omega arith

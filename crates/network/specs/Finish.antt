@@ -13,7 +13,7 @@ use Rattle.meaning.specs.Rules.{totalOf, Memory, applyAll}
 use Rattle.meaning.specs.Rules as Rules
 use Rattle.network.specs.Cases.{Order, less, atLeast, order}
 use Rattle.network.specs.Counters.{fire, all-put, all-get}
-use Rattle.network.specs.Claims.{Out, done, finish-link, finish-station}
+use Rattle.network.specs.Claims.{Out, done, finish-link, finish-stop}
 use Rattle.network.specs.Layout.{Live, layout}
 use Rattle.network.specs.WordOrder.{words-read, same-words}
 use Rattle.network.specs.Wiring.{netOf, Wired, no-pipe, shape}
@@ -87,8 +87,8 @@ module _ {A : Array} (W : Wired A) (values : List ℕ) where
       go : Order (view A (M .state) (fired p)) (countAt A p) → view A (M .state) (fired p) ≡ countAt A p
       go (less m) = absurd (done (systemOf W values) (good-of W values R) (W .has-stream) o (fire p) m)
       go (atLeast m) = omega (arith, good-of W values R .inv .fires p)
-  final-word R o (hand q k) h = finish-station (systemOf W values) (good-of W values R) o q k h .0
-  final-word R o (kept q k) h = finish-station (systemOf W values) (good-of W values R) o q k h .1
+  final-word R o (hand q k) h = finish-stop (systemOf W values) (good-of W values R) o q k h .0
+  final-word R o (kept q k) h = finish-stop (systemOf W values) (good-of W values R) o q k h .1
   final-word R o (place q k i) (h, l, r) = finish-link (systemOf W values) (good-of W values R) o q k i l
 
   -- a word of a slot has what the slot has; others are never written, and have no total

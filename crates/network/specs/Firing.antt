@@ -5,21 +5,21 @@ use Prim.Native.Nat.{ℕ, zero, suc, _+_, _-_, _≤_, _<_}
 use native.Mathlib.Nat.{le-refl}
 use native.Mathlib.Omega.{arith}
 use Rattle.network.specs.Cases.{Order, less, atLeast, order}
-use Rattle.network.specs.Counters.{Kind, through, keep, Station, fresh, holding, gone, station-order, Use, hand, held, put, get, fire, Counts, Net, At, Guard, Inv, OneMore, put≢fire, get≢fire, along, below-head, get-elements}
+use Rattle.network.specs.Counters.{Kind, through, keep, AtStop, fresh, holding, gone, stop-order, Use, hand, held, put, get, fire, Counts, Net, At, Guard, Inv, OneMore, put≢fire, get≢fire, along, below-head, get-elements}
 use Rattle.network.specs.Ranks.{wrap, Wrap, low, high, wrapped, Next, level, rise, Ranked, rank-mono, rank-elements, rank-keep, rank-zero, wrap-end, wrap-lt, upstream, apart}
 use Rattle.network.specs.Words.{Hold, passes, keeps, Words, Stored}
 
--- the element that a station's process uses next
+-- the element that a stop's process uses next
 pub data Own (s f r j : ℕ) : Kind → Type 0 where
   in-hand : j ≡ s + f → Own s f r j through
   in-keep : j ≡ r → Own s f r j keep
 
--- the rule on a station's words
+-- the rule on a stop's words
 pub data Firing (hv kv v hv' kv' : ℕ) : Kind → Type 0 where
   hand-used : hv' ≡ v → kv' ≡ kv → Firing hv kv v hv' kv' through
   keep-used : kv' ≡ v → hv' ≡ hv → Firing hv kv v hv' kv' keep
 
--- other values, but not at what the station holds
+-- other values, but not at what the stop holds
 hold-same : {n r r' x y hv kv hv' kv' : ℕ} {B B' : ℕ → ℕ} {K : Kind} → hv' ≡ hv → kv' ≡ kv
     → (y < x → x ≤ suc y → K ≡ through → B' (wrap n (r' + y)) ≡ B (wrap n (r' + y)))
     → (x ≡ suc (suc y) → K ≡ keep → B' (wrap n (r' + y)) ≡ B (wrap n (r' + y)))
@@ -67,14 +67,14 @@ module _ (N : Net) (R : Ranked N) where
     put-falls (suc j) l m = go (order k j)
       where
         go : Order k j → c (put q (suc j)) ≤ c (put q (suc k))
-        go (less o) = omega (arith, along N I q k j o (omega arith), station-order (I .station q j m))
+        go (less o) = omega (arith, along N I q k j o (omega arith), stop-order (I .stop q j m))
         go (atLeast o) = let e : j ≡ k = omega arith in rw e (le-refl _)
 
     -- no place of a link holds what k uses
     clear : (j a i : ℕ) → j ≤ stops q → (j ≤ k → c (get q j) ≤ a) → (k < j → a < c (put q j)) → a < elements q
         → {K : Kind} → kind q k ≡ K
         → Use (elements q) (soak q k) (count (process q k)) (c (get q k)) (c (put q (suc k))) (c (fire (process q k))) K
-        → Station (elements q) (soak q k) (count (process q k)) (c (get q k)) (c (put q (suc k))) (c (fire (process q k))) K
+        → AtStop (elements q) (soak q k) (count (process q k)) (c (get q k)) (c (put q (suc k))) (c (fire (process q k))) K
         → Own (soak q k) (c (fire (process q k))) (rank q k) i K
         → i ≡ wrap (elements q) (rank q j + a) → ⊥
     clear j a i l u v w e (hand x y) S (in-hand o) z = go (order k j) (wrapped (elements q) (rank q j + a))
@@ -92,7 +92,7 @@ module _ (N : Net) (R : Ranked N) where
             up (atLeast o') = let f : j ≡ k = omega arith in omega (arith, flat, ap (λ (j : ℕ). c (get q j)) f, u m)
     clear j a i l u v w e (held x) S (in-keep o) z = apart N R I q k h e (omega arith) (full S) j a l u v w (sym z ∙ o)
       where
-        full : Station (elements q) (soak q k) (count (process q k)) (c (get q k)) (c (put q (suc k))) (c (fire (process q k))) keep
+        full : AtStop (elements q) (soak q k) (count (process q k)) (c (get q k)) (c (put q (suc k))) (c (fire (process q k))) keep
             → c (put q (suc k)) < elements q
         full (fresh a b d) = absurd (omega arith)
         full (holding a b d) = d
@@ -129,7 +129,7 @@ module _ (N : Net) (R : Ranked N) where
         (wrap-lt (elements q) (rank q j + a) (omega (arith, rank-elements N R q j l, below-head N I q j l)))
         (λ k h e o.
         clear L I q k h (rw e (g .0)) j a (wrap (elements q) (rank q j + a)) l (λ x. u) (λ x. v) (omega (arith, below-head N I q j l)) refl
-        (g .1 q k h e) (I .station q k h) o refl)
+        (g .1 q k h e) (I .stop q k h) o refl)
 
     -- what an idle process has in its hand
     untouched-hand : (q k : ℕ) → k < stops q → (process q k ≡ p → ⊥) → c (put q (suc k)) < c (get q k)
@@ -147,7 +147,7 @@ module _ (N : Net) (R : Ranked N) where
             at : (b a : ℕ) → b ≤ stops q → (b ≤ k0 → c (get q b) ≤ a) → (k0 < b → a < c (put q b)) → a < elements q
                 → rank q (suc k) + c (put q (suc k)) ≡ rank q b + a → ⊥
             at b a m x y z d =
-                clear L I q k0 h (rw e (g .0)) b a j m x y z refl (g .1 q k0 h e) (I .station q k0 h) o (ap (λ (i : ℕ). wrap (elements q) i) d)
+                clear L I q k0 h (rw e (g .0)) b a j m x y z refl (g .1 q k0 h e) (I .stop q k0 h) o (ap (λ (i : ℕ). wrap (elements q) i) d)
 
             go : Order k0 k → Order k k0 → ⊥
             go (less m) m' =
@@ -234,7 +234,7 @@ module _ (N : Net) (R : Ranked N) where
         (omega arith)
         refl
         (g .1 q k l e)
-        (I .station q k l)
+        (I .stop q k l)
         o
         (sym (wrap-end N R q i (omega arith)))))
 

@@ -117,7 +117,7 @@ module _ {A : Array} (W : Wired A) (st : List ℕ) (long : wordCount A ≤ lengt
       links : (b : Bool) (q' k' i : ℕ) → view A (after b) (place q' k' i) ≡ view A (st₁ q k h le g) (place q' k' i)
       links b q' k' i = elsewhere b (place q' k' i) (λ e. omega (arith, ap sort e, chosen-sort q k b)) (λ e. omega (arith, ap sort e))
 
-      -- another station's hand and keep
+      -- another stop's hand and keep
       aside : (b : Bool) (q' k' : ℕ) → (get q k ≡ get q' k' → ⊥) → (d : Slot) → first d ≡ q' → second d ≡ k' → 3 < sort d → sort d < 6
           → view A (after b) d ≡ view A st d
       aside b q' k' n d u v r r' =

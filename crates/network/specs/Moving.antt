@@ -32,7 +32,7 @@ module _ {A : Array} (W : Wired A) (waiting : ℕ → ℕ → ℕ) (st st' : Lis
   module _ (out out' : ℕ → ℕ → ℕ) (q k : ℕ)
       (shifted : (i : ℕ) → view A st' (place q k i) ≡ view A st (place q k (suc i)))
       (links : (q' k' i : ℕ) → (get q k ≡ get q' k' → ⊥) → view A st' (place q' k' i) ≡ view A st (place q' k' i))
-      (stations : (q' k' : ℕ) → (get q k ≡ get q' k' → ⊥)
+      (stops : (q' k' : ℕ) → (get q k ≡ get q' k' → ⊥)
       → (view A st' (hand q' k') ≡ view A st (hand q' k')) × (view A st' (Slots.kept q' k') ≡ view A st (Slots.kept q' k')))
       (taking : k < stopsOn A q
       → Taking (view A st (taken q k)) (view A st (given q k)) (view A st (hand q k)) (view A st (Slots.kept q k)) (view A st (place q k 0))
@@ -62,14 +62,14 @@ module _ {A : Array} (W : Wired A) (waiting : ℕ → ℕ → ℕ) (st st' : Lis
               (receiving (get-k e ∙ ap (stopsOn A) (sym (get-q e))));
           received = received;
           other-link = λ q' k' i n n'. links q' k' i n';
-          other-station = λ q' k' n n'. stations q' k' n;
+          other-stop = λ q' k' n n'. stops q' k' n;
         }
 
   module _ (out : ℕ → ℕ → ℕ) (q k i v : ℕ)
       (next : view A st (counter (put q k)) ≡ view A st (taken q k) + i)
       (filled : view A st' (place q k i) ≡ v)
       (unfilled : (q' k' j : ℕ) → (place q k i ≡ place q' k' j → ⊥) → view A st' (place q' k' j) ≡ view A st (place q' k' j))
-      (stations : (q' k' : ℕ) → (put q k ≡ put q' (suc k') → ⊥)
+      (stops : (q' k' : ℕ) → (put q k ≡ put q' (suc k') → ⊥)
       → (view A st' (hand q' k') ≡ view A st (hand q' k')) × (view A st' (Slots.kept q' k') ≡ view A st (Slots.kept q' k')))
       (sending : k ≡ 0 → v ≡ waiting q (view A st (sent q)))
       (giving : (j : ℕ) → k ≡ suc j
@@ -95,7 +95,7 @@ module _ {A : Array} (W : Wired A) (waiting : ℕ → ℕ → ℕ) (st st' : Lis
           receive = λ q' e. absurd (put≢get e);
           received = λ q' j n. refl;
           other-link = λ q' k' j n n'. unfilled q' k' j (λ p. n (ap₂ put (ap first p) (ap second p)));
-          other-station = λ q' k' n n'. stations q' k' n';
+          other-stop = λ q' k' n n'. stops q' k' n';
         }
       where
         level : (q' k' j : ℕ) → put q k ≡ put q' k' → view A st (counter (put q' k')) ≡ view A st (taken q' k') + j → i ≡ j

@@ -9,7 +9,7 @@ use native.Mathlib.Omega.{arith}
 use lib.Dec.{ltb}
 use borrow.Author.Tests.{lt-ltb, le-ltb}
 use Rattle.network.specs.Cases.{Order, less, atLeast, order}
-use Rattle.network.specs.Counters.{Kind, through, keep, some, Station, passing, fresh, holding, gone, station-order, held, put, get, Counts, Net, Inv, along}
+use Rattle.network.specs.Counters.{Kind, through, keep, some, AtStop, passing, fresh, holding, gone, stop-order, held, put, get, Counts, Net, Inv, along}
 
 -- the place of the g-th in the order of the pipe, g < 2 n
 unfoldable pub wrap : ℕ → ℕ → ℕ
@@ -34,12 +34,12 @@ wrap-lt n g h = go (wrapped n g)
     go (low a b) = omega arith
     go (high a b) = omega arith
 
--- how the rank goes on past a station
+-- how the rank goes on past a stop
 pub data Next (r r' : ℕ) : Kind → Type 0 where
   level : r' ≡ r → Next r r' through
   rise : r' ≡ suc r → Next r r' keep
 
--- the rank of link k: how many keeping stations stand before it; on a pipe either none keeps or as many as it has elements
+-- the rank of link k: how many keeping stops stand before it; on a pipe either none keeps or as many as it has elements
 pub record Ranked (N : Net) : Type 0 where
   pub rank : ℕ → ℕ → ℕ
   pub start : (q : ℕ) → rank q 0 ≡ 0
@@ -55,13 +55,13 @@ next-keep : {r r' : ℕ} {K : Kind} → K ≡ keep → Next r r' K → r' ≡ su
 next-keep e (level d) = absurd (let z : _≡_ {A = ℕ} 0 1 = cc in omega arith)
 next-keep e (rise d) = d
 
-up-step : {n s t x y f r r' R : ℕ} {K : Kind} → 0 < n → r' ≤ R → Next r r' K → Station n s t x y f K → min n (suc R - r') ≤ y → min n (suc R - r) ≤ x
+up-step : {n s t x y f r r' R : ℕ} {K : Kind} → 0 < n → r' ≤ R → Next r r' K → AtStop n s t x y f K → min n (suc R - r') ≤ y → min n (suc R - r) ≤ x
 up-step z l (level e) (passing a b _ _) h = omega arith
 up-step z l (rise e) (fresh a b u) h = absurd (omega arith)
 up-step z l (rise e) (holding a b u) h = omega arith
 up-step z l (rise e) (gone a b u) h = omega arith
 
-down-step : {n s t x y f r r' R z : ℕ} {K : Kind} → r' ≤ n → suc R ≤ r → x ≤ z → Next r r' K → Station n s t x y f K → z + r ≤ n + R → y + r' ≤ n + R
+down-step : {n s t x y f r r' R z : ℕ} {K : Kind} → r' ≤ n → suc R ≤ r → x ≤ z → Next r r' K → AtStop n s t x y f K → z + r ≤ n + R → y + r' ≤ n + R
 down-step k l w (level e) (passing a b _ _) h = omega arith
 down-step k l w (rise e) (fresh a b u) h = omega arith
 down-step k l w (rise e) (holding a b u) h = omega arith
@@ -93,7 +93,7 @@ module _ (N : Net) (R : Ranked N) where
   pub rank-zero : (q k : ℕ) → rank q (stops q) ≡ 0 → k ≤ stops q → rank q k ≡ 0
   rank-zero q k e h = omega (arith, rank-mono q k (stops q) h (le-refl _))
 
-  -- past the last station the order is the written one
+  -- past the last stop the order is the written one
   pub wrap-end : (q i : ℕ) → i < elements q → wrap (elements q) (rank q (stops q) + i) ≡ i
   wrap-end q i l = go (R .end q) (wrapped (elements q) (rank q (stops q) + i))
     where
@@ -107,7 +107,7 @@ module _ (N : Net) (R : Ranked N) where
   module _ {c : Counts} (I : Inv N c) (q : ℕ) where
     -- upstream of a get that has been done
     pub upstream : (j k : ℕ) → k < j → j ≤ stops q → c (get q j) ≤ c (get q k)
-    upstream j k h l = omega (arith, along N I q k j h l, station-order (I .station q k (omega arith)))
+    upstream j k h l = omega (arith, along N I q k j h l, stop-order (I .stop q k (omega arith)))
 
     -- process k keeps its own element: it has taken it and not given it
     module _ (k : ℕ) (h : k < stops q) (K : kind q k ≡ keep) (taken : 0 < c (get q k)) (held : c (put q (suc k)) < elements q) where
@@ -116,7 +116,7 @@ module _ (N : Net) (R : Ranked N) where
       above (suc d) j e =
           let ih = above d (suc j) (omega arith) in
           let l = I .link q (suc j) (omega arith) .0 in
-          up-step (R .some q k h) (rank-mono q (suc j) k (omega arith) (omega arith)) (R .next q j (omega arith)) (I .station q j (omega arith))
+          up-step (R .some q k h) (rank-mono q (suc j) k (omega arith) (omega arith)) (R .next q j (omega arith)) (I .stop q j (omega arith))
           (omega arith)
 
       pub below : (d j : ℕ) → suc k + d ≡ j → j ≤ stops q → c (put q j) + rank q j ≤ elements q + rank q k
@@ -129,7 +129,7 @@ module _ (N : Net) (R : Ranked N) where
           (omega (arith, rank-mono q (suc k) j (omega arith) (omega arith), rank-keep q k h K .0))
           (I .link q j (omega arith) .0)
           (R .next q j l)
-          (I .station q j l)
+          (I .stop q j l)
           (below d j (omega arith) (omega arith))
 
       -- an element that is to be given next into link j, or lies in it, is not the one kept

@@ -2,10 +2,10 @@
 use mathlib.Core.Path.{_≡_, sym, _∙_, subst}
 use Prim.Native.Nat.{ℕ, zero, suc, _+_, _≤_, _<_}
 use native.Mathlib.Omega.{arith}
-use Rattle.network.specs.Counters.{Kind, through, keep, Station, passing, fresh, holding, gone, Hand, empty, first, free, Offer, soaked, drained, used, passed, kept, Step, put, get, fire, Counts, Net, Guard, Inv, OneMore, Hit, hit, miss, hit?, put≢get, below-head, get-elements}
+use Rattle.network.specs.Counters.{Kind, through, keep, AtStop, passing, fresh, holding, gone, Hand, empty, first, free, Offer, soaked, drained, used, passed, kept, Step, put, get, fire, Counts, Net, Guard, Inv, OneMore, Hit, hit, miss, hit?, put≢get, below-head, get-elements}
 use Rattle.network.specs.Cases.{Order, less, atLeast, order}
 
--- taken x and given y at a station of a pipe of n elements
+-- taken x and given y at a stop of a pipe of n elements
 pub data Balance (n x y : ℕ) : Kind → Type 0 where
   even : x ≡ y → Balance n x y through
   ahead : x ≡ suc y → Balance n x y through
@@ -14,7 +14,7 @@ pub data Balance (n x y : ℕ) : Kind → Type 0 where
   given : x ≡ n → y ≡ n → Balance n x y keep
 
 module _ {n s t x y f : ℕ} where
-  balance-of : {K : Kind} → Station n s t x y f K → Balance n x y K
+  balance-of : {K : Kind} → AtStop n s t x y f K → Balance n x y K
   balance-of (passing a b u v) = go (order y x)
     where
       go : Order y x → Balance n x y through
@@ -74,7 +74,7 @@ module _ (N : Net) where
         puts = below-head N I;
         gets = get-elements N I;
         link = I .link;
-        balance = λ q k l. balance-of (I .station q k l);
+        balance = λ q k l. balance-of (I .stop q k l);
       }
 
   module _ {c c' : Counts} {a : Step} (B : OneMore c c' a) (I : Sound c) (g : Guard N c a) where

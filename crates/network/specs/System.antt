@@ -6,7 +6,7 @@ use mathlib.Core.Logic.{_⊎_, inl, inr}
 use Prim.Native.Nat.{ℕ, zero, suc, _+_, _-_, _≤_, _<_}
 use native.Mathlib.Nat.{le-refl}
 use native.Mathlib.Omega.{arith}
-use Rattle.network.specs.Counters.{Kind, through, keep, Station, passing, fresh, holding, gone, Use, hand, held, put, get, fire, Counts, Net, Inv, along}
+use Rattle.network.specs.Counters.{Kind, through, keep, AtStop, passing, fresh, holding, gone, Use, hand, held, put, get, fire, Counts, Net, Inv, along}
 use Rattle.network.specs.Ranks.{wrap, Wrap, low, high, wrapped, Ranked, rank-keep, rank-zero, upstream, above, below}
 use Rattle.network.specs.Words.{Hold, passes, keeps}
 use Rattle.network.specs.Firing.{Own, in-hand, in-keep, Lined}
@@ -64,7 +64,7 @@ module _ (N : Net) (R : Ranked N) where
     -- what has fired was sent
     pub sent : (i q j : ℕ) → Spot owner firing i q j → Fired N owner firing c i → j < c (put q 0)
     sent i q j T f =
-        go (I .station q (T .pos) (T .on)) (T .own) refl
+        go (I .stop q (T .pos) (T .on)) (T .own) refl
       where
         k : ℕ
         k = T .pos
@@ -80,7 +80,7 @@ module _ (N : Net) (R : Ranked N) where
         split zero = inr refl
         split (suc a) = inl (omega arith)
 
-        go : {K : Kind} → Station (elements q) (soak q k) (count (process q k)) (c (get q k)) (c (put q (suc k))) (c (fire (process q k))) K
+        go : {K : Kind} → AtStop (elements q) (soak q k) (count (process q k)) (c (get q k)) (c (put q (suc k))) (c (fire (process q k))) K
             → Own (soak q k) (firing i) (rank q k) j K → kind q k ≡ K → j < c (put q 0)
         go (passing a b u v) (in-hand e) K = omega (arith, start-of (split k), f')
         go (fresh a b u) (in-keep e) K = absurd (omega (arith, f'))
@@ -91,7 +91,7 @@ module _ (N : Net) (R : Ranked N) where
 
     -- what is out has fired: it is final
     pub final : (i q j : ℕ) → firing i < count (owner i) → Spot owner firing i q j → j < c (get q (stops q)) → Fired N owner firing c i
-    final i q j h T o = rw (T .is) at (go (I .station q (T .pos) (T .on)) (T .own) refl)
+    final i q j h T o = rw (T .is) at (go (I .stop q (T .pos) (T .on)) (T .own) refl)
       where
         k : ℕ
         k = T .pos
@@ -102,7 +102,7 @@ module _ (N : Net) (R : Ranked N) where
         past : c (get q (stops q)) ≤ c (put q (suc k))
         past = along N I q k (stops q) (T .on) (le-refl _)
 
-        go : {K : Kind} → Station (elements q) (soak q k) (count (process q k)) (c (get q k)) (c (put q (suc k))) (c (fire (process q k))) K
+        go : {K : Kind} → AtStop (elements q) (soak q k) (count (process q k)) (c (get q k)) (c (put q (suc k))) (c (fire (process q k))) K
             → Own (soak q k) (firing i) (rank q k) j K → kind q k ≡ K → firing i < c (fire (process q k))
         go (passing a b u v) (in-hand e) K = omega (arith, past, h')
         go (fresh a b u) (in-keep e) K = absurd (omega (arith, past))

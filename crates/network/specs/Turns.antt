@@ -3,7 +3,7 @@ use mathlib.Core.Path.{_≡_, sym, ap}
 use Prim.Native.Nat.{ℕ, suc, _+_, _-_, _≤_, _<_, min}
 use native.Mathlib.Omega.{arith}
 use Rattle.network.specs.Cases.{Order, less, atLeast, order}
-use Rattle.network.specs.Counters.{Kind, through, Station, passing, fresh, holding, gone, Use, hand, held, fire, Counts, Net, Guard, Inv, along}
+use Rattle.network.specs.Counters.{Kind, through, AtStop, passing, fresh, holding, gone, Use, hand, held, fire, Counts, Net, Guard, Inv, along}
 use Rattle.network.specs.Values.{Upto}
 
 -- what passes through
@@ -11,7 +11,7 @@ record Passing (s t x y f : ℕ) : Type 0 where
   low : min (y - s) t ≤ f
   high : f ≤ x - s
 
-passing-of : {n s t x y f : ℕ} {K : Kind} → K ≡ through → Station n s t x y f K → Passing s t x y f
+passing-of : {n s t x y f : ℕ} {K : Kind} → K ≡ through → AtStop n s t x y f K → Passing s t x y f
 passing-of e (passing a b u v) = record { low = u; high = v }
 passing-of e (fresh a b u) = absurd (let z : _≡_ {A = ℕ} 0 1 = cc in omega arith)
 passing-of e (holding a b u) = absurd (let z : _≡_ {A = ℕ} 0 1 = cc in omega arith)
@@ -40,7 +40,7 @@ module _ (N : Net) (owner firing : ℕ → ℕ) where
     has-fired i' h (sooner e l) = omega (arith, ap (λ (p : ℕ). c (fire p)) e)
     has-fired i' h (upstream q k k' l l' e e' u u' j) =
         let a = along N I q k k' l (omega arith) in
-        let b = passing-of u (I .station q k (omega arith)) in
+        let b = passing-of u (I .stop q k (omega arith)) in
         let d = hand-of u' (g .1 q k' l' e') in
         omega (arith, ap (λ (p : ℕ). c (fire p)) e, ap (λ (p : ℕ). c (fire p)) e', ap (λ (p : ℕ). count p) e, b .low)
 
@@ -49,7 +49,7 @@ module _ (N : Net) (owner firing : ℕ → ℕ) where
     not-fired i' h (sooner e l) f = omega (arith, ap (λ (p : ℕ). c (fire p)) e)
     not-fired i' h (upstream q k k' l l' e e' u u' j) f =
         let a = along N I q k k' l (omega arith) in
-        let b = passing-of u' (I .station q k' l') in
+        let b = passing-of u' (I .stop q k' l') in
         let d = hand-of u (g .1 q k (omega arith) e) in
         omega (arith, ap (λ (p : ℕ). c (fire p)) e, ap (λ (p : ℕ). c (fire p)) e', b .high)
 

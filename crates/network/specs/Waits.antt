@@ -1,11 +1,11 @@
--- What a take, a give and a firing at a station wait for: each may be granted, or something undone is due earlier. Assumes nothing.
+-- What a take, a give and a firing at a stop wait for: each may be granted, or something undone is due earlier. Assumes nothing.
 use mathlib.Core.Path.{_≡_}
 use mathlib.Core.Logic.{_⊎_, inl, inr}
 use Prim.Native.Nat.{ℕ, suc, _+_, _-_, _≤_, _<_}
 use native.Mathlib.Nat.{le-refl}
 use native.Mathlib.Omega.{arith}
 use Rattle.network.specs.Cases.{Order, less, atLeast, order}
-use Rattle.network.specs.Counters.{Kind, through, keep, Shape, room, some, Station, passing, fresh, holding, gone, Hand, empty, first, free, Offer, soaked, drained, used, passed, kept, Use, hand, held}
+use Rattle.network.specs.Counters.{Kind, through, keep, Shape, room, some, AtStop, passing, fresh, holding, gone, Hand, empty, first, free, Offer, soaked, drained, used, passed, kept, Use, hand, held}
 
 -- an occurrence of a step with due times D, done x times of n, that is not done and is due before d
 pub record Late (n x : ℕ) (D : ℕ → ℕ) (d : ℕ) : Type 0 where
@@ -14,7 +14,7 @@ pub record Late (n x : ℕ) (D : ℕ → ℕ) (d : ℕ) : Type 0 where
   pub undone : x ≤ at
   pub earlier : D at < d
 
--- what a station's takes (G), gives (P) and firings (F) wait for is due earlier
+-- what a stop's takes (G), gives (P) and firings (F) wait for is due earlier
 pub record Through (n s t : ℕ) (G P F : ℕ → ℕ) : Type 0 where
   pub empty : (i : ℕ) → P i < G (suc i)
   pub taken : (i : ℕ) → G i < P i
@@ -33,7 +33,7 @@ pub data Clocked (n s t : ℕ) (G P F : ℕ → ℕ) : Kind → Type 0 where
   is-keep : Keep n s t G P F → Clocked n s t G P F keep
 
 module _ {n s t x y f : ℕ} {G P F : ℕ → ℕ} where
-  pub judge-hand : {K : Kind} → Clocked n s t G P F K → x < n → Station n s t x y f K → Hand n s t x y f K ⊎ Late n y P (G x)
+  pub judge-hand : {K : Kind} → Clocked n s t G P F K → x < n → AtStop n s t x y f K → Hand n s t x y f K ⊎ Late n y P (G x)
   judge-hand (is-through D) h (passing a b u v) = go (order y x)
     where
       go : Order y x → Hand n s t x y f through ⊎ Late n y P (G x)
@@ -53,7 +53,7 @@ module _ {n s t x y f : ℕ} {G P F : ℕ → ℕ} where
       go (atLeast l) = inl (free (omega arith))
   judge-hand (is-keep D) h (gone a b u) = absurd (omega arith)
 
-  pub judge-offer : {K : Kind} → Clocked n s t G P F K → f ≤ t → y < n → Station n s t x y f K
+  pub judge-offer : {K : Kind} → Clocked n s t G P F K → f ≤ t → y < n → AtStop n s t x y f K
       → Offer n s t x y f K ⊎ (Late n x G (P y) ⊎ Late t f F (P y))
   judge-offer (is-through D) w h (passing a b u v) = go (order y x) (order y s) (order y (s + t)) (order y (s + f))
     where
@@ -87,12 +87,12 @@ module _ {n s t x y f : ℕ} {G P F : ℕ → ℕ} where
       two (less o) (atLeast l) i = more o l
       two (atLeast o) (atLeast l) i = end (omega arith) l (order x n) (order f t)
 
-      go : Order (suc y) n → Station n s t x y f keep → Answer
+      go : Order (suc y) n → AtStop n s t x y f keep → Answer
       go o (fresh a b u) = two o (order (suc y) x) (omega arith)
       go o (holding a b u) = two o (order (suc y) x) b
       go o (gone a b u) = absurd (omega arith)
 
-  pub judge-use : {K : Kind} → Clocked n s t G P F K → Shape n s t K → f < t → Station n s t x y f K → Use n s t x y f K ⊎ Late n x G (F f)
+  pub judge-use : {K : Kind} → Clocked n s t G P F K → Shape n s t K → f < t → AtStop n s t x y f K → Use n s t x y f K ⊎ Late n x G (F f)
   judge-use (is-through D) (room r) h (passing a b u v) = go (order (s + f) x)
     where
       go : Order (s + f) x → Use n s t x y f through ⊎ Late n x G (F f)

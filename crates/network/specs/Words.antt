@@ -4,15 +4,15 @@ use Prim.Native.Nat.{ℕ, zero, suc, _+_, _-_, _≤_, _<_}
 use native.Mathlib.Nat.{le-refl}
 use native.Mathlib.Omega.{arith}
 use Rattle.network.specs.Cases.{Equal, same, other, equal}
-use Rattle.network.specs.Counters.{Kind, through, keep, Station, passing, station-order, Hand, empty, first, free, Offer, soaked, drained, used, passed, kept, hand, Step, put, get, Counts, Net, Guard, Inv, OneMore, Hit, hit, miss, hit?, put≢get, below-head}
+use Rattle.network.specs.Counters.{Kind, through, keep, AtStop, passing, stop-order, Hand, empty, first, free, Offer, soaked, drained, used, passed, kept, hand, Step, put, get, Counts, Net, Guard, Inv, OneMore, Hit, hit, miss, hit?, put≢get, below-head}
 use Rattle.network.specs.Ranks.{wrap, Wrap, low, high, wrapped, Next, level, rise, Ranked, rank-keep, wrap-end}
 
--- a station's hand word hv and keep word kv, the pipe's j-th element having the value B j
+-- a stop's hand word hv and keep word kv, the pipe's j-th element having the value B j
 pub data Hold (n r r' x y : ℕ) (B : ℕ → ℕ) (hv kv : ℕ) : Kind → Type 0 where
   passes : (x ≡ y → hv ≡ 0) → (x ≡ suc y → hv ≡ B (wrap n (r' + y))) → kv ≡ 0 → Hold n r r' x y B hv kv through
   keeps : (x ≤ suc y → hv ≡ 0) → (x ≡ suc (suc y) → hv ≡ B (wrap n (r' + y))) → (x ≡ y → kv ≡ 0) → (y < x → kv ≡ B r) → Hold n r r' x y B hv kv keep
 
--- the rules on a station's words: v is taken, v is given
+-- the rules on a stop's words: v is taken, v is given
 pub data Taking (x y hv kv v hv' kv' : ℕ) : Kind → Type 0 where
   to-hand : hv' ≡ v → kv' ≡ kv → Taking x y hv kv v hv' kv' through
   to-keep : x ≡ 0 → kv' ≡ v → hv' ≡ hv → Taking x y hv kv v hv' kv' keep
@@ -24,7 +24,7 @@ pub data Giving (x y hv kv v hv' kv' : ℕ) : Kind → Type 0 where
   of-keep : x ≡ suc y → v ≡ kv → kv' ≡ 0 → hv' ≡ hv → Giving x y hv kv v hv' kv' keep
 
 module _ {n s t x y f r r' hv kv v hv' kv' : ℕ} {B : ℕ → ℕ} where
-  hold-get : {K : Kind} → (K ≡ keep → r < n) → x < n → Next r r' K → Station n s t x y f K → Hand n s t x y f K → Hold n r r' x y B hv kv K
+  hold-get : {K : Kind} → (K ≡ keep → r < n) → x < n → Next r r' K → AtStop n s t x y f K → Hand n s t x y f K → Hold n r r' x y B hv kv K
       → Taking x y hv kv v hv' kv' K → v ≡ B (wrap n (r + x)) → Hold n r r' (suc x) y B hv' kv' K
   hold-get w z (level d) S (empty e) (passes a b u) (to-hand g h) i =
       passes
@@ -38,8 +38,8 @@ module _ {n s t x y f r r' hv kv v hv' kv' : ℕ} {B : ℕ → ℕ} where
       (λ l. absurd (begun S l))
       (λ l. g ∙ i ∙ ap B (low-is (wrapped n (r + x))))
     where
-      begun : Station n s t x y f keep → suc x ≡ y → ⊥
-      begun S l = omega (arith, station-order S)
+      begun : AtStop n s t x y f keep → suc x ≡ y → ⊥
+      begun S l = omega (arith, stop-order S)
 
       low-is : Wrap n (r + x) → wrap n (r + x) ≡ r
       low-is (low a b) = omega arith
@@ -52,14 +52,14 @@ module _ {n s t x y f r r' hv kv v hv' kv' : ℕ} {B : ℕ → ℕ} where
       (λ l. absurd (omega arith))
       (λ l. h ∙ u' (omega arith))
 
-  hold-put : {K : Kind} → Station n s t x y f K → Offer n s t x y f K → Hold n r r' x y B hv kv K → Giving x y hv kv v hv' kv' K
+  hold-put : {K : Kind} → AtStop n s t x y f K → Offer n s t x y f K → Hold n r r' x y B hv kv K → Giving x y hv kv v hv' kv' K
       → Hold n r r' x (suc y) B hv' kv' K
   hold-put (passing a b _ _) O (passes d e u) (of-hand g h i) = passes (λ l. h) (λ l. absurd (omega arith)) (i ∙ u)
   hold-put S O (keeps a b u u') (of-other e g h i) = keeps (λ l. h) (λ l. absurd (omega arith)) (λ l. absurd (omega arith))
       (λ l. i ∙ u' (omega arith))
   hold-put S O (keeps a b u u') (of-keep e g h i) = keeps (λ l. i ∙ a (omega arith)) (λ l. absurd (omega arith)) (λ l. h) (λ l. absurd (omega arith))
 
-  given-is : {K : Kind} → Next r r' K → Station n s t x y f K → Offer n s t x y f K → Hold n r r' x y B hv kv K → Giving x y hv kv v hv' kv' K
+  given-is : {K : Kind} → Next r r' K → AtStop n s t x y f K → Offer n s t x y f K → Hold n r r' x y B hv kv K → Giving x y hv kv v hv' kv' K
       → v ≡ B (wrap n (r' + y))
   given-is N (passing a b _ _) O (passes d e u) (of-hand g h i) = g ∙ e (offered O)
     where
@@ -109,7 +109,7 @@ module _ (N : Net) (R : Ranked N) where
     pub receive : (q : ℕ) → a ≡ get q (stops q) → W' .out q (c (get q (stops q))) ≡ W .link q (stops q) 0
     pub received : (q i : ℕ) → (a ≡ get q (stops q) → c (get q (stops q)) ≡ i → ⊥) → W' .out q i ≡ W .out q i
     pub other-link : (q k i : ℕ) → (a ≡ put q k → ⊥) → (a ≡ get q k → ⊥) → W' .link q k i ≡ W .link q k i
-    pub other-station : (q k : ℕ) → (a ≡ get q k → ⊥) → (a ≡ put q (suc k) → ⊥) → (W' .hand q k ≡ W .hand q k) × (W' .kept q k ≡ W .kept q k)
+    pub other-stop : (q k : ℕ) → (a ≡ get q k → ⊥) → (a ≡ put q (suc k) → ⊥) → (W' .hand q k ≡ W .hand q k) × (W' .kept q k ≡ W .kept q k)
 
   module _ {c c' : Counts} {a : Step} (B : OneMore c c' a) (I : Inv N c) (g : Guard N c a) (A : ℕ → ℕ → ℕ) (waiting : ℕ → ℕ → ℕ) {W W' : Words}
       (M : Moves waiting c a W W') (F : Stored c A W)
@@ -123,7 +123,7 @@ module _ (N : Net) (R : Ranked N) where
         first-is : Wrap (elements q) (rank q 0 + c (put q 0)) → c (put q 0) ≡ wrap (elements q) (rank q 0 + c (put q 0))
         first-is (low h d) = omega (arith, R .start q)
         first-is (high h d) = absurd (omega (arith, R .start q, turned e .0))
-    moved-is q (suc k) l e = given-is (R .next q k l) (I .station q k l) (turned e .2) (F .holds q k l) (M .give q k e)
+    moved-is q (suc k) l e = given-is (R .next q k l) (I .stop q k l) (turned e .2) (F .holds q k l) (M .give q k e)
 
     head-is : (q k : ℕ) → k ≤ stops q → c (get q k) < c (put q k) → W .link q k 0 ≡ A q (wrap (elements q) (rank q k + c (get q k)))
     head-is q k l h = let e : c (get q k) - c (get q k) ≡ 0 = omega arith in rw e at (F .links q k (c (get q k)) l (le-refl _) h)
@@ -171,13 +171,13 @@ module _ (N : Net) (R : Ranked N) where
             (λ e. rank-keep N R q k l e .1)
             (omega (arith, turned d .1, below-head N I q k (omega arith)))
             (R .next q k l)
-            (I .station q k l)
+            (I .stop q k l)
             (turned d .2 l)
             (F .holds q k l)
             (M .take q k l d)
             (head-is q k (omega arith) (turned d .1)))
-        go (miss n u) (hit e v) = rw (u, v) (hold-put (I .station q k l) (turned e .2) (F .holds q k l) (M .give q k e))
-        go (miss n u) (miss n' v) = let s = M .other-station q k n n' in rw (u, v, s .0, s .1) (F .holds q k l)
+        go (miss n u) (hit e v) = rw (u, v) (hold-put (I .stop q k l) (turned e .2) (F .holds q k l) (M .give q k e))
+        go (miss n u) (miss n' v) = let s = M .other-stop q k n n' in rw (u, v, s .0, s .1) (F .holds q k l)
 
     step-outs : (q i : ℕ) → i < c' (get q (stops q)) → W' .out q i ≡ A q i
     step-outs q i h = go (hit? B (get q (stops q)))

@@ -1,7 +1,7 @@
 // The network proved: demand 3 for every description whose array is wired as geometry has to show. Theory only; what it says is in specs/.
 //
 // The abstract network, over numbers alone:
-//   Counters    stations, steps, rules and the counter invariant; `inv-step`: every granted step keeps it; `all-put`, `all-get`: all out, all done
+//   Counters    stops, steps, rules and the counter invariant; `inv-step`: every granted step keeps it; `all-put`, `all-get`: all out, all done
 //   Sound       what is asked of any state; `sound-step`: every granted step keeps it; `inv-sound`: the invariant implies it
 //   Waits, Due, Descent, Clock
 //               what an occurrence waits for is due earlier; `progress`: some step is ready until all is out; `in-time`; the due times

@@ -80,7 +80,7 @@ take-filter {A} f (suc k) (x ∷ l) = go (f x) (take-filter f k l)
     go true e = ap (λ (m : List A). x ∷ m) e
     go false e = e
 
--- ---- what the plan says
+-- ---- what the rows say
 
 -- of the first i streams
 pub record Filled (d : Description) (i : ℕ) (l : List ℕ) : Type 0 where

@@ -1,4 +1,4 @@
-// The plan of a description: the rows of all its ports and of all its pipes' ends, in one lent port table. Stream by stream: what its rows share, by the sums
+// The port table of a description filled: the rows of all its ports and of all its pipes' ends. Stream by stream: what its rows share, by the sums
 // over the streams before it; then the row of each process, and the row of each pipe, by its entry.
 //
 // specs/, by file:
@@ -6,7 +6,7 @@
 //   Marks     rows written where a test says so: what stands, and what stays
 //   Widths    the rows of a stream fit words
 //   Strung    the rows of a stream, and what the functions are lent
-//   Plan      stream by stream, the rows are those of the array: `filled-next`
+//   Filled    stream by stream, the rows are those of the array: `filled-next`
 ghost use mathlib.Core.Path.{_≡_};
 ghost use Prim.Native.Nat.{_≤_};
 ghost use lib.ListN.{length};
@@ -221,7 +221,7 @@ fn fill_streams(d: Description, stride: u32, processes: u32, spans: &[u32], port
     }
 }
 
-// The plan of an accepted description.
+// The port table of an accepted description.
 pub fn fill_ports(d: Description, spans: &[u32], ports: &mut [u32])
     requires { ⌜ (Described d) × (Laid d) × (Spans (d .nest) (now spans)) × (3072 ≤ length (now spans)) × (length (now ports) ≡ 116736) ⌝ }
     ensures { λ r. ⌜ PortsOf (arrayOf d) (now (ports .exit)) ⌝ }

@@ -1,11 +1,11 @@
-// A port table of rows: the rows of all ports and of all pipes' ends as words of one lent list, written once and read by number. Port (p, i) has the ten
+// The port table: the rows of all ports and of all pipes' ends as words of one lent list, written once and read by number. Port (p, i) has the ten
 // words from 60 p + 10 i on, pipe q the nine from 61,440 + 9 q on.
 //
 // specs/, by file:
 //
 //   Stored    a row written into a list: what stands there, and what stays
-//   Book      the words of rows, and rows read off them
-//   Planned   the port table of an array; port tables whose rows' words lie in a state
+//   Rows      the words of rows, and rows read off them
+//   PortsOf   the port table of an array; port tables whose rows' words lie in a state
 ghost use mathlib.Core.Path.{_≡_};
 ghost use mathlib.Core.Bool.{cond};
 ghost use Prim.Native.Nat.{_+_, _≤_, _<_};

@@ -24,8 +24,8 @@ use Rattle.opening.specs.Opening.{Opened, grounds, own-last}
 use Rattle.opening.specs.Opened.{fits, stands}
 use Rattle.bits.specs.Words.{cleared, marked, onesOf, lowestFrom}
 use Rattle.bits.specs.Ready.{markedTo, readied, ready-call}
-use Rattle.ready.specs.Moves.{movesBy}
-use Rattle.ready.specs.Meaning.{moves-is}
+use Rattle.ready_words.specs.Moves.{movesBy}
+use Rattle.ready_words.specs.Meaning.{moves-is}
 
 -- ---- by a port table
 

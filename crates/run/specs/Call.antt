@@ -14,7 +14,7 @@ use Rattle.meaning.specs.Rules.{Memory, anyReady, runSteps, applyAll}
 use Rattle.meaning.specs.Calls.{memoryTests, refusedBy, run}
 use Rattle.port_table.specs.declared.Size.{Size}
 use Rattle.wakeups.specs.Wakeups.{flagAt}
-use Rattle.run.specs.Runs.{Ended, any-left}
+use Rattle.run_steps.specs.Runs.{Ended, any-left}
 
 -- what it answers and leaves once the memory is opened
 pub record RanBy (s : List ℕ) (steps : ℕ) (M : Memory) (r : Ran.Ran) (M' : Memory) : Type 0 where

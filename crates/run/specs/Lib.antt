@@ -1,6 +1,2 @@
--- The loop of Run, and the call; src/lib.rt has the list.
-pub mod Positions
-pub mod Going
-pub mod Runs
-pub mod Turn
+-- What the call Run answers and leaves.
 pub mod Call

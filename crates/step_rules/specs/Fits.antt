@@ -1,4 +1,4 @@
--- Books, programs and steps that fit. Assumes nothing.
+-- Port tables, programs and steps that fit. Assumes nothing.
 use mathlib.Core.Path.{_≡_, refl}
 use mathlib.Core.Logic.{_⊎_}
 use mathlib.Core.Bool.{true}

@@ -5,7 +5,7 @@
 // specs/, by file:
 //
 //   Sweep       a pass that changes, for each instance, the entry of its point; `sweep-is`: what it leaves, point by point
-//   Ends        the best of a list of instances by their numbers, as the pass finds it
+//   Chosen      the best of a list of instances by their numbers, as the pass finds it
 //   Tables      document 01's words: `counts-are`, `firsts-are`, `lasts-are`, `chosen-absent`
 ghost use mathlib.Core.Path.{_≡_};
 ghost use mathlib.Core.Bool.{true, false};

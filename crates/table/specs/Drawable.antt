@@ -25,7 +25,7 @@ use Rattle.stream_lines.specs.InRange.{nest-bounded}
 use Rattle.stream_lines.specs.Accepted.{accepted-within}
 use Rattle.lanes.specs.Flow.{Laid}
 use Rattle.lanes.specs.Accepted.{streams-used, laid-stream}
-use Rattle.table.specs.declared.Shape.{Shape}
+use Rattle.process_row.specs.declared.Shape.{Shape}
 use Rattle.table.specs.Planned.{refusedFor, Drawn, Planned}
 
 pub record Drawable (d : Description) : Type 0 where

@@ -1,5 +1,4 @@
 -- What a plan's words mean, and that the rows read off them are document 01's.
-pub mod Rows
 pub mod Blocks
 pub mod Planned
 pub mod Drawable

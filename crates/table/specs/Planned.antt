@@ -29,8 +29,8 @@ use Rattle.numbering.specs.Numbers.{filled}
 use Rattle.layout.specs.Spans.{processOf, numbered, Spans}
 use Rattle.pipes.specs.Elements.{rowDrain}
 use Rattle.declines.specs.Tests.{tableLengths}
-use Rattle.table.specs.declared.Shape.{Shape}
-use Rattle.table.specs.Rows.{byStream, rowFrom, Readable}
+use Rattle.process_row.specs.declared.Shape.{Shape}
+use Rattle.process_row.specs.Rows.{byStream, rowFrom, Readable}
 use Rattle.table.specs.Blocks.{Streamed}
 
 -- the refusal of the call

@@ -11,13 +11,12 @@ ghost use Prim.Native.Nat.{ℕ, _<_, _≤_, _+_};
 ghost use lib.ListN.{length, getD, replicate};
 ghost use Rattle.integers.specs.Fill.{fillBy};
 ghost use Rattle.meaning.specs.Limits.{limitsOf, gaugeLimits, UpTo};
-ghost use Rattle.meaning.specs.Loops.{instances};
 ghost use Rattle.meaning.specs.Space.{processes};
 ghost use Rattle.meaning.specs.Description.{descriptionOf, streamsOf};
 ghost use Rattle.meaning.specs.Calls.{answer, table};
 ghost use Rattle.numbering.specs.Ranges.{Bounded};
-ghost use Rattle.layout.specs.Spans.{numbered, Spans};
-ghost use Rattle.table.specs.Rows.{byStream, rowFrom, Readable};
+ghost use Rattle.layout.specs.Spans.{Spans};
+ghost use Rattle.process_row.specs.Rows.{rowFrom, Readable};
 ghost use Rattle.table.specs.Blocks.{Streamed};
 ghost use Rattle.table.specs.Planned.{Shaped, Drawn, refusedFor, Planned};
 ghost use Rattle.table.specs.Drawable.{Drawable};
@@ -30,62 +29,7 @@ use meaning::Limits;
 use meaning::Nest;
 use meaning::Row;
 use numbering::Extent;
-
-// What the rows need beside the plan's words: the refusal, 0 if there is none, the number of rows to fill, the loops and the process space.
-struct Shape {
-    refusal: u32,
-    rows: usize,
-    nest: Nest,
-    space: Extent,
-}
-
-// ---- one row
-
-// The instance of a number plus one, zero for none.
-fn instance_numbered(n: Nest, k: u32) -> V3
-    requires { ⌜ (Bounded n) × (k ≤ length (instances n)) ⌝ }
-    ensures { λ r. ⌜ r ≡ numbered n k ⌝ }
-{
-    if k == 0 {
-        V3 { x: 0, y: 0, z: 0 }
-    } else {
-        numbering::instance(n, k - 1)
-    }
-}
-
-// The words of all streams at one process, the first stream's at word k.
-fn by_stream(words: &[u32; 15360], k: usize) -> [u32; 6]
-    requires { ⌜ k + 10240 < 15360 ⌝ }
-    ensures { λ r. ⌜ r ≡ byStream (now (words .entry)) k ⌝ }
-{
-    [
-        words[k],
-        words[k + 2048],
-        words[k + 4096],
-        words[k + 6144],
-        words[k + 8192],
-        words[k + 10240],
-    ]
-}
-
-// The row of process p.
-fn row_at(shape: Shape, words: &[u32; 15360], p: usize) -> Row
-    requires { ⌜ Readable shape (now words) p ⌝ }
-    ensures { λ r. ⌜ r ≡ rowFrom shape (now (words .entry)) p ⌝ }
-{
-    let nest = shape.nest;
-    let space = shape.space;
-    let first = words[1024 + p];
-    let last = words[2048 + p];
-    Row {
-        point: layout::point_at(space, p as u32),
-        count: words[p],
-        first: instance_numbered(nest, first),
-        last: instance_numbered(nest, last),
-        soak: by_stream(words, 3072 + p),
-        drain: by_stream(words, 4096 + p),
-    }
-}
+use process_row::Shape;
 
 // ---- the plan
 
@@ -233,7 +177,7 @@ fn fill_rows<'r, 'a>(rows: &'r mut [Row], shape: Shape, words: &'a [u32; 15360],
 {
     let mut i = 0;
     while i < n {
-        rows[i] = row_at(shape, words, i);
+        rows[i] = process_row::row_at(shape, words, i);
         i = i + 1;
     }
 }

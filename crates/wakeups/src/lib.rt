@@ -3,7 +3,7 @@
 //
 // specs/, by file:
 //
-//   Watch       the word that a step counts up, and the neighbour's word that it looks at, by the rows of a port table; the table
+//   Wakeups     the word that a step counts up, and the neighbour's word that it looks at, by the rows of a port table; the table
 //   Filled      the table as it is filled
 //   Renewed     flags tested anew
 //   Owned       the ranks of a step's own steps
@@ -25,7 +25,7 @@ use port_table::Size;
 
 // ---- the table
 
-// The index of the neighbour's word that a step looks at, 136,192 where there is none: by its name, and by its rank.
+// The index of the neighbour's word that a step looks at, the words of the longest state where there is none: by its name, and by its rank.
 fn foreign_named(ports: &[u32], z: Size, kind: u32, number: usize, stream: usize) -> usize
     requires { ⌜ (RowsFit stateWordsMost (now ports) z) × (Inside z kind number stream) ⌝ }
     ensures { λ i. ⌜ (i ≡ foreignNamed (now (ports .entry)) kind number stream) × (i ≤ stateWordsMost) ⌝ }

@@ -3,7 +3,7 @@ use borrow.Author.Needs.{needs}
 use Rattle.meaning.specs.Limits.{gaugeLimits}
 use Rattle.stream_lines.specs.Accepted.{accepted-within}
 use Rattle.opening.specs.Opening.{grounds}
-use Rattle.run.specs.Turn.{table-asks, flags-ask, starts}
+use Rattle.run_steps.specs.Turn.{table-asks, flags-ask, starts}
 use Rattle.run.specs.Call.{ran-by}
 use Rattle.run.proofs.run_opened.Statement.{statement}
 use Rattle.run.proofs.run_opened.Tie as tie

@@ -52,8 +52,8 @@ use Rattle.integers.specs.Fill.{fillBy, fill-length}
 use Rattle.meaning.specs.declared.Row.{Row}
 use Rattle.meaning.proofs.Row as T
 use Rattle.meaning.proofs.Row.Laws as T′
-use Rattle.table.specs.declared.Shape.{Shape}
-use Rattle.table.specs.Rows.{rowFrom, Readable}
+use Rattle.process_row.specs.declared.Shape.{Shape}
+use Rattle.process_row.specs.Rows.{rowFrom, Readable}
 use Rattle.table.proofs.Shape as D
 use Rattle.table.proofs.Shape.Laws as D′
 use Rattle.table.proofs.Counted.{counted}

@@ -51,8 +51,8 @@ use Rattle.meaning.specs.Calls.{answer, table}
 use Rattle.meaning.proofs.Row as T
 use Rattle.meaning.proofs.Answer as E
 use Rattle.meaning.proofs.Answer.Laws as E′
-use Rattle.table.specs.declared.Shape.{Shape}
-use Rattle.table.specs.Rows.{rowFrom}
+use Rattle.process_row.specs.declared.Shape.{Shape}
+use Rattle.process_row.specs.Rows.{rowFrom}
 use Rattle.table.specs.Planned.{Planned, planned-ready, planned-answer, planned-rows}
 use Rattle.table.proofs.Shape as D
 use Rattle.table.proofs.Shape.Laws as D′

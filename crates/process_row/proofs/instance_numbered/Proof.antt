@@ -1,10 +1,10 @@
--- `table::instance_numbered` meets its contract. Assumes nothing.
+-- `process_row::instance_numbered` meets its contract. Assumes nothing.
 use mathlib.Core.Path.{_∙_}
 use native.Mathlib.Omega.{arith}
 use borrow.Author.Needs.{needs}
-use Rattle.table.specs.Rows.{numbered-none, numbered-one}
-use Rattle.table.proofs.instance_numbered.Statement.{statement}
-use Rattle.table.proofs.instance_numbered.Tie as tie
+use Rattle.process_row.specs.Rows.{numbered-none, numbered-one}
+use Rattle.process_row.proofs.instance_numbered.Statement.{statement}
+use Rattle.process_row.proofs.instance_numbered.Tie as tie
 
 sub-instance : tie.Need-sub-instance
 sub-instance c = search needs

@@ -25,8 +25,8 @@ use Rattle.step_order.specs.Order.{lowest-some, lowest-none, any-ready}
 use Rattle.wakeups.specs.Wakeups.{canAt, flagAt, WakeupsOf}
 use Rattle.opening.specs.Opening.{Grounds, grounds, Opened}
 use Rattle.opening.specs.Opened.{stands, fits}
-use Rattle.run.specs.Positions.{position-hit, bounded-some, bounded-none}
-use Rattle.run.specs.Going.{there-named, state-length, opened-step}
+use Rattle.run_steps.specs.Positions.{position-hit, bounded-some, bounded-none}
+use Rattle.run_steps.specs.Going.{there-named, state-length, opened-step}
 
 -- what the loop starts with
 pub record Started (s : List ℕ) (g : Program) (b spans wakeups : List ℕ) (z : Size) (M : Memory) (flags : List ℕ) : Type 0 where

@@ -14,7 +14,7 @@ use Rattle.meaning.specs.Space.{points}
 use Rattle.numbering.specs.Ranges.{Bounded}
 use Rattle.numbering.specs.Extents.{Spanning, boxed}
 use Rattle.layout.specs.Spans.{numbered}
-use Rattle.table.specs.declared.Shape.{Shape}
+use Rattle.process_row.specs.declared.Shape.{Shape}
 
 pub numbered-none : (n : Nest) (k : ℕ) → k ≡ 0 → zero3 ≡ numbered n k
 numbered-none n k e = rw e refl

@@ -31,8 +31,8 @@ use Rattle.port_fits.specs.Sizes.{words-few}
 use Rattle.addresses.specs.Indices.{word-count}
 use Rattle.opening.specs.Opening.{Grounds, grounds, Opened}
 use Rattle.opening.specs.Opened.{fits, waiting-fits, received-fits, stands, programmed, performs}
-use Rattle.run.specs.Going.{long}
-use Rattle.run.specs.Runs.{Started, Partly, sized, inside, some-rank, can-rank, lowest-at, rank-ready, opened-next, words-next, partly-next}
+use Rattle.run_steps.specs.Going.{long}
+use Rattle.run_steps.specs.Runs.{Started, Partly, sized, inside, some-rank, can-rank, lowest-at, rank-ready, opened-next, words-next, partly-next}
 
 -- the rows of a port table lie in the table of words
 pub rows-in-table : {s : List ℕ} {M : Memory} {b : List ℕ} {z : Size} → Opened s M b z → RowsFit stateWordsMost b z

@@ -1,12 +1,12 @@
--- `run::run_steps` meets its contract: after so many turns so many of Run's steps are done. Assumes nothing.
+-- `run_steps::run_steps` meets its contract: after so many turns so many of Run's steps are done. Assumes nothing.
 use Prim.Native.Nat.{_-_}
 use native.Mathlib.Omega.{arith}
 use borrow.Author.Needs.{needs}
 use Rattle.meaning.specs.Rules.{memoryOf}
-use Rattle.run.specs.Runs.{Partly, partly-start, lowest-nothing, ended-full, ended-none}
-use Rattle.run.specs.Turn.{rank-in, asks, renews, turned}
-use Rattle.run.proofs.run_steps.Statement.{statement}
-use Rattle.run.proofs.run_steps.Tie as tie
+use Rattle.run_steps.specs.Runs.{Partly, partly-start, lowest-nothing, ended-full, ended-none}
+use Rattle.run_steps.specs.Turn.{rank-in, asks, renews, turned}
+use Rattle.run_steps.proofs.run_steps.Statement.{statement}
+use Rattle.run_steps.proofs.run_steps.Tie as tie
 
 abbrev Inv-loop : tie.InvT-loop
 Inv-loop s g ports spans wakeups z steps waiting received₀ state₀ flags₀ done₀ received state flags done =

@@ -1,13 +1,13 @@
--- `ready::can_move` meets its contract: the streams from i on say what all say. Assumes nothing.
+-- `ready_words::can_move` meets its contract: the streams from i on say what all say. Assumes nothing.
 use mathlib.Core.Path.{_≡_, sym, _∙_}
 use Prim.Native.Nat.{_≤_, _-_}
 use native.Mathlib.Omega.{arith}
 use borrow.Author.Needs.{needs}
 use Rattle.meaning.specs.Lists.{any, numbers}
-use Rattle.ready.specs.Any.{left, any-start, any-turn, any-stop, any-end}
-use Rattle.ready.specs.Moves.{passesBy, moves-passing, moves-firing}
-use Rattle.ready.proofs.can_move.Statement.{statement}
-use Rattle.ready.proofs.can_move.Tie as tie
+use Rattle.ready_words.specs.Any.{left, any-start, any-turn, any-stop, any-end}
+use Rattle.ready_words.specs.Moves.{passesBy, moves-passing, moves-firing}
+use Rattle.ready_words.proofs.can_move.Statement.{statement}
+use Rattle.ready_words.proofs.can_move.Tie as tie
 
 abbrev Inv-loop : tie.InvT-loop
 Inv-loop ports state z p m i₀ i = (i ≤ z .streams) × (left (passesBy ports state p) (z .streams) i ≡ any (passesBy ports state p) (numbers (z .streams)))

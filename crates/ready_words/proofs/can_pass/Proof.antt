@@ -1,9 +1,9 @@
--- `ready::can_pass` meets its contract: the two tests by the port's row. Assumes nothing.
+-- `ready_words::can_pass` meets its contract: the two tests by the port's row. Assumes nothing.
 use mathlib.Core.Path.{sym, _∙_}
 use native.Mathlib.Omega.{arith}
-use Rattle.ready.specs.Moves.{passes-taking, passes-giving}
-use Rattle.ready.proofs.can_pass.Statement.{statement}
-use Rattle.ready.proofs.can_pass.Tie as tie
+use Rattle.ready_words.specs.Moves.{passes-taking, passes-giving}
+use Rattle.ready_words.proofs.can_pass.Statement.{statement}
+use Rattle.ready_words.proofs.can_pass.Tie as tie
 
 port-requires : tie.Need-port-requires
 port-requires c κs = let p = c .before .before .pre in (p .0 .words, omega (arith, p .0 .processes), omega (arith, p .0 .streams))

@@ -1,7 +1,7 @@
--- `table::row_at` meets its contract. Assumes nothing.
+-- `process_row::row_at` meets its contract. Assumes nothing.
 use borrow.Author.Needs.{needs}
-use Rattle.table.proofs.row_at.Statement.{statement}
-use Rattle.table.proofs.row_at.Tie as tie
+use Rattle.process_row.proofs.row_at.Statement.{statement}
+use Rattle.process_row.proofs.row_at.Tie as tie
 
 add-first : tie.Need-add-first
 add-first c = search needs

@@ -15,8 +15,8 @@ use Rattle.port_table.specs.PortsOf.{portAt, portsAt}
 use Rattle.step_rules.specs.Steps.{canBy}
 use Rattle.step_rules.specs.Fits.{Inside}
 use Rattle.step_rules.specs.Meaning.{Stands, can-is}
-use Rattle.ready.specs.Any.{any-same, any-append, any-map, any-either}
-use Rattle.ready.specs.Moves.{passesBy, movesBy}
+use Rattle.ready_words.specs.Any.{any-same, any-append, any-map, any-either}
+use Rattle.ready_words.specs.Moves.{passesBy, movesBy}
 
 -- a take, a fire or a give has a process and a stream
 inside : {z : Size} (k p i : ℕ) → 0 < k → k < 4 → p < z .processes → i < z .streams → Inside z k p i

@@ -1,4 +1,4 @@
--- `ready::mark_ready` meets its contract: the words are those of the processes below p. Assumes nothing.
+-- `ready_words::mark_ready` meets its contract: the words are those of the processes below p. Assumes nothing.
 use mathlib.Core.Path.{_≡_, sym, _∙_, ap}
 use mathlib.Core.Logic.{⊎-elim}
 use mathlib.Core.List.{List}
@@ -8,9 +8,9 @@ use lib.ListN.{length}
 use borrow.Author.Needs.{needs}
 use Rattle.bits.specs.Words.{marked}
 use Rattle.bits.specs.Ready.{markedTo, marked-none, marked-pass, marked-fail, marked-length}
-use Rattle.ready.specs.Moves.{movesBy}
-use Rattle.ready.proofs.mark_ready.Statement.{statement}
-use Rattle.ready.proofs.mark_ready.Tie as tie
+use Rattle.ready_words.specs.Moves.{movesBy}
+use Rattle.ready_words.proofs.mark_ready.Statement.{statement}
+use Rattle.ready_words.proofs.mark_ready.Tie as tie
 
 abbrev Inv-loop : tie.InvT-loop
 Inv-loop ports state z words₀ n p₀ words p =

@@ -1,0 +1,2 @@
+-- A row of the table, by the words of its plan.
+pub mod Rows
