@@ -2,13 +2,14 @@
 ghost use mathlib.Core.Path.{_≡_};
 ghost use Rattle.meaning.specs.Limits.{limitsOf};
 ghost use Rattle.meaning.specs.Accept.{accept};
+use layout::SPANS;
 use meaning::Acceptance;
 
 // ACCEPT
 pub fn accept(board: u32, s: &[u8]) -> Acceptance
     ensures { λ r. ⌜ r ≡ accept (limitsOf board) (now (s .entry)) ⌝ }
 {
-    let mut spans = [0u32; 3072];
+    let mut spans = [0u32; SPANS];
     let refusal = refuse::refusal_of(board, s, &mut spans);
     if refusal == 0 {
         let d = decode::description(s);

@@ -9,6 +9,7 @@
 ghost use mathlib.Core.Path.{_≡_};
 ghost use Prim.Native.Nat.{_<_, _≤_};
 ghost use lib.ListN.{length, take};
+ghost use Rattle.meaning.specs.Limits.{gaugeLimits};
 ghost use Rattle.bits.specs.Words.{cleared, marked, onesOf, lowestFrom};
 
 // Clears the first sixteen words; those beyond stay.
@@ -25,7 +26,7 @@ pub fn clear(words: &mut [u64])
 
 // Sets the bit of process p.
 pub fn mark(words: &mut [u64], p: u32)
-    requires { ⌜ (16 ≤ length (now words)) × (p < 1024) ⌝ }
+    requires { ⌜ (16 ≤ length (now words)) × (p < gaugeLimits .processes) ⌝ }
     ensures { λ _. ⌜ now (words .exit) ≡ marked (now (words .entry)) p ⌝ }
 {
     let k = (p / 64) as usize;

@@ -1,6 +1,11 @@
 // The limits that a board word names, request 2.9.
 ghost use mathlib.Core.Path.{_≡_};
 ghost use Rattle.meaning.specs.Limits.{limitsOf, gaugeLimits, UpTo};
+use meaning::BENCH_INSTANCES;
+use meaning::BENCH_PROCESSES;
+use meaning::GAUGE_INSTANCES;
+use meaning::GAUGE_PROCESSES;
+use meaning::HOP;
 use meaning::Limits;
 
 // The limits of a board, the gauge 0 or the bench 1; another word, which no call accepts, has the gauge's.
@@ -10,15 +15,15 @@ pub fn limits_of(board: u32) -> Limits
     if board == 1 {
         return Limits {
             board: board,
-            instances: 1024,
-            processes: 256,
-            hop: 5,
+            instances: BENCH_INSTANCES,
+            processes: BENCH_PROCESSES,
+            hop: HOP,
         };
     }
     Limits {
         board: board,
-        instances: 4096,
-        processes: 1024,
-        hop: 5,
+        instances: GAUGE_INSTANCES,
+        processes: GAUGE_PROCESSES,
+        hop: HOP,
     }
 }

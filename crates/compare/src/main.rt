@@ -6,15 +6,23 @@
 // walk's instances, its rows, values and final values printed as well. A description that is declined counts as one process and one element.
 ghost use Prim.Native.Nat.{_≤_, _<_, _+_};
 ghost use lib.ListN.{length};
+ghost use Rattle.meaning.specs.Limits.{gaugeLimits, elementsMost};
 use integers::V2;
 use integers::V3;
+use layout::SPANS;
 use libc::STDIN_FILENO;
 use libc::STDOUT_FILENO;
 use meaning::Acceptance;
 use meaning::Answer;
 use meaning::Divisors;
+use meaning::ELEMENTS;
 use meaning::Figures;
+use meaning::GAUGE_PROCESSES;
+use meaning::PROCESSES;
 use meaning::Row;
+use walk::WALK;
+
+const MOST_ELEMENTS: u32 = ELEMENTS as u32;
 
 // ---- values and sums
 
@@ -71,10 +79,10 @@ fn mix_row(sum: u32, r: Row) -> u32 {
     mix_streams(soaks, drain)
 }
 
-fn sum_of_rows(rows: [Row; 1024], count: usize) -> u32 {
+fn sum_of_rows(rows: [Row; PROCESSES], count: usize) -> u32 {
     let mut sum: u32 = 0;
     let mut p: usize = 0;
-    while p < 1024 {
+    while p < PROCESSES {
         if count <= p {
             return sum;
         }
@@ -187,9 +195,9 @@ fn print_row(r: Row) {
     print(b"\n");
 }
 
-fn print_rows(rows: [Row; 1024], count: usize) {
+fn print_rows(rows: [Row; PROCESSES], count: usize) {
     let mut p: usize = 0;
-    while p < 1024 {
+    while p < PROCESSES {
         if count <= p {
             return;
         }
@@ -262,15 +270,15 @@ fn within(x: u32, most: usize) -> usize
 }
 
 fn accept_line(board: u32, s: &[u8]) -> Extents
-    ensures { λ r. ⌜ (1 ≤ r .processes) × (r .processes ≤ 1024) × (1 ≤ r .elements) × (r .elements ≤ 24576) ⌝ }
+    ensures { λ r. ⌜ (1 ≤ r .processes) × (r .processes ≤ gaugeLimits .processes) × (1 ≤ r .elements) × (r .elements ≤ elementsMost) ⌝ }
 {
     let answer = accept::accept(board, s);
     match answer {
         Acceptance::Accepted(f, g) => {
             print_figures(f, g);
             Extents {
-                processes: within(f.processes, 1024),
-                elements: within(f.elements, 24576),
+                processes: within(f.processes, GAUGE_PROCESSES),
+                elements: within(f.elements, MOST_ELEMENTS),
                 small: f.elements <= 12,
             }
         }
@@ -299,8 +307,8 @@ fn print_visits(walk: &[i32], coordinates: usize, small: bool)
 }
 
 fn walk_lines(board: u32, s: &[u8], small: bool) {
-    let mut spans = [0u32; 3072];
-    let mut walk = [0i32; 12288];
+    let mut spans = [0u32; SPANS];
+    let mut walk = [0i32; WALK];
     let refusal = refuse::walk_of(board, s, &mut spans, &mut walk);
     print(b"walk");
     print_number(refusal);
@@ -320,13 +328,13 @@ fn table_call(board: u32, s: &[u8], lent: usize, seen: usize) {
 }
 
 fn table_lines(board: u32, s: &[u8], e: Extents)
-    requires { ⌜ (1 ≤ e .processes) × (e .processes ≤ 1024) ⌝ }
+    requires { ⌜ (1 ≤ e .processes) × (e .processes ≤ gaugeLimits .processes) ⌝ }
 {
     let processes = e.processes;
     print(b"table");
     table_call(board, s, processes - 1, processes + 1);
     table_call(board, s, processes, processes + 1);
-    table_call(board, s, 1024, processes + 1);
+    table_call(board, s, PROCESSES, processes + 1);
     print(b"\n");
     if e.small {
         let listed = table_rows::table(s, processes, board);
@@ -363,11 +371,11 @@ fn plain_calls(board: u32, s: &[u8], values: &[u32], output: &mut [u32], element
 }
 
 fn plain_lines(board: u32, s: &[u8], e: Extents, number: u32)
-    requires { ⌜ (1 ≤ e .elements) × (e .elements ≤ 24576) ⌝ }
+    requires { ⌜ (1 ≤ e .elements) × (e .elements ≤ elementsMost) ⌝ }
 {
     let elements = e.elements;
-    let mut values = [0u32; 24577];
-    let mut output = [0u32; 24577];
+    let mut values = [0u32; ELEMENTS + 1];
+    let mut output = [0u32; ELEMENTS + 1];
     fill_values(&mut values, elements + 1, number);
     print(b"plain");
     plain_calls(board, s, &values, &mut output, elements);

@@ -22,6 +22,7 @@ use integers::Matrix;
 use integers::V2;
 use integers::V3;
 use meaning::Description;
+use meaning::LINE_WORDS;
 use meaning::Line;
 use meaning::Nest;
 use meaning::Sizes;
@@ -141,9 +142,9 @@ pub fn line_at(z: Sizes, i: u32) -> u32
     ensures { λ r. ⌜ (r ≡ lineAt z i) × (r ≤ 125) ⌝ }
 {
     if z.loops == 2 {
-        13 + 3 * z.streams + 7 * i
+        13 + 3 * z.streams + LINE_WORDS * i
     } else {
-        21 + 8 * z.streams + 7 * i
+        21 + 8 * z.streams + LINE_WORDS * i
     }
 }
 

@@ -9,18 +9,21 @@
 ghost use mathlib.Core.Path.{_≡_};
 ghost use Prim.Native.Nat.{_≤_, _<_};
 ghost use lib.ListN.{length, getD};
+ghost use Rattle.meaning.specs.Limits.{elementsMost};
 ghost use Rattle.integers.specs.Vectors.{zero3, image};
 ghost use Rattle.meaning.specs.Loops.{instances};
 ghost use Rattle.meaning.specs.Space.{points, rowIndex, boxOf};
-ghost use Rattle.layout.specs.Spans.{Spans};
+ghost use Rattle.layout.specs.Spans.{Spans, spanWords};
 ghost use Rattle.numbering.specs.Extents.{Numbered, boxed};
 ghost use Rattle.element_places.specs.Spread.{spread};
 ghost use Rattle.element_places.specs.Order.{elementNumber, indexOf, placeFor, PlacesOf, Placeable};
 ghost use Rattle.element_places.specs.Fired.{Fired, Placing, Putting, Streaming, placeBy};
 use integers::Matrix;
 use lanes::Flow;
+use lanes::LANES;
 use meaning::Description;
 use meaning::Nest;
+use meaning::PROCESSES;
 use meaning::Stream;
 use numbering::Extent;
 
@@ -94,9 +97,9 @@ fn fill_stream(n: Nest, s: Stream, first: u32, spans: &[u32], places: &mut [u32]
     let f = lanes::flow_of(n, s);
     let space = f.space;
     let processes = numbering::size_of(space);
-    let mut lanes = [0u32; 4096];
+    let mut lanes = [0u32; LANES];
     lanes::fill_lanes(f, processes, spans, &mut lanes);
-    let mut starts = [0u32; 1024];
+    let mut starts = [0u32; PROCESSES];
     pipe_parts::fill_starts(f, processes, spans, &lanes, first, &mut starts);
     put_places(f, spans, &lanes, &starts, first, places);
 }
@@ -105,7 +108,7 @@ fn fill_stream(n: Nest, s: Stream, first: u32, spans: &[u32], places: &mut [u32]
 
 // The place of each element in the waiting list.
 pub fn fill_places(d: Description, spans: &[u32], places: &mut [u32])
-    requires { ⌜ (Placeable d) × (Spans (d .nest) (now spans)) × (3072 ≤ length (now spans)) × (length (now places) ≡ 24576) ⌝ }
+    requires { ⌜ (Placeable d) × (Spans (d .nest) (now spans)) × (spanWords ≤ length (now spans)) × (length (now places) ≡ elementsMost) ⌝ }
     ensures { λ r. ⌜ PlacesOf d (now (places .exit)) ⌝ }
 {
     let n = d.nest;

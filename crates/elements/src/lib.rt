@@ -7,6 +7,7 @@
 ghost use mathlib.Core.Path.{_≡_};
 ghost use Prim.Native.Nat.{_≤_};
 ghost use lib.ListN.{length};
+ghost use Rattle.meaning.specs.Limits.{elementsMost};
 ghost use Rattle.meaning.specs.Streams.{elements};
 ghost use Rattle.meaning.specs.Description.{streamsOf};
 ghost use Rattle.meaning.specs.Body.{streamStart};
@@ -44,7 +45,7 @@ pub fn elements_in(d: Description, count: u32) -> u32
 // The elements of all streams.
 pub fn element_count(d: Description) -> u32
     requires { ⌜ Few d ⌝ }
-    ensures { λ r. ⌜ (r ≡ lengthOf d) × (r ≤ 24576) ⌝ }
+    ensures { λ r. ⌜ (r ≡ lengthOf d) × (r ≤ elementsMost) ⌝ }
 {
     let m = d.sizes.streams;
     elements_in(d, m)

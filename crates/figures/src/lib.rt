@@ -10,11 +10,12 @@ ghost use Prim.Native.Nat.{suc, _≤_};
 ghost use lib.ListN.{length};
 ghost use Rattle.meaning.specs.Pipes.{isEntry, entries};
 ghost use Rattle.meaning.specs.Accept.{figures};
-ghost use Rattle.layout.specs.Spans.{processOf, Spans};
+ghost use Rattle.layout.specs.Spans.{processOf, Spans, spanWords};
 ghost use Rattle.pipes.specs.Elements.{Near};
 ghost use Rattle.figures.specs.Sums.{stepsOn, Under, sumsOver, sumsAt};
 ghost use Rattle.figures.specs.Shares.{Summing, Sharing, Small, shareOf, join, Room, totalsOf, Described};
 use lanes::Flow;
+use lanes::LANES;
 use meaning::Description;
 use meaning::Figures;
 use meaning::Nest;
@@ -86,13 +87,13 @@ fn sums_of(f: Flow, processes: u32, spans: &[u32], lanes: &[u32]) -> Sums
 
 // A stream's part of the figures.
 fn share_of(n: Nest, s: Stream, spans: &[u32]) -> Share
-    requires { ⌜ (Sharing n s) × (Spans n (now spans)) × (3072 ≤ length (now spans)) ⌝ }
+    requires { ⌜ (Sharing n s) × (Spans n (now spans)) × (spanWords ≤ length (now spans)) ⌝ }
     ensures { λ r. ⌜ (r ≡ shareOf n s) × (Small r) ⌝ }
 {
     let f = lanes::flow_of(n, s);
     let space = f.space;
     let processes = numbering::size_of(space);
-    let mut lanes = [0u32; 4096];
+    let mut lanes = [0u32; LANES];
     lanes::fill_lanes(f, processes, spans, &mut lanes);
     let sums = sums_of(f, processes, spans, &lanes);
     Share {
@@ -118,7 +119,7 @@ fn joined(t: Totals, s: Share) -> Totals
 }
 
 fn totals_of(d: Description, spans: &[u32]) -> Totals
-    requires { ⌜ (Described d) × (Spans (d .nest) (now spans)) × (3072 ≤ length (now spans)) ⌝ }
+    requires { ⌜ (Described d) × (Spans (d .nest) (now spans)) × (spanWords ≤ length (now spans)) ⌝ }
     ensures { λ r. ⌜ (r ≡ totalsOf d (d .sizes .streams)) × (Room r) ⌝ }
 {
     let n = d.nest;
@@ -139,7 +140,7 @@ fn totals_of(d: Description, spans: &[u32]) -> Totals
 
 // The six figures.
 pub fn figures_of(d: Description, spans: &[u32]) -> Figures
-    requires { ⌜ (Described d) × (Spans (d .nest) (now spans)) × (3072 ≤ length (now spans)) ⌝ }
+    requires { ⌜ (Described d) × (Spans (d .nest) (now spans)) × (spanWords ≤ length (now spans)) ⌝ }
     ensures { λ r. ⌜ r ≡ figures d ⌝ }
 {
     let n = d.nest;

@@ -2,6 +2,7 @@
 ghost use mathlib.Core.Path.{_≡_};
 ghost use Prim.Native.Nat.{_≤_};
 ghost use lib.IntN.{pos};
+ghost use Rattle.meaning.specs.Limits.{gaugeLimits};
 ghost use Rattle.integers.specs.Vectors.{shift3};
 ghost use Rattle.meaning.specs.Space.{first};
 ghost use Rattle.geometry.specs.Processes.{runAt};
@@ -9,11 +10,12 @@ ghost use Rattle.vectors.specs.Within.{Within};
 ghost use Rattle.layout.specs.Spans.{processOf};
 ghost use Rattle.instances.specs.Runs.{Computes, Runs};
 use integers::V3;
+use layout::FIRSTS;
 use meaning::Nest;
 
 // The point that lies k times d on from x.
 pub fn later(x: V3, d: V3, k: u32) -> V3
-    requires { ⌜ (Within 64 x) × (Within 200 d) × (k ≤ 4096) ⌝ }
+    requires { ⌜ (Within 64 x) × (Within 200 d) × (k ≤ gaugeLimits .instances) ⌝ }
     ensures { λ r. ⌜ r ≡ shift3 x (pos k) d ⌝ }
 {
     V3 {
@@ -28,7 +30,7 @@ pub fn first_of(n: Nest, spans: &[u32], p: usize) -> V3
     requires { ⌜ Computes n (now spans) p ⌝ }
     ensures { λ r. ⌜ (r ≡ first n (processOf n p)) × (Within 64 r) ⌝ }
 {
-    numbering::instance(n, spans[1024 + p] - 1)
+    numbering::instance(n, spans[FIRSTS + p] - 1)
 }
 
 // Its instance f, counted from 0.

@@ -21,8 +21,20 @@ ghost use Rattle.lanes.specs.Held.{entryNumber};
 ghost use Rattle.lanes.specs.Flow.{Laid, Flows, Visitable, Fillable, Seen};
 use integers::V2;
 use meaning::Nest;
+use meaning::PROCESSES;
 use meaning::Stream;
 use numbering::Extent;
+
+// The words of the lanes: the entries, and from these on how many compute before a process, how many on a line, and one of them.
+pub const BEFORE: usize = PROCESSES;
+
+pub const HELD: usize = 2 * PROCESSES;
+
+pub const ONE: usize = 3 * PROCESSES;
+
+pub const LANES: usize = 4 * PROCESSES;
+
+const ALL: u32 = LANES as u32;
 
 // A stream in its nest: the process space and its own box, its move and index map times increment, each also turned round; whether it moves, and
 // whether its move leads back in row order.
@@ -93,12 +105,12 @@ fn visit(lanes: &mut [u32], p: usize, e: usize, computing: bool)
     requires { ⌜ Visitable (now lanes) p e ⌝ }
     ensures { λ r. ⌜ now (lanes .exit) ≡ visited (now (lanes .entry)) p e computing ⌝ }
 {
-    let held = lanes[2048 + e];
+    let held = lanes[HELD + e];
     lanes[p] = e as u32;
     if computing {
-        lanes[1024 + p] = held;
-        lanes[2048 + e] = held + 1;
-        lanes[3072 + e] = p as u32 + 1;
+        lanes[BEFORE + p] = held;
+        lanes[HELD + e] = held + 1;
+        lanes[ONE + e] = p as u32 + 1;
     }
 }
 
@@ -107,7 +119,7 @@ pub fn fill_lanes(f: Flow, processes: u32, spans: &[u32], lanes: &mut [u32])
     requires { ⌜ Fillable f processes (now spans) (now lanes) ⌝ }
     ensures { λ r. ⌜ Seen f (now (spans .entry)) (now (lanes .exit)) ⌝ }
 {
-    sweeps::clear(4096, lanes);
+    sweeps::clear(ALL, lanes);
     let mut p: u32 = 0;
     while p < processes {
         let e = entry_number(f, p);

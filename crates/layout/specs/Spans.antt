@@ -3,11 +3,12 @@
 use mathlib.Core.Path.{_≡_, refl, sym, _∙_, ap}
 use mathlib.Core.Bool.{Bool, true, false}
 use mathlib.Core.List.{List, [], _∷_, _++_, map}
-use Prim.Native.Nat.{ℕ, zero, suc, _+_, _≤_, _<_}
+use Prim.Native.Nat.{ℕ, zero, suc, _+_, _≤_, _<_, _*_}
 use native.Mathlib.Omega.{arith}
 use lib.ListN.{length, getD, take, length-append, length-map}
 use lib.IntN.{ℤ}
 use borrow.Rule.Slice.PartMut.{putMid, midOf, mid-len}
+use Rattle.meaning.specs.Limits.{gaugeLimits}
 use Rattle.integers.specs.Fill.{fillBy}
 use Rattle.integers.specs.Vectors.{zero2, zero3}
 use Rattle.integers.specs.declared.V3.{V3}
@@ -22,6 +23,10 @@ use Rattle.sweeps.specs.Sweep.{Listed, countIn}
 use Rattle.sweeps.specs.Chosen.{bestIn}
 use Rattle.sweeps.specs.Tables.{Table, Steps, filled-table, counts-are, firsts-are, lasts-are, chosen-absent}
 use Rattle.layout.specs.Parts.{put-before, whole-length, part-at}
+
+-- the words of the processes: counts, first and last instances
+abbrev pub spanWords : ℕ
+spanWords = 3 * gaugeLimits .processes
 
 abbrev pub processOf : Nest → ℕ → V2
 processOf n p = getD (processes n) p zero2

@@ -11,6 +11,7 @@ ghost use mathlib.Core.Path.{_≡_};
 ghost use Prim.Native.Nat.{_≤_, _<_};
 ghost use lib.IntN.{pos};
 ghost use lib.ListN.{length, getD};
+ghost use Rattle.meaning.specs.Limits.{gaugeLimits};
 ghost use Rattle.integers.specs.Vectors.{zero2, shift2};
 ghost use Rattle.meaning.specs.Loops.{instances};
 ghost use Rattle.meaning.specs.Space.{points, processes};
@@ -19,10 +20,19 @@ ghost use Rattle.vectors.specs.Within.{Within2};
 ghost use Rattle.numbering.specs.Ranges.{Bounded};
 ghost use Rattle.numbering.specs.Extents.{Spanning, boxed};
 ghost use Rattle.layout.specs.Rays.{roomOf, Along, firstRay, secondRay, Going};
-ghost use Rattle.layout.specs.Spans.{Sweepable, Swept, Spans};
+ghost use Rattle.layout.specs.Spans.{Sweepable, Swept, Spans, spanWords};
 use integers::V2;
+use meaning::INSTANCES;
 use meaning::Nest;
+use meaning::PROCESSES;
 use numbering::Extent;
+
+// The words of the processes: their counts, then their first and then their last instances.
+pub const FIRSTS: usize = PROCESSES;
+
+pub const LASTS: usize = 2 * PROCESSES;
+
+pub const SPANS: usize = 3 * PROCESSES;
 
 // One coordinate of a box, of a point in it and of the way on from there.
 struct Ray {
@@ -116,23 +126,23 @@ fn fill_spans(numbers: &[u32], count: u32, steps: &[i32], processes: u32, spans:
     requires { ⌜ Sweepable (now numbers) count (now steps) processes (now spans) ⌝ }
     ensures { λ r. ⌜ Swept (now (numbers .entry)) count (now (steps .entry)) processes (now (spans .exit)) ⌝ }
 {
-    sweeps::fill_counts(numbers, count, processes, &mut spans[0..1024]);
-    sweeps::fill_firsts(numbers, count, steps, processes, &mut spans[1024..2048]);
-    sweeps::fill_lasts(numbers, count, steps, processes, &mut spans[2048..3072]);
+    sweeps::fill_counts(numbers, count, processes, &mut spans[0..FIRSTS]);
+    sweeps::fill_firsts(numbers, count, steps, processes, &mut spans[FIRSTS..LASTS]);
+    sweeps::fill_lasts(numbers, count, steps, processes, &mut spans[LASTS..SPANS]);
 }
 
 // Of each process its count, its first and its last instance; how many processes there are.
 pub fn fill_processes(n: Nest, spans: &mut [u32]) -> u32
-    requires { ⌜ (Bounded n) × (length (instances n) ≤ 4096) × (length (processes n) ≤ 1024) × (length (now spans) ≡ 3072) ⌝ }
+    requires { ⌜ (Bounded n) × (length (instances n) ≤ gaugeLimits .instances) × (length (processes n) ≤ gaugeLimits .processes) × (length (now spans) ≡ spanWords) ⌝ }
     ensures { λ r. ⌜ (r ≡ length (processes n)) × (Spans n (now (spans .exit))) ⌝ }
 {
     let place = n.place;
     let space = numbering::extent_of(n, place);
     let processes = numbering::size_of(space);
     let count = numbering::instance_count(n);
-    let mut numbers = [0u32; 4096];
+    let mut numbers = [0u32; INSTANCES];
     numbering::fill_numbers(n, place, space, &mut numbers);
-    let mut steps = [0i32; 4096];
+    let mut steps = [0i32; INSTANCES];
     sweeps::fill_steps(n, &mut steps);
     fill_spans(&numbers, count, &steps, processes, spans);
     processes

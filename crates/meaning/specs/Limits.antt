@@ -28,6 +28,16 @@ abbrev pub formerLimits : ℕ → Limits
 formerLimits board =
     record { board = board; instances = limitsOf board .instances; processes = limitsOf board .processes; hop = 8 }
 
+-- ---- what the gauge's allow lists, with six streams
+
+-- the elements of all streams: every element is touched, so each has no more than there are instances
+abbrev pub elementsMost : ℕ
+elementsMost = 6 * gaugeLimits .instances
+
+-- their pipes: each has an entry of its own
+abbrev pub pipesMost : ℕ
+pipesMost = 6 * gaugeLimits .processes
+
 -- ---- what the gauge's allow a state (docs/STATE.md), with six streams and of each no more pipes than processes
 
 -- the words of a process, "1 + sum of (4 + h)"

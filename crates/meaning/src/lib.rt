@@ -42,6 +42,38 @@ use integers::Matrix;
 use integers::V2;
 use integers::V3;
 
+// What each board holds (`Limits.limitsOf`), and the longest hop.
+pub const GAUGE_INSTANCES: u32 = 4096;
+
+pub const GAUGE_PROCESSES: u32 = 1024;
+
+pub const BENCH_INSTANCES: u32 = 1024;
+
+pub const BENCH_PROCESSES: u32 = 256;
+
+pub const HOP: u32 = 5;
+
+// The words of a body line (`Description.lineWords`) and the last operation (`Operations.lastOperation`).
+pub const LINE_WORDS: u32 = 7;
+
+pub const LAST_OPERATION: u32 = 6;
+
+// The lengths of lists that a description fits on either board. Every element is touched, so a stream has no more elements than there are
+// instances; every pipe has an entry of its own, so it has no more pipes than there are processes.
+pub const INSTANCES: usize = GAUGE_INSTANCES as usize;
+
+pub const PROCESSES: usize = GAUGE_PROCESSES as usize;
+
+pub const STREAMS: usize = 6;
+
+pub const ELEMENTS: usize = STREAMS * INSTANCES;
+
+pub const PIPES: usize = STREAMS * PROCESSES;
+
+// The words of a state (docs/STATE.md).
+pub const STATE_WORDS: usize = PROCESSES * (1 + STREAMS * (4 + HOP as usize))
+    + PIPES * (2 + HOP as usize);
+
 // A description's three sizes: loops r, streams m, body lines b.
 pub struct Sizes {
     pub loops: u32,

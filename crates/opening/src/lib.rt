@@ -16,9 +16,10 @@ ghost use Rattle.meaning.specs.Description.{descriptionOf};
 ghost use Rattle.meaning.specs.Array.{arrayOf};
 ghost use Rattle.meaning.specs.Rules.{sound, memoryOf};
 ghost use Rattle.meaning.specs.Calls.{memoryTests, refusedBy};
-ghost use Rattle.layout.specs.Spans.{Spans};
-ghost use Rattle.port_table.specs.PortsOf.{PortsOf};
+ghost use Rattle.layout.specs.Spans.{Spans, spanWords};
+ghost use Rattle.port_table.specs.PortsOf.{PortsOf, portTableWords};
 ghost use Rattle.opening.specs.Opening.{sizeFrom, Grounds, Standing, Opens, Opened};
+use layout::SPANS;
 use meaning::Description;
 use meaning::Figures;
 use meaning::Limits;
@@ -42,7 +43,7 @@ fn size_of(d: Description, f: Figures) -> Size
 
 // 0, or 22 where the state is not sound by the port table of the array.
 fn sound_refusal(d: Description, z: Size, state: &[u32], spans: &[u32], ports: &mut [u32]) -> u32
-    requires { ⌜ (Standing d z (now state) (now ports)) × (Spans (d .nest) (now spans)) × (3072 ≤ length (now spans)) ⌝ }
+    requires { ⌜ (Standing d z (now state) (now ports)) × (Spans (d .nest) (now spans)) × (spanWords ≤ length (now spans)) ⌝ }
     ensures { λ r. ⌜ (r ≡ refusal ((22 if not (sound (arrayOf d) (now (state .entry)))) ∷ [])) × (PortsOf (arrayOf d) (now (ports .exit))) ⌝ }
 {
     port_fill::fill_ports(d, spans, ports);
@@ -58,7 +59,7 @@ fn open_accepted(
     spans: &[u32],
     ports: &mut [u32],
 ) -> Opening
-    requires { ⌜ (Grounds d) × (Spans (d .nest) (now spans)) × (3072 ≤ length (now spans)) × (length (now ports) ≡ 116736) ⌝ }
+    requires { ⌜ (Grounds d) × (Spans (d .nest) (now spans)) × (spanWords ≤ length (now spans)) × (length (now ports) ≡ portTableWords) ⌝ }
     ensures { λ r. ⌜ Opens d (memoryOf (now (waiting .entry)) (now (received .entry)) (now (state .entry))) (now (ports .exit)) r ⌝ }
 {
     let f = figures::figures_of(d, spans);
@@ -84,10 +85,10 @@ fn open_within(
     waiting: &[u32],
     received: &[u32],
     state: &[u32],
-    spans: &mut [u32; 3072],
+    spans: &mut [u32; SPANS],
     ports: &mut [u32],
 ) -> Opening
-    requires { ⌜ (UpTo limits gaugeLimits) × (length (now ports) ≡ 116736) ⌝ }
+    requires { ⌜ (UpTo limits gaugeLimits) × (length (now ports) ≡ portTableWords) ⌝ }
     ensures { λ r. ⌜ (r .refusal ≡ refusedBy limits (now (s .entry)) (memoryTests (descriptionOf (now (s .entry)))
         (memoryOf (now (waiting .entry)) (now (received .entry)) (now (state .entry)))))
         × (r .refusal ≡ 0 → Opened (now (s .entry)) (memoryOf (now (waiting .entry)) (now (received .entry)) (now (state .entry))) (now (ports .exit)) (r .size))
@@ -122,10 +123,10 @@ pub fn open(
     waiting: &[u32],
     received: &[u32],
     state: &[u32],
-    spans: &mut [u32; 3072],
+    spans: &mut [u32; SPANS],
     ports: &mut [u32],
 ) -> Opening
-    requires { ⌜ length (now ports) ≡ 116736 ⌝ }
+    requires { ⌜ length (now ports) ≡ portTableWords ⌝ }
     ensures { λ r. ⌜ (r .refusal ≡ refusedBy (limitsOf board) (now (s .entry)) (memoryTests (descriptionOf (now (s .entry)))
         (memoryOf (now (waiting .entry)) (now (received .entry)) (now (state .entry)))))
         × (r .refusal ≡ 0 → Opened (now (s .entry)) (memoryOf (now (waiting .entry)) (now (received .entry)) (now (state .entry))) (now (ports .exit)) (r .size))

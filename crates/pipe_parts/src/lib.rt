@@ -8,6 +8,7 @@ ghost use mathlib.Core.Path.{_≡_};
 ghost use mathlib.Core.Bool.{_&&_};
 ghost use Prim.Native.Nat.{_≤_};
 ghost use lib.ListN.{length};
+ghost use Rattle.meaning.specs.Limits.{gaugeLimits};
 ghost use Rattle.integers.specs.Fill.{fillBy};
 ghost use Rattle.meaning.specs.Pipes.{isEntry, isPipe};
 ghost use Rattle.layout.specs.Spans.{processOf};
@@ -30,7 +31,7 @@ pub fn is_entry(f: Flow, spans: &[u32], lanes: &[u32], p: usize) -> bool
 // The elements that the pipe of process p has, if p is its entry.
 fn entering_length(f: Flow, spans: &[u32], lanes: &[u32], p: usize) -> u32
     requires { ⌜ Near f (now spans) (now lanes) p ⌝ }
-    ensures { λ r. ⌜ (r ≡ enteringLength (f .nest) (f .stream) p) × (r ≤ 4096) ⌝ }
+    ensures { λ r. ⌜ (r ≡ enteringLength (f .nest) (f .stream) p) × (r ≤ gaugeLimits .instances) ⌝ }
 {
     if is_entry(f, spans, lanes, p) {
         pipes::total_at(f, spans, lanes, p)

@@ -9,20 +9,31 @@ ghost use mathlib.Core.Bool.{false};
 ghost use Prim.Native.Nat.{_+_, _≤_, _<_};
 ghost use lib.Dec.{T};
 ghost use lib.ListN.{length, getD};
+ghost use Rattle.meaning.specs.Limits.{gaugeLimits};
 ghost use Rattle.integers.specs.Vectors.{image};
 ghost use Rattle.integers.specs.Fill.{fillBy};
 ghost use Rattle.meaning.specs.Space.{first, last};
 ghost use Rattle.meaning.specs.Pipes.{pipeElements, soak, drain};
 ghost use Rattle.meaning.specs.Array.{rowSoak};
-ghost use Rattle.layout.specs.Spans.{processOf, Spans};
+ghost use Rattle.layout.specs.Spans.{processOf, Spans, spanWords};
 ghost use Rattle.lanes.specs.Held.{computes};
 ghost use Rattle.lanes.specs.Flow.{Laid};
 ghost use Rattle.pipes.specs.Elements.{At, Near, rowDrain, Filling};
 ghost use Rattle.pipes.specs.Passed.{Passed};
 use integers::V2;
+use lanes::BEFORE;
 use lanes::Flow;
+use lanes::HELD;
+use lanes::LANES;
+use lanes::ONE;
+use layout::FIRSTS;
+use layout::LASTS;
 use meaning::Nest;
+use meaning::PROCESSES;
 use meaning::Stream;
+
+// The words of a stream: the soaks of the processes, then their drains.
+pub const BLOCK: usize = 2 * PROCESSES;
 
 // ---- a computing process
 
@@ -33,7 +44,7 @@ fn first_element(f: Flow, spans: &[u32], p: usize) -> V2
 {
     let n = f.nest;
     let map = f.stream.map;
-    vectors::image_of(map, numbering::instance(n, spans[1024 + p] - 1))
+    vectors::image_of(map, numbering::instance(n, spans[FIRSTS + p] - 1))
 }
 
 fn last_element(f: Flow, spans: &[u32], p: usize) -> V2
@@ -42,7 +53,7 @@ fn last_element(f: Flow, spans: &[u32], p: usize) -> V2
 {
     let n = f.nest;
     let map = f.stream.map;
-    vectors::image_of(map, numbering::instance(n, spans[2048 + p] - 1))
+    vectors::image_of(map, numbering::instance(n, spans[LASTS + p] - 1))
 }
 
 // Of a moving stream: its soak, its drain, and how many elements its pipe has.
@@ -66,7 +77,7 @@ fn drain_at(f: Flow, spans: &[u32], p: usize) -> u32
 
 fn length_at(f: Flow, spans: &[u32], p: usize) -> u32
     requires { ⌜ (At f (now spans) p) × (T (f .moving)) ⌝ }
-    ensures { λ r. ⌜ (r ≡ length (pipeElements (f .nest) (f .stream) (processOf (f .nest) p))) × (r ≤ 4096) ⌝ }
+    ensures { λ r. ⌜ (r ≡ length (pipeElements (f .nest) (f .stream) (processOf (f .nest) p))) × (r ≤ gaugeLimits .instances) ⌝ }
 {
     let elements = f.elements;
     let against = f.against;
@@ -80,7 +91,7 @@ fn length_at(f: Flow, spans: &[u32], p: usize) -> u32
 // The entry of its line.
 pub fn entry_at(f: Flow, spans: &[u32], lanes: &[u32], p: usize) -> usize
     requires { ⌜ Near f (now spans) (now lanes) p ⌝ }
-    ensures { λ r. ⌜ (r ≡ getD (now (lanes .entry)) p 0) × (r < 1024) ⌝ }
+    ensures { λ r. ⌜ (r ≡ getD (now (lanes .entry)) p 0) × (r < gaugeLimits .processes) ⌝ }
 {
     lanes[p] as usize
 }
@@ -91,15 +102,15 @@ pub fn held_at(f: Flow, spans: &[u32], lanes: &[u32], p: usize) -> u32
     ensures { λ r. ⌜ r ≡ getD (now (lanes .entry)) (2048 + getD (now (lanes .entry)) p 0) 0 ⌝ }
 {
     let e = entry_at(f, spans, lanes, p);
-    lanes[2048 + e]
+    lanes[HELD + e]
 }
 
 fn one_at(f: Flow, spans: &[u32], lanes: &[u32], p: usize) -> u32
     requires { ⌜ Near f (now spans) (now lanes) p ⌝ }
-    ensures { λ r. ⌜ r ≡ getD (now (lanes .entry)) (3072 + getD (now (lanes .entry)) p 0) 0 ⌝ }
+    ensures { λ r. ⌜ r ≡ getD (now (lanes .entry)) (spanWords + getD (now (lanes .entry)) p 0) 0 ⌝ }
 {
     let e = entry_at(f, spans, lanes, p);
-    lanes[3072 + e]
+    lanes[ONE + e]
 }
 
 // Of a stationary stream: its soak, the number of computing processes before it on its pipe.
@@ -107,7 +118,7 @@ pub fn rank_at(f: Flow, spans: &[u32], lanes: &[u32], p: usize) -> u32
     requires { ⌜ (Near f (now spans) (now lanes) p) × (T (computes (f .nest) p)) × (f .moving ≡ false) ⌝ }
     ensures { λ r. ⌜ r ≡ soak (f .nest) (f .stream) (processOf (f .nest) p) ⌝ }
 {
-    let running = lanes[1024 + p];
+    let running = lanes[BEFORE + p];
     if f.turned {
         held_at(f, spans, lanes, p) - 1 - running
     } else {
@@ -120,7 +131,7 @@ pub fn rank_at(f: Flow, spans: &[u32], lanes: &[u32], p: usize) -> u32
 // How many elements its pipe has, 0 without a pipe.
 pub fn total_at(f: Flow, spans: &[u32], lanes: &[u32], p: usize) -> u32
     requires { ⌜ Near f (now spans) (now lanes) p ⌝ }
-    ensures { λ r. ⌜ (r ≡ length (pipeElements (f .nest) (f .stream) (processOf (f .nest) p))) × (r ≤ 4096) ⌝ }
+    ensures { λ r. ⌜ (r ≡ length (pipeElements (f .nest) (f .stream) (processOf (f .nest) p))) × (r ≤ gaugeLimits .instances) ⌝ }
 {
     if f.moving {
         let q = one_at(f, spans, lanes, p);
@@ -191,14 +202,14 @@ fn fill_drains(f: Flow, processes: u32, spans: &[u32], lanes: &[u32], out: &mut 
 // The soaks of a stream at all processes, and from word 1,024 on its drains; the words of the processes are lent as `layout::fill_processes` leaves
 // them.
 pub fn fill_stream(n: Nest, s: Stream, spans: &[u32], block: &mut [u32])
-    requires { ⌜ (Laid n s) × (Spans n (now spans)) × (3072 ≤ length (now spans)) × (2048 ≤ length (now block)) ⌝ }
+    requires { ⌜ (Laid n s) × (Spans n (now spans)) × (spanWords ≤ length (now spans)) × (2048 ≤ length (now block)) ⌝ }
     ensures { λ r. ⌜ Passed n s (now (block .exit)) ⌝ }
 {
     let f = lanes::flow_of(n, s);
     let space = f.space;
     let processes = numbering::size_of(space);
-    let mut lanes = [0u32; 4096];
+    let mut lanes = [0u32; LANES];
     lanes::fill_lanes(f, processes, spans, &mut lanes);
-    fill_soaks(f, processes, spans, &lanes, &mut block[0..1024]);
-    fill_drains(f, processes, spans, &lanes, &mut block[1024..2048]);
+    fill_soaks(f, processes, spans, &lanes, &mut block[0..PROCESSES]);
+    fill_drains(f, processes, spans, &lanes, &mut block[PROCESSES..BLOCK]);
 }

@@ -19,8 +19,10 @@ ghost use Rattle.plain.specs.Columns.{column};
 ghost use Rattle.plain.specs.Places.{Fitting, Filling, Table, numberFrom, place, columns};
 ghost use Rattle.plain.specs.Run.{Called};
 use integers::Matrix;
+use layout::SPANS;
 use meaning::Answer;
 use meaning::Description;
+use meaning::ELEMENTS;
 use meaning::Nest;
 use numbering::Extent;
 
@@ -35,7 +37,7 @@ fn number_of(n: Nest, m: Matrix, e: Extent, k: u32) -> u32
 }
 
 // Column i of the table: the elements of one stream, whose numbers begin at start.
-fn fill_column(n: Nest, m: Matrix, e: Extent, start: u32, i: u32, table: &mut [u32; 24576])
+fn fill_column(n: Nest, m: Matrix, e: Extent, start: u32, i: u32, table: &mut [u32; ELEMENTS])
     requires { ⌜ Filling n m e start i ⌝ }
     ensures { λ r. ⌜ now (table .exit) ≡ column i (numberFrom n m start) (length (instances n)) (now (table .entry)) ⌝ }
 {
@@ -48,7 +50,7 @@ fn fill_column(n: Nest, m: Matrix, e: Extent, start: u32, i: u32, table: &mut [u
 }
 
 // The column of stream i.
-fn fill_stream(d: Description, i: u32, table: &mut [u32; 24576])
+fn fill_stream(d: Description, i: u32, table: &mut [u32; ELEMENTS])
     requires { ⌜ (Fitting d) × (i < d .sizes .streams) ⌝ }
     ensures { λ r. ⌜ now (table .exit) ≡ column i (place d i) (length (instances (d .nest))) (now (table .entry)) ⌝ }
 {
@@ -61,7 +63,7 @@ fn fill_stream(d: Description, i: u32, table: &mut [u32; 24576])
 }
 
 // The columns of all streams: row k then has the elements that instance k touches.
-fn fill_table(d: Description, table: &mut [u32; 24576])
+fn fill_table(d: Description, table: &mut [u32; ELEMENTS])
     requires { ⌜ Fitting d ⌝ }
     ensures { λ r. ⌜ now (table .exit) ≡ columns d (d .sizes .streams) (now (table .entry)) ⌝ }
 {
@@ -113,7 +115,7 @@ fn run_loops(d: Description, store: &mut [u32])
     requires { ⌜ (Fitting d) × (length (now store) ≡ lengthOf d) ⌝ }
     ensures { λ r. ⌜ now (store .exit) ≡ finalValues d (now (store .entry)) ⌝ }
 {
-    let mut table = [0; 24576];
+    let mut table = [0; ELEMENTS];
     fill_table(d, &mut table);
     run_instances(d, &table, store);
 }
@@ -153,7 +155,7 @@ pub fn plain_run(board: u32, s: &[u8], values: &[u32], output: &mut [u32]) -> An
     ensures { λ r. ⌜ (r ≡ plainRun (limitsOf board) (now (s .entry)) (now (values .entry)) (now (output .entry)) .answer)
         × (now (output .exit) ≡ plainRun (limitsOf board) (now (s .entry)) (now (values .entry)) (now (output .entry)) .output) ⌝ }
 {
-    let mut spans = [0u32; 3072];
+    let mut spans = [0u32; SPANS];
     let r = refuse::refusal_of(board, s, &mut spans);
     if r == 0 {
         run_accepted(decode::description(s), values, output)

@@ -16,18 +16,26 @@ ghost use Rattle.meaning.specs.Pipes.{entries};
 ghost use Rattle.meaning.specs.Array.{arrayOf};
 ghost use Rattle.geometry.specs.Descriptions.{Laid};
 ghost use Rattle.addresses.specs.Indices.{strideOf};
-ghost use Rattle.layout.specs.Spans.{Spans};
+ghost use Rattle.layout.specs.Spans.{Spans, spanWords};
 ghost use Rattle.pipe_parts.specs.Starts.{enteringOne};
 ghost use Rattle.figures.specs.Shares.{Described, Sharing};
 ghost use Rattle.port_rows.specs.Strands.{Narrow};
-ghost use Rattle.port_table.specs.PortsOf.{PortsOf};
+ghost use Rattle.port_table.specs.PortsOf.{PortsOf, portTableWords};
 ghost use Rattle.port_fill.specs.Strung.{Slack, strandFrom, join, PortFillable, EndFillable, PortsFillable, EndsFillable, StreamFillable, portRow, endRow, portRows, endRows, streamRows};
 ghost use Rattle.port_fill.specs.Filled.{Started};
 use lanes::Flow;
+use lanes::LANES;
 use meaning::Description;
 use meaning::Nest;
+use meaning::PROCESSES;
 use meaning::Stream;
 use port_rows::Strand;
+use port_table::PORT;
+use port_table::PROCESS;
+
+const PIPE_ROWS: u32 = port_table::PIPE_ROWS as u32;
+
+const END: u32 = port_table::END as u32;
 
 // Over the streams before one: their words in a process, their pipes, and the words of those pipes' ends.
 struct Sums {
@@ -40,7 +48,7 @@ struct Sums {
 
 // With a further stream, of which the links have `hop` places.
 fn joined(t: Sums, hop: u32, pipes: u32) -> Sums
-    requires { ⌜ (Slack t) × (hop ≤ gaugeLimits .hop) × (pipes ≤ 1024) ⌝ }
+    requires { ⌜ (Slack t) × (hop ≤ gaugeLimits .hop) × (pipes ≤ gaugeLimits .processes) ⌝ }
     ensures { λ r. ⌜ r ≡ join t hop pipes ⌝ }
 {
     Sums {
@@ -51,7 +59,7 @@ fn joined(t: Sums, hop: u32, pipes: u32) -> Sums
 }
 
 fn strand_of(n: Nest, s: Stream, processes: u32, stride: u32, t: Sums) -> Strand
-    requires { ⌜ (Sharing n s) × (processes ≤ 1024) × (stride ≤ processWordsMost) × (Slack t) ⌝ }
+    requires { ⌜ (Sharing n s) × (processes ≤ gaugeLimits .processes) × (stride ≤ processWordsMost) × (Slack t) ⌝ }
     ensures { λ r. ⌜ (r ≡ strandFrom (hop n s) processes stride t) × (Narrow r) ⌝ }
 {
     Strand {
@@ -91,11 +99,11 @@ fn put_port(
     p: usize,
     ports: &mut [u32],
 )
-    requires { ⌜ (PortFillable f g (now spans) (now lanes) (now entered) i p) × (length (now ports) ≡ 116736) ⌝ }
+    requires { ⌜ (PortFillable f g (now spans) (now lanes) (now entered) i p) × (length (now ports) ≡ portTableWords) ⌝ }
     ensures { λ r. ⌜ now (ports .exit) ≡ portRow (f .nest) (f .stream) g i p (now (ports .entry)) ⌝ }
 {
     let k = port_rows::row_of(f, g, spans, lanes, entered, p);
-    port_table::put_port(ports, 60 * p + 10 * i, k);
+    port_table::put_port(ports, PROCESS * p + PORT * i, k);
 }
 
 // The rows of all processes.
@@ -109,7 +117,7 @@ fn put_ports(
     i: usize,
     ports: &mut [u32],
 )
-    requires { ⌜ (PortsFillable f g processes (now spans) (now lanes) (now entered) i) × (length (now ports) ≡ 116736) ⌝ }
+    requires { ⌜ (PortsFillable f g processes (now spans) (now lanes) (now entered) i) × (length (now ports) ≡ portTableWords) ⌝ }
     ensures { λ r. ⌜ now (ports .exit) ≡ portRows (f .nest) (f .stream) g i processes (now (ports .entry)) ⌝ }
 {
     let mut p: u32 = 0;
@@ -131,12 +139,12 @@ fn put_end(
     p: usize,
     ports: &mut [u32],
 ) -> u32
-    requires { ⌜ (EndFillable f g (now spans) (now lanes) start base j p) × (length (now ports) ≡ 116736) ⌝ }
+    requires { ⌜ (EndFillable f g (now spans) (now lanes) start base j p) × (length (now ports) ≡ portTableWords) ⌝ }
     ensures { λ r. ⌜ (r ≡ enteringOne (f .nest) (f .stream) p) × (now (ports .exit) ≡ endRow (f .nest) (f .stream) g start base j p (now (ports .entry))) ⌝ }
 {
     if pipe_parts::is_entry(f, spans, lanes, p) {
         let e = port_rows::end_of(f, g, spans, lanes, start, j, p);
-        port_table::put_end(ports, (61440 + 9 * (base + j)) as usize, e);
+        port_table::put_end(ports, (PIPE_ROWS + END * (base + j)) as usize, e);
         1
     } else {
         0
@@ -155,7 +163,7 @@ fn put_ends(
     base: u32,
     ports: &mut [u32],
 ) -> u32
-    requires { ⌜ (EndsFillable f g processes (now spans) (now lanes) (now starts) first base) × (length (now ports) ≡ 116736) ⌝ }
+    requires { ⌜ (EndsFillable f g processes (now spans) (now lanes) (now starts) first base) × (length (now ports) ≡ portTableWords) ⌝ }
     ensures { λ r. ⌜ (r ≡ length (entries (f .nest) (f .stream))) × (now (ports .exit) ≡ endRows (f .nest) (f .stream) g first base processes (now (ports .entry))) ⌝ }
 {
     let mut j: u32 = 0;
@@ -179,18 +187,18 @@ fn fill_stream(
     spans: &[u32],
     ports: &mut [u32],
 ) -> u32
-    requires { ⌜ (StreamFillable n s g i first base (now spans)) × (length (now ports) ≡ 116736) ⌝ }
+    requires { ⌜ (StreamFillable n s g i first base (now spans)) × (length (now ports) ≡ portTableWords) ⌝ }
     ensures { λ r. ⌜ (r ≡ length (entries n s)) × (now (ports .exit) ≡ streamRows n s g i first base (now (ports .entry))) ⌝ }
 {
     let f = lanes::flow_of(n, s);
     let space = f.space;
     let processes = numbering::size_of(space);
-    let mut lanes = [0u32; 4096];
+    let mut lanes = [0u32; LANES];
     lanes::fill_lanes(f, processes, spans, &mut lanes);
-    let mut entered = [0u32; 1024];
+    let mut entered = [0u32; PROCESSES];
     pipe_parts::fill_entered(f, processes, spans, &lanes, &mut entered);
     put_ports(f, g, processes, spans, &lanes, &entered, i, ports);
-    let mut starts = [0u32; 1024];
+    let mut starts = [0u32; PROCESSES];
     pipe_parts::fill_starts(f, processes, spans, &lanes, first, &mut starts);
     put_ends(f, g, processes, spans, &lanes, &starts, first, base, ports)
 }
@@ -198,7 +206,7 @@ fn fill_stream(
 // ---- all streams
 
 fn fill_streams(d: Description, stride: u32, processes: u32, spans: &[u32], ports: &mut [u32])
-    requires { ⌜ (Started d stride processes (now spans)) × (length (now ports) ≡ 116736) ⌝ }
+    requires { ⌜ (Started d stride processes (now spans)) × (length (now ports) ≡ portTableWords) ⌝ }
     ensures { λ r. ⌜ PortsOf (arrayOf d) (now (ports .exit)) ⌝ }
 {
     let n = d.nest;
@@ -223,7 +231,7 @@ fn fill_streams(d: Description, stride: u32, processes: u32, spans: &[u32], port
 
 // The port table of an accepted description.
 pub fn fill_ports(d: Description, spans: &[u32], ports: &mut [u32])
-    requires { ⌜ (Described d) × (Laid d) × (Spans (d .nest) (now spans)) × (3072 ≤ length (now spans)) × (length (now ports) ≡ 116736) ⌝ }
+    requires { ⌜ (Described d) × (Laid d) × (Spans (d .nest) (now spans)) × (spanWords ≤ length (now spans)) × (length (now ports) ≡ portTableWords) ⌝ }
     ensures { λ r. ⌜ PortsOf (arrayOf d) (now (ports .exit)) ⌝ }
 {
     let n = d.nest;

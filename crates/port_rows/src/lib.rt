@@ -11,7 +11,7 @@ ghost use lib.Dec.{eqb};
 ghost use lib.IntN.{pos};
 ghost use lib.ListN.{length};
 ghost use Rattle.integers.specs.Vectors.{shift2};
-ghost use Rattle.meaning.specs.Limits.{endWordsMost, stateWordsMost};
+ghost use Rattle.meaning.specs.Limits.{endWordsMost, stateWordsMost, gaugeLimits};
 ghost use Rattle.meaning.specs.Space.{rowIndex, space, processes};
 ghost use Rattle.meaning.specs.Streams.{move};
 ghost use Rattle.meaning.specs.Pipes.{reach, before};
@@ -41,7 +41,7 @@ struct Link {
 
 // The index of the words of process p and the stream.
 fn port_at(g: Strand, p: u32) -> u32
-    requires { ⌜ (Narrow g) × (p < 1024) ⌝ }
+    requires { ⌜ (Narrow g) × (p < gaugeLimits .processes) ⌝ }
     ensures { λ r. ⌜ (r ≡ p * g .stride + g .offset) × (r ≤ stateWordsMost) ⌝ }
 {
     p * g.stride + g.offset
@@ -49,7 +49,7 @@ fn port_at(g: Strand, p: u32) -> u32
 
 // The index of the words of the ends of the stream's pipe j.
 fn end_at(g: Strand, j: u32) -> u32
-    requires { ⌜ (Narrow g) × (j ≤ 1024) ⌝ }
+    requires { ⌜ (Narrow g) × (j ≤ gaugeLimits .processes) ⌝ }
     ensures { λ r. ⌜ (r ≡ g .tail + j * (2 + g .hop)) × (r ≤ stateWordsMost + endWordsMost) ⌝ }
 {
     g.tail + j * (2 + g.hop)
@@ -69,7 +69,7 @@ pub fn position(f: Flow, p: u32) -> u32
 // The number of the process that lies k moves on from process p: the next one where k is 1.
 pub fn number_on(f: Flow, p: u32, k: u32) -> u32
     requires { ⌜ (Flows f) × (p < length (processes (f .nest))) × (k ≤ reach (space (f .nest)) (move (f .nest) (f .stream)) (processOf (f .nest) p)) ⌝ }
-    ensures { λ r. ⌜ (r ≡ rowIndex (space (f .nest)) (shift2 (processOf (f .nest) p) (pos k) (move (f .nest) (f .stream)))) × (r < 1024) ⌝ }
+    ensures { λ r. ⌜ (r ≡ rowIndex (space (f .nest)) (shift2 (processOf (f .nest) p) (pos k) (move (f .nest) (f .stream)))) × (r < gaugeLimits .processes) ⌝ }
 {
     let space = f.space;
     let way = f.way;
@@ -80,7 +80,7 @@ pub fn number_on(f: Flow, p: u32, k: u32) -> u32
 // The number of the process before process p, which is no entry.
 pub fn number_back(f: Flow, p: u32) -> u32
     requires { ⌜ (Flows f) × (p < length (processes (f .nest))) × (0 < before (f .nest) (f .stream) (processOf (f .nest) p)) ⌝ }
-    ensures { λ r. ⌜ (r ≡ rowIndex (space (f .nest)) (backOf (f .nest) (f .stream) (processOf (f .nest) p))) × (r < 1024) ⌝ }
+    ensures { λ r. ⌜ (r ≡ rowIndex (space (f .nest)) (backOf (f .nest) (f .stream) (processOf (f .nest) p))) × (r < gaugeLimits .processes) ⌝ }
 {
     let space = f.space;
     let back = f.back;
@@ -91,7 +91,7 @@ pub fn number_back(f: Flow, p: u32) -> u32
 // The number of the pipe of process p in the stream.
 fn pipe_number(f: Flow, spans: &[u32], lanes: &[u32], entered: &[u32], p: usize) -> u32
     requires { ⌜ PortGiven f (now spans) (now lanes) (now entered) p ⌝ }
-    ensures { λ r. ⌜ (r ≡ pipeOf (f .nest) (f .stream) p) × (r ≤ 1024) ⌝ }
+    ensures { λ r. ⌜ (r ≡ pipeOf (f .nest) (f .stream) p) × (r ≤ gaugeLimits .processes) ⌝ }
 {
     let e = pipes::entry_at(f, spans, lanes, p);
     entered[e]
@@ -163,7 +163,7 @@ fn port_of(f: Flow, g: Strand, spans: &[u32], lanes: &[u32], entered: &[u32], p:
 
 // The row of process p off every pipe: a link without places. The process has so many instances.
 fn off_of(g: Strand, count: u32, p: u32) -> Port
-    requires { ⌜ (Narrow g) × (p < 1024) ⌝ }
+    requires { ⌜ (Narrow g) × (p < gaugeLimits .processes) ⌝ }
     ensures { λ r. ⌜ r ≡ offFrom g count p ⌝ }
 {
     let at = port_at(g, p) as usize;
@@ -195,7 +195,7 @@ pub fn row_of(f: Flow, g: Strand, spans: &[u32], lanes: &[u32], entered: &[u32],
 
 // The row of the stream's pipe j, which enters at process p; its part of the lists begins at `start`.
 pub fn end_of(f: Flow, g: Strand, spans: &[u32], lanes: &[u32], start: u32, j: u32, p: usize) -> End
-    requires { ⌜ (Near f (now spans) (now lanes) p) × (Narrow g) × (j ≤ 1024) ⌝ }
+    requires { ⌜ (Near f (now spans) (now lanes) p) × (Narrow g) × (j ≤ gaugeLimits .processes) ⌝ }
     ensures { λ r. ⌜ r ≡ endFrom (f .nest) (f .stream) g start j p ⌝ }
 {
     let space = f.space;

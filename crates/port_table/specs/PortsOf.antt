@@ -3,6 +3,7 @@ use mathlib.Core.Path.{_≡_}
 use mathlib.Core.List.{List, [], _∷_}
 use Prim.Native.Nat.{ℕ, _+_, _*_, _≤_, _<_}
 use lib.ListN.{length}
+use Rattle.meaning.specs.Limits.{gaugeLimits, pipesMost}
 use Rattle.meaning.specs.Array.{Array, processCount, streamCount, pipeNumber}
 use Rattle.ports.specs.declared.Port.{Port}
 use Rattle.ports.specs.declared.End.{End}
@@ -11,6 +12,10 @@ use Rattle.ports.specs.Ports.{PortFits}
 use Rattle.ports.specs.Ends.{endOf, EndFits}
 use Rattle.port_table.specs.declared.Size.{Size}
 use Rattle.port_table.specs.Rows.{portRead, endRead}
+
+-- the words of a port table: ten for each port, nine for each pipe
+abbrev pub portTableWords : ℕ
+portTableWords = gaugeLimits .processes * 60 + pipesMost * 9
 
 -- the row of process p and stream i, the six rows of process p, and the row of pipe q
 abbrev pub portAt : List ℕ → ℕ → ℕ → Port

@@ -10,11 +10,26 @@ ghost use mathlib.Core.Path.{_≡_};
 ghost use mathlib.Core.Bool.{cond};
 ghost use Prim.Native.Nat.{_+_, _≤_, _<_};
 ghost use lib.ListN.{length};
+ghost use Rattle.meaning.specs.Limits.{gaugeLimits, pipesMost};
 ghost use Rattle.port_table.specs.Stored.{stored};
 ghost use Rattle.port_table.specs.Rows.{PortWide, EndWide, portWords, endWords, portRead, endRead};
-ghost use Rattle.port_table.specs.PortsOf.{portAt, endAt, portsAt};
+ghost use Rattle.port_table.specs.PortsOf.{portAt, endAt, portsAt, portTableWords};
+use meaning::PIPES;
+use meaning::PROCESSES;
+use meaning::STREAMS;
 use ports::End;
 use ports::Port;
+
+// The words of a port, of a process and of a pipe's ends; where those of the pipes begin, and the words of all.
+pub const PORT: usize = 10;
+
+pub const PROCESS: usize = STREAMS * PORT;
+
+pub const END: usize = 9;
+
+pub const PIPE_ROWS: usize = PROCESSES * PROCESS;
+
+pub const PORTS: usize = PIPE_ROWS + PIPES * END;
 
 // How many processes, streams and pipes there are.
 pub struct Size {
@@ -43,7 +58,7 @@ fn flag(b: bool) -> u32
 }
 
 // The words of a port's row.
-fn port_words(k: Port) -> [u32; 10]
+fn port_words(k: Port) -> [u32; PORT]
     requires { ⌜ PortWide k ⌝ }
     ensures { λ r. ⌜ r ≡ portWords k ⌝ }
 {
@@ -62,7 +77,7 @@ fn port_words(k: Port) -> [u32; 10]
 }
 
 // The words of the row of a pipe's ends.
-fn end_words(e: End) -> [u32; 9]
+fn end_words(e: End) -> [u32; END]
     requires { ⌜ EndWide e ⌝ }
     ensures { λ r. ⌜ r ≡ endWords e ⌝ }
 {
@@ -136,23 +151,23 @@ fn end_read(ports: &[u32], at: usize) -> End
 
 // The row of process p and stream i.
 pub fn port(ports: &[u32], p: usize, i: usize) -> Port
-    requires { ⌜ (length (now ports) ≡ 116736) × (p < 1024) × (i < 6) ⌝ }
+    requires { ⌜ (length (now ports) ≡ portTableWords) × (p < gaugeLimits .processes) × (i < 6) ⌝ }
     ensures { λ r. ⌜ r ≡ portAt (now (ports .entry)) p i ⌝ }
 {
-    port_read(ports, 60 * p + 10 * i)
+    port_read(ports, PROCESS * p + PORT * i)
 }
 
 // The row of pipe q.
 pub fn end(ports: &[u32], q: usize) -> End
-    requires { ⌜ (length (now ports) ≡ 116736) × (q < 6144) ⌝ }
+    requires { ⌜ (length (now ports) ≡ portTableWords) × (q < pipesMost) ⌝ }
     ensures { λ r. ⌜ r ≡ endAt (now (ports .entry)) q ⌝ }
 {
-    end_read(ports, 61440 + 9 * q)
+    end_read(ports, PIPE_ROWS + END * q)
 }
 
 // The rows of process p.
 pub fn ports_of(ports: &[u32], p: usize) -> [Port; 6]
-    requires { ⌜ (length (now ports) ≡ 116736) × (p < 1024) ⌝ }
+    requires { ⌜ (length (now ports) ≡ portTableWords) × (p < gaugeLimits .processes) ⌝ }
     ensures { λ r. ⌜ r ≡ portsAt (now (ports .entry)) p ⌝ }
 {
     [

@@ -3,6 +3,7 @@
 use libc::STDIN_FILENO;
 use meaning::Acceptance;
 use meaning::Figures;
+use meaning::PROCESSES;
 use meaning::Row;
 
 // ---- a row
@@ -73,9 +74,9 @@ fn print_figures(f: Figures) {
     text::print_line(line, end);
 }
 
-fn print_rows(rows: [Row; 1024], count: u32, loops: u32, streams: u32) {
+fn print_rows(rows: [Row; PROCESSES], count: u32, loops: u32, streams: u32) {
     let mut p: usize = 0;
-    while p < 1024 {
+    while p < PROCESSES {
         if count <= p as u32 {
             return;
         }
@@ -88,7 +89,7 @@ fn print_accepted(board: u32, s: &[u8], f: Figures) {
     print_figures(f);
     let loops = integers::bits_at(s, 0);
     let streams = integers::bits_at(s, 1);
-    let listed = table_rows::table(s, 1024, board);
+    let listed = table_rows::table(s, PROCESSES, board);
     let rows = listed.rows;
     print_rows(rows, f.processes, loops, streams);
 }

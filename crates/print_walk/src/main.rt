@@ -5,8 +5,10 @@ ghost use Rattle.vectors.specs.Within.{Within};
 ghost use Rattle.numbering.specs.Ranges.{Bounded};
 ghost use Rattle.walk.specs.Walked.{Along, Readable};
 use integers::V3;
+use layout::SPANS;
 use libc::STDIN_FILENO;
 use meaning::Nest;
+use walk::WALK;
 
 fn put_visit(line: &mut [u8; 256], n: Nest, x: V3, loops: u32) -> usize
     requires { ⌜ (Bounded n) × (Within 64 x) ⌝ }
@@ -63,8 +65,8 @@ fn print_whole(n: Nest, walk: &[i32], loops: u32)
 }
 
 fn print_walk(board: u32, s: &[u8]) {
-    let mut spans = [0u32; 3072];
-    let mut walk = [0i32; 12288];
+    let mut spans = [0u32; SPANS];
+    let mut walk = [0i32; WALK];
     let refusal = refuse::walk_of(board, s, &mut spans, &mut walk);
     if refusal == 0 {
         let n = decode::description(s).nest;

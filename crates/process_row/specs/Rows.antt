@@ -3,9 +3,10 @@
 use mathlib.Core.Path.{_≡_, refl, ap}
 use mathlib.Core.Logic.{_≢_}
 use mathlib.Core.List.{List, [], _∷_}
-use Prim.Native.Nat.{ℕ, zero, suc, _+_, _-_, _≤_, _<_}
+use Prim.Native.Nat.{ℕ, zero, suc, _+_, _-_, _≤_, _<_, _*_}
 use native.Mathlib.Omega.{arith}
 use lib.ListN.{length, getD}
+use Rattle.meaning.specs.Limits.{gaugeLimits}
 use Rattle.integers.specs.Vectors.{zero2, zero3}
 use Rattle.meaning.specs.declared.Nest.{Nest}
 use Rattle.meaning.specs.declared.Row.{Row}
@@ -13,8 +14,12 @@ use Rattle.meaning.specs.Loops.{instances}
 use Rattle.meaning.specs.Space.{points}
 use Rattle.numbering.specs.Ranges.{Bounded}
 use Rattle.numbering.specs.Extents.{Spanning, boxed}
-use Rattle.layout.specs.Spans.{numbered}
+use Rattle.layout.specs.Spans.{numbered, spanWords}
 use Rattle.process_row.specs.declared.Shape.{Shape}
+
+-- the words of the plan: those of the processes, then for each stream soaks and drains
+abbrev pub planWords : ℕ
+planWords = spanWords + 6 * (2 * gaugeLimits .processes)
 
 pub numbered-none : (n : Nest) (k : ℕ) → k ≡ 0 → zero3 ≡ numbered n k
 numbered-none n k e = rw e refl

@@ -1,15 +1,27 @@
 // One row of the table, read off the words of its plan. In specs/, Rows says where each word of a row stands there.
 ghost use mathlib.Core.Path.{_≡_};
-ghost use Prim.Native.Nat.{_<_, _≤_, _+_};
+ghost use Prim.Native.Nat.{_<_, _≤_, _+_, _*_};
 ghost use lib.ListN.{length};
+ghost use Rattle.meaning.specs.Limits.{gaugeLimits};
 ghost use Rattle.meaning.specs.Loops.{instances};
 ghost use Rattle.numbering.specs.Ranges.{Bounded};
 ghost use Rattle.layout.specs.Spans.{numbered};
-ghost use Rattle.process_row.specs.Rows.{byStream, rowFrom, Readable};
+ghost use Rattle.process_row.specs.Rows.{byStream, rowFrom, Readable, planWords};
 use integers::V3;
+use layout::FIRSTS;
+use layout::LASTS;
+use layout::SPANS;
 use meaning::Nest;
+use meaning::PROCESSES;
 use meaning::Row;
+use meaning::STREAMS;
 use numbering::Extent;
+use pipes::BLOCK;
+
+// The words of the plan: those of the processes, then a block for each stream, whose drains begin in the first at `DRAINS`.
+const DRAINS: usize = SPANS + PROCESSES;
+
+pub const PLAN: usize = SPANS + STREAMS * BLOCK;
 
 // What the rows need beside the plan's words: the refusal, 0 if there is none, the number of rows to fill, the loops and the process space.
 pub struct Shape {
@@ -32,35 +44,35 @@ fn instance_numbered(n: Nest, k: u32) -> V3
 }
 
 // The words of all streams at one process, the first stream's at word k.
-fn by_stream(words: &[u32; 15360], k: usize) -> [u32; 6]
-    requires { ⌜ k + 10240 < 15360 ⌝ }
+fn by_stream(words: &[u32; PLAN], k: usize) -> [u32; 6]
+    requires { ⌜ k + 5 * (2 * gaugeLimits .processes) < planWords ⌝ }
     ensures { λ r. ⌜ r ≡ byStream (now (words .entry)) k ⌝ }
 {
     [
         words[k],
-        words[k + 2048],
-        words[k + 4096],
-        words[k + 6144],
-        words[k + 8192],
-        words[k + 10240],
+        words[k + BLOCK],
+        words[k + 2 * BLOCK],
+        words[k + 3 * BLOCK],
+        words[k + 4 * BLOCK],
+        words[k + 5 * BLOCK],
     ]
 }
 
 // The row of process p.
-pub fn row_at(shape: Shape, words: &[u32; 15360], p: usize) -> Row
+pub fn row_at(shape: Shape, words: &[u32; PLAN], p: usize) -> Row
     requires { ⌜ Readable shape (now words) p ⌝ }
     ensures { λ r. ⌜ r ≡ rowFrom shape (now (words .entry)) p ⌝ }
 {
     let nest = shape.nest;
     let space = shape.space;
-    let first = words[1024 + p];
-    let last = words[2048 + p];
+    let first = words[FIRSTS + p];
+    let last = words[LASTS + p];
     Row {
         point: layout::point_at(space, p as u32),
         count: words[p],
         first: instance_numbered(nest, first),
         last: instance_numbered(nest, last),
-        soak: by_stream(words, 3072 + p),
-        drain: by_stream(words, 4096 + p),
+        soak: by_stream(words, SPANS + p),
+        drain: by_stream(words, DRAINS + p),
     }
 }

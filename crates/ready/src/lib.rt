@@ -7,7 +7,9 @@ ghost use Rattle.meaning.specs.Rules.{memoryOf};
 ghost use Rattle.meaning.specs.Calls.{readyCall};
 ghost use Rattle.port_table.specs.PortsOf.{RowsFit};
 ghost use Rattle.ready.specs.Call.{answerBy, leftBy};
+use layout::SPANS;
 use meaning::Readiness;
+use port_table::PORTS;
 use port_table::Size;
 
 // The call once the memory is opened: 27, or the words, how many and the lowest.
@@ -42,8 +44,8 @@ pub fn ready(
         × (now (words .exit) ≡ readyCall (limitsOf board) (now (s .entry)) (now (words .entry))
         (memoryOf (now (waiting .entry)) (now (received .entry)) (now (state .entry))) .words) ⌝ }
 {
-    let mut spans = [0u32; 3072];
-    let mut ports = [0u32; 116736];
+    let mut spans = [0u32; SPANS];
+    let mut ports = [0u32; PORTS];
     let o = opening::open(board, s, waiting, received, state, &mut spans, &mut ports);
     let r = o.refusal;
     if r == 0 {

@@ -7,6 +7,16 @@ use lib.Dec.{eqb}
 use lib.ListN.{length, getD, set}
 use Rattle.meaning.specs.Lists.{any, numbers}
 
+-- the numbers that may be members, their blocks of 32, and the words of the flags and of the two levels above them
+abbrev pub members : ℕ
+members = 32768
+
+abbrev pub blocks : ℕ
+blocks = 1024
+
+abbrev pub flagWords : ℕ
+flagWords = members + blocks + 32
+
 -- a truth as a word
 abbrev pub flag : Bool → ℕ
 flag b = cond b 1 0

@@ -12,7 +12,14 @@ ghost use mathlib.Core.Bool.{Bool};
 ghost use Prim.Native.Nat.{ℕ, _+_, _<_, _≤_};
 ghost use lib.ListN.{length};
 ghost use Rattle.meaning.specs.Lists.{any, position, numbers};
-ghost use Rattle.ready_set.specs.Flags.{flag, Kept, put, on, above, putAbove};
+ghost use Rattle.ready_set.specs.Flags.{flag, Kept, put, on, above, putAbove, flagWords, members, blocks};
+
+// The numbers that may be members, where the words above the blocks of blocks begin, and all words.
+pub const MEMBERS: usize = 32768;
+
+const UPPER: usize = MEMBERS + MEMBERS / 32;
+
+pub const FLAGS: usize = UPPER + MEMBERS / 32 / 32;
 
 // The first of the 32 words from `from` on that is not 0, counted from 0; 32 if there is none.
 fn first_in(l: &[u32], from: usize) -> usize
@@ -54,21 +61,21 @@ fn above(l: &[u32], from: usize, b: bool) -> u32
 
 // The words above block k, in which a flag has become b; the upper one stays if the lower does.
 fn put_above(l: &mut [u32], k: usize, b: bool)
-    requires { ⌜ (length (now l) ≡ 33824) × (k < 1024) ⌝ }
+    requires { ⌜ (length (now l) ≡ flagWords) × (k < blocks) ⌝ }
     ensures { λ _. ⌜ now (l .exit) ≡ putAbove (now (l .entry)) k b ⌝ }
 {
     let w = above(l, 32 * k, b);
-    if l[32768 + k] != w {
+    if l[MEMBERS + k] != w {
         let j = k / 32;
-        l[32768 + k] = w;
-        l[33792 + j] = above(l, 32768 + 32 * j, b);
+        l[MEMBERS + k] = w;
+        l[UPPER + j] = above(l, MEMBERS + 32 * j, b);
     }
 }
 
 // Number r is put into the set if b is true, and taken out of it otherwise.
 pub fn put(l: &mut [u32], r: usize, b: bool)
-    requires { ⌜ (length (now l) ≡ 33824) × (r < 32768) ⌝ }
-    ensures { λ _. ⌜ (length (now (l .exit)) ≡ 33824) × ((f : ℕ → Bool) → Kept f (now (l .entry)) → Kept (put f r b) (now (l .exit))) ⌝ }
+    requires { ⌜ (length (now l) ≡ flagWords) × (r < members) ⌝ }
+    ensures { λ _. ⌜ (length (now (l .exit)) ≡ flagWords) × ((f : ℕ → Bool) → Kept f (now (l .entry)) → Kept (put f r b) (now (l .exit))) ⌝ }
 {
     let w = flag(b);
     if l[r] != w {
@@ -79,13 +86,13 @@ pub fn put(l: &mut [u32], r: usize, b: bool)
 
 // The lowest number in the set, 32,768 if it is empty.
 pub fn lowest(l: &[u32]) -> usize
-    requires { ⌜ length (now l) ≡ 33824 ⌝ }
-    ensures { λ r. ⌜ ((f : ℕ → Bool) → Kept f (now (l .entry)) → r ≡ position f (numbers 32768)) ⌝ }
+    requires { ⌜ length (now l) ≡ flagWords ⌝ }
+    ensures { λ r. ⌜ ((f : ℕ → Bool) → Kept f (now (l .entry)) → r ≡ position f (numbers members)) ⌝ }
 {
-    let j = first_in(l, 33792);
+    let j = first_in(l, UPPER);
     if j == 32 {
-        return 32768;
+        return MEMBERS;
     }
-    let k = 32 * j + first_in(l, 32768 + 32 * j);
+    let k = 32 * j + first_in(l, MEMBERS + 32 * j);
     32 * k + first_in(l, 32 * k)
 }

@@ -11,9 +11,11 @@ ghost use Rattle.meaning.specs.Walk.{walkRefusal};
 ghost use Rattle.layout.specs.Spans.{Spans};
 ghost use Rattle.walk.specs.Walked.{Along, Walkable};
 ghost use Rattle.decode.specs.Ranged.{Ranged};
+use layout::SPANS;
 use meaning::Description;
 use meaning::Limits;
 use meaning::Nest;
+use walk::WALK;
 
 // ---- 33 and 1 to 10
 
@@ -47,7 +49,7 @@ fn walk_refusal(s: &[u8], limits: Limits) -> u32
 }
 
 // The words of the processes and of the walk.
-fn fill_nest(n: Nest, spans: &mut [u32; 3072], walk: &mut [i32; 12288])
+fn fill_nest(n: Nest, spans: &mut [u32; SPANS], walk: &mut [i32; WALK])
     requires { ⌜ Walkable n ⌝ }
     ensures { λ r. ⌜ (Spans n (now (spans .exit))) × (Along n (now (walk .exit))) ⌝ }
 {
@@ -56,7 +58,7 @@ fn fill_nest(n: Nest, spans: &mut [u32; 3072], walk: &mut [i32; 12288])
 }
 
 // The same of a description, if there is no such refusal, else they stay.
-fn walk_within(s: &[u8], limits: Limits, spans: &mut [u32; 3072], walk: &mut [i32; 12288]) -> u32
+fn walk_within(s: &[u8], limits: Limits, spans: &mut [u32; SPANS], walk: &mut [i32; WALK]) -> u32
     requires { ⌜ UpTo limits gaugeLimits ⌝ }
     ensures { λ r. ⌜ (r ≡ walkRefusal limits (now (s .entry)))
         × (r ≡ 0 → (Spans (descriptionOf (now (s .entry)) .nest) (now (spans .exit))) × (Along (descriptionOf (now (s .entry)) .nest) (now (walk .exit))))
@@ -71,7 +73,7 @@ fn walk_within(s: &[u8], limits: Limits, spans: &mut [u32; 3072], walk: &mut [i3
 }
 
 // The number by which 33 and 1 to 10 refuse a description, and then no word changes, or 0, and then the words of its processes and of its walk are filled.
-pub fn walk_of(board: u32, s: &[u8], spans: &mut [u32; 3072], walk: &mut [i32; 12288]) -> u32
+pub fn walk_of(board: u32, s: &[u8], spans: &mut [u32; SPANS], walk: &mut [i32; WALK]) -> u32
     ensures { λ r. ⌜ (r ≡ walkRefusal (limitsOf board) (now (s .entry)))
         × (r ≡ 0 → (Spans (descriptionOf (now (s .entry)) .nest) (now (spans .exit))) × (Along (descriptionOf (now (s .entry)) .nest) (now (walk .exit))))
         × ((r ≡ 0 → ⊥) → (now (spans .exit) ≡ now (spans .entry)) × (now (walk .exit) ≡ now (walk .entry))) ⌝ }
@@ -101,11 +103,11 @@ fn streams_refusal(d: Description, limits: Limits, walk: &[i32]) -> u32
 }
 
 // The refusal of a description by its number, 0 if it is accepted; then count, first and last instance of its processes are filled.
-pub fn refusal_within(s: &[u8], limits: Limits, spans: &mut [u32; 3072]) -> u32
+pub fn refusal_within(s: &[u8], limits: Limits, spans: &mut [u32; SPANS]) -> u32
     requires { ⌜ UpTo limits gaugeLimits ⌝ }
     ensures { λ r. ⌜ (r ≡ refusalOf limits (now (s .entry))) × (r ≡ 0 → Spans (descriptionOf (now (s .entry)) .nest) (now (spans .exit))) ⌝ }
 {
-    let mut walk = [0i32; 12288];
+    let mut walk = [0i32; WALK];
     let r = walk_within(s, limits, spans, &mut walk);
     if r == 0 {
         streams_refusal(decode::description(s), limits, &walk)
@@ -115,7 +117,7 @@ pub fn refusal_within(s: &[u8], limits: Limits, spans: &mut [u32; 3072]) -> u32
 }
 
 // The same on a board.
-pub fn refusal_of(board: u32, s: &[u8], spans: &mut [u32; 3072]) -> u32
+pub fn refusal_of(board: u32, s: &[u8], spans: &mut [u32; SPANS]) -> u32
     ensures { λ r. ⌜ (r ≡ refusalOf (limitsOf board) (now (s .entry))) × (r ≡ 0 → Spans (descriptionOf (now (s .entry)) .nest) (now (spans .exit))) ⌝ }
 {
     refusal_within(s, boards::limits_of(board), spans)

@@ -7,6 +7,7 @@ ghost use Rattle.stream_lines.specs.InRange.{InRange};
 ghost use Rattle.walk.specs.Walked.{Along};
 ghost use Rattle.stream_lines.specs.Stages.{orderTests, moveTests};
 use integers::V3;
+use meaning::INSTANCES;
 use meaning::Limits;
 use meaning::Nest;
 use meaning::Stream;
@@ -78,7 +79,7 @@ fn elements_refused(n: Nest, s: Stream, walk: &[i32]) -> bool
     if instances < elements {
         return true;
     }
-    let mut marks = [false; 4096];
+    let mut marks = [false; INSTANCES];
     walk::untouched(map, e, walk, instances, elements, &mut marks)
 }
 

@@ -11,6 +11,8 @@ ghost use Rattle.decode.specs.Offsets.{Sized};
 ghost use Rattle.decode.specs.Ranges.{lineTest, rangeTest};
 ghost use Rattle.decode.specs.Refusals.{wordTests, lengthTests, firstTests};
 use integers::V3;
+use meaning::LAST_OPERATION;
+use meaning::LINE_WORDS;
 use meaning::Nest;
 use meaning::Sizes;
 
@@ -38,7 +40,7 @@ fn line_within(z: Sizes, j: u32, n: u32, u: u32) -> bool
     ensures { λ r. ⌜ r ≡ lineTest z j n u ⌝ }
 {
     if j == 0 {
-        return u <= 6;
+        return u <= LAST_OPERATION;
     }
     if j < 4 {
         return u <= z.streams + 1;
@@ -76,7 +78,7 @@ fn within(z: Sizes, k: u32, n: u32, u: u32) -> bool
     if k < body {
         return n <= 1;
     }
-    line_within(z, (k - body) % 7, n, u)
+    line_within(z, (k - body) % LINE_WORDS, n, u)
 }
 
 // Whether word k is in its range.

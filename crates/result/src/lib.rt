@@ -15,13 +15,16 @@ ghost use Rattle.meaning.specs.Limits.{limitsOf};
 ghost use Rattle.meaning.specs.Description.{descriptionOf};
 ghost use Rattle.meaning.specs.Rules.{memoryOf};
 ghost use Rattle.meaning.specs.Calls.{lengthOf, result};
-ghost use Rattle.layout.specs.Spans.{Spans};
+ghost use Rattle.layout.specs.Spans.{Spans, spanWords};
 ghost use Rattle.element_places.specs.Order.{Placeable};
 ghost use Rattle.result.specs.Out.{outBy, Asked};
 ghost use Rattle.result.specs.Order.{placed, Readable, elementOrder};
 ghost use Rattle.result.specs.Call.{Called, Drawable};
+use layout::SPANS;
 use meaning::Answer;
 use meaning::Description;
+use meaning::ELEMENTS;
+use port_table::PORTS;
 use port_table::Size;
 
 // Whether every pipe is wholly received.
@@ -55,10 +58,10 @@ fn put_in_order(received: &[u32], places: &[u32], elements: usize, output: &mut 
 
 fn fill_output(d: Description, spans: &[u32], received: &[u32], output: &mut [u32])
     requires { ⌜ (Placeable d) × (length (now received) ≡ lengthOf d) × (length (now output) ≡ lengthOf d)
-        × (Spans (d .nest) (now spans)) × (3072 ≤ length (now spans)) ⌝ }
+        × (Spans (d .nest) (now spans)) × (spanWords ≤ length (now spans)) ⌝ }
     ensures { λ r. ⌜ now (output .exit) ≡ elementOrder d (now (received .entry)) ⌝ }
 {
-    let mut places = [0u32; 24576];
+    let mut places = [0u32; ELEMENTS];
     element_places::fill_places(d, spans, &mut places);
     put_in_order(received, &places, received.len(), output);
 }
@@ -74,7 +77,7 @@ fn result_opened(
     output: &mut [u32],
 ) -> Answer
     requires { ⌜ (Drawable (now s) (now ports) z (now received) (now state))
-        × (Spans (descriptionOf (now s) .nest) (now spans)) × (3072 ≤ length (now spans)) ⌝ }
+        × (Spans (descriptionOf (now s) .nest) (now spans)) × (spanWords ≤ length (now spans)) ⌝ }
     ensures { λ r. ⌜ Called (now (s .entry)) (now (received .entry)) (now (state .entry)) (now (output .entry)) r (now (output .exit)) ⌝ }
 {
     let out = all_out(ports, state, z.pipes);
@@ -101,8 +104,8 @@ pub fn result(
         × (now (output .exit)
         ≡ result (limitsOf board) (now (s .entry)) (now (output .entry)) (memoryOf (now (waiting .entry)) (now (received .entry)) (now (state .entry))) .output) ⌝ }
 {
-    let mut spans = [0u32; 3072];
-    let mut ports = [0u32; 116736];
+    let mut spans = [0u32; SPANS];
+    let mut ports = [0u32; PORTS];
     let o = opening::open(board, s, waiting, received, state, &mut spans, &mut ports);
     let r = o.refusal;
     if r == 0 {

@@ -5,11 +5,16 @@ ghost use Rattle.meaning.specs.Limits.{limitsOf};
 ghost use Rattle.meaning.specs.Description.{descriptionOf};
 ghost use Rattle.meaning.specs.Rules.{memoryOf};
 ghost use Rattle.meaning.specs.Calls.{run};
-ghost use Rattle.layout.specs.Spans.{Spans};
+ghost use Rattle.layout.specs.Spans.{Spans, spanWords};
 ghost use Rattle.opening.specs.Opening.{Opened};
 ghost use Rattle.run.specs.Call.{RanBy};
+use layout::SPANS;
 use meaning::Ran;
+use meaning::STATE_WORDS;
+use port_table::PORTS;
 use port_table::Size;
+use ready_set::FLAGS;
+use ready_set::MEMBERS;
 
 // The call once the memory is opened.
 fn run_opened(
@@ -23,14 +28,14 @@ fn run_opened(
     state: &mut [u32],
 ) -> Ran
     requires { ⌜ (Opened (now s) (memoryOf (now waiting) (now received) (now state)) (now ports) z)
-        × (Spans (descriptionOf (now s) .nest) (now spans)) × (length (now spans) ≡ 3072) ⌝ }
+        × (Spans (descriptionOf (now s) .nest) (now spans)) × (length (now spans) ≡ spanWords) ⌝ }
     ensures { λ r. ⌜ RanBy (now (s .entry)) steps (memoryOf (now (waiting .entry)) (now (received .entry)) (now (state .entry))) r
         (memoryOf (now (waiting .entry)) (now (received .exit)) (now (state .exit))) ⌝ }
 {
     let g = step_rules::program_of(decode::description(s));
-    let mut wakeups = [0u32; 99329];
+    let mut wakeups = [0u32; STATE_WORDS + 1];
     wakeups::fill_wakeups(ports, z, &mut wakeups);
-    let mut flags = [0u32; 33824];
+    let mut flags = [0u32; FLAGS];
     wakeups::fill_flags(ports, state, z, &mut flags);
     let done = run_steps::run_steps(
         s,
@@ -47,7 +52,7 @@ fn run_opened(
     );
     Ran::Ran {
         steps: done,
-        ready: ready_set::lowest(&flags) < 32768,
+        ready: ready_set::lowest(&flags) < MEMBERS,
     }
 }
 
@@ -64,8 +69,8 @@ pub fn run(
         × (memoryOf (now (waiting .entry)) (now (received .exit)) (now (state .exit))
         ≡ run (limitsOf board) (now (s .entry)) steps (memoryOf (now (waiting .entry)) (now (received .entry)) (now (state .entry))) .memory) ⌝ }
 {
-    let mut spans = [0u32; 3072];
-    let mut ports = [0u32; 116736];
+    let mut spans = [0u32; SPANS];
+    let mut ports = [0u32; PORTS];
     let o = opening::open(board, s, waiting, received, state, &mut spans, &mut ports);
     let r = o.refusal;
     if r == 0 {

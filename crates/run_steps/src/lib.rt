@@ -10,6 +10,7 @@
 ghost use Rattle.meaning.specs.Rules.{memoryOf};
 ghost use Rattle.run_steps.specs.Runs.{Started, Ended};
 use port_table::Size;
+use ready_set::MEMBERS;
 use step_rules::Program;
 
 // Steps, lowest first, until there are enough or none is ready; how many were done.
@@ -33,7 +34,7 @@ pub fn run_steps(
     let mut done: u32 = 0;
     while done < steps {
         let r = ready_set::lowest(flags);
-        if r < 32768 {
+        if r < MEMBERS {
             let n = step_order::name_of(z, r);
             let kind = n.kind;
             let number = n.number;

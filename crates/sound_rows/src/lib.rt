@@ -3,7 +3,7 @@
 //
 //   Sound            a sound state, row by row, as the code tests it
 //   SoundMeaning     a state is sound where every row is; the links of a sound state
-//   Rows             rows of ports and pipes that a process uses, each once
+//   Rows             the rules and the tests by the rows of all processes and streams, on a pipe or off every one
 //   Steps            `ready` and `apply` of the five steps of a sound state are the tests and the lists of the code
 ghost use mathlib.Core.Path.{_≡_};
 ghost use Prim.Native.Nat.{_<_};

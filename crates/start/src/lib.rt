@@ -10,12 +10,14 @@ ghost use lib.ListN.{length};
 ghost use Rattle.meaning.specs.Limits.{limitsOf};
 ghost use Rattle.meaning.specs.Rules.{memoryOf};
 ghost use Rattle.meaning.specs.Calls.{start};
-ghost use Rattle.layout.specs.Spans.{Spans};
+ghost use Rattle.layout.specs.Spans.{Spans, spanWords};
 ghost use Rattle.element_places.specs.Order.{Placeable};
 ghost use Rattle.start.specs.Values.{Puttable, put};
 ghost use Rattle.start.specs.Call.{startedBy, Called, Fitting};
+use layout::SPANS;
 use meaning::Answer;
 use meaning::Description;
+use meaning::ELEMENTS;
 use meaning::Figures;
 
 // The values at the places of their elements.
@@ -41,11 +43,11 @@ fn fill_memory(
     received: &mut [u32],
     state: &mut [u32],
 )
-    requires { ⌜ (Fitting d f (now values) (memoryOf (now waiting) (now received) (now state))) × (Spans (d .nest) (now spans)) × (3072 ≤ length (now spans)) ⌝ }
+    requires { ⌜ (Fitting d f (now values) (memoryOf (now waiting) (now received) (now state))) × (Spans (d .nest) (now spans)) × (spanWords ≤ length (now spans)) ⌝ }
     ensures { λ r. ⌜ memoryOf (now (waiting .exit)) (now (received .exit)) (now (state .exit))
         ≡ startedBy d (now (values .entry)) (memoryOf (now (waiting .entry)) (now (received .entry)) (now (state .entry))) ⌝ }
 {
-    let mut places = [0u32; 24576];
+    let mut places = [0u32; ELEMENTS];
     element_places::fill_places(d, spans, &mut places);
     put_values(values, &places, waiting);
     sweeps::clear(f.elements, received);
@@ -61,7 +63,7 @@ fn start_accepted(
     received: &mut [u32],
     state: &mut [u32],
 ) -> Answer
-    requires { ⌜ (Placeable d) × (Spans (d .nest) (now spans)) × (3072 ≤ length (now spans)) ⌝ }
+    requires { ⌜ (Placeable d) × (Spans (d .nest) (now spans)) × (spanWords ≤ length (now spans)) ⌝ }
     ensures { λ r. ⌜ Called d (now (values .entry)) (memoryOf (now (waiting .entry)) (now (received .entry)) (now (state .entry))) r
         (memoryOf (now (waiting .exit)) (now (received .exit)) (now (state .exit))) ⌝ }
 {
@@ -88,7 +90,7 @@ pub fn start(
         × (memoryOf (now (waiting .exit)) (now (received .exit)) (now (state .exit))
         ≡ start (limitsOf board) (now (s .entry)) (now (values .entry)) (memoryOf (now (waiting .entry)) (now (received .entry)) (now (state .entry))) .memory) ⌝ }
 {
-    let mut spans = [0u32; 3072];
+    let mut spans = [0u32; SPANS];
     let r = refuse::refusal_of(board, s, &mut spans);
     if r == 0 {
         let spans = &spans;

@@ -11,13 +11,15 @@ ghost use Rattle.meaning.specs.Description.{descriptionOf};
 ghost use Rattle.meaning.specs.Array.{arrayOf};
 ghost use Rattle.meaning.specs.Rules.{memoryOf, apply};
 ghost use Rattle.meaning.specs.Calls.{step};
-ghost use Rattle.layout.specs.Spans.{Spans};
+ghost use Rattle.layout.specs.Spans.{Spans, spanWords};
 ghost use Rattle.step_rules.specs.Meaning.{stepNamed};
 ghost use Rattle.opening.specs.Opening.{Opened};
 ghost use Rattle.step.specs.Named.{hasPortBy, namedBy, Rows};
 ghost use Rattle.step.specs.Call.{Stepped, Steppable};
+use layout::SPANS;
 use meaning::Answer;
 use meaning::Description;
+use port_table::PORTS;
 use port_table::Size;
 
 // Whether process p is on a pipe of stream i.
@@ -66,7 +68,7 @@ fn perform(
     state: &mut [u32],
 )
     requires { ⌜ (Steppable d (now ports) z kind number stream (memoryOf (now waiting) (now received) (now state)))
-        × (Spans (d .nest) (now spans)) × (length (now spans) ≡ 3072) ⌝ }
+        × (Spans (d .nest) (now spans)) × (length (now spans) ≡ spanWords) ⌝ }
     ensures { λ r. ⌜ memoryOf (now (waiting .entry)) (now (received .exit)) (now (state .exit))
         ≡ apply (arrayOf d) (memoryOf (now (waiting .entry)) (now (received .entry)) (now (state .entry))) (stepNamed kind number stream) ⌝ }
 {
@@ -99,7 +101,7 @@ fn step_opened(
     state: &mut [u32],
 ) -> Answer
     requires { ⌜ (Opened (now s) (memoryOf (now waiting) (now received) (now state)) (now ports) z)
-        × (Spans (descriptionOf (now s) .nest) (now spans)) × (length (now spans) ≡ 3072) ⌝ }
+        × (Spans (descriptionOf (now s) .nest) (now spans)) × (length (now spans) ≡ spanWords) ⌝ }
     ensures { λ r. ⌜ Stepped (now (s .entry)) kind number stream (memoryOf (now (waiting .entry)) (now (received .entry)) (now (state .entry))) r
         (memoryOf (now (waiting .entry)) (now (received .exit)) (now (state .exit))) ⌝ }
 {
@@ -142,8 +144,8 @@ pub fn step(
         × (memoryOf (now (waiting .entry)) (now (received .exit)) (now (state .exit))
         ≡ step (limitsOf board) (now (s .entry)) kind number stream (memoryOf (now (waiting .entry)) (now (received .entry)) (now (state .entry))) .memory) ⌝ }
 {
-    let mut spans = [0u32; 3072];
-    let mut ports = [0u32; 116736];
+    let mut spans = [0u32; SPANS];
+    let mut ports = [0u32; PORTS];
     let o = opening::open(board, s, waiting, received, state, &mut spans, &mut ports);
     let r = o.refusal;
     if r == 0 {

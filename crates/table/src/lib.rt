@@ -15,35 +15,38 @@ ghost use Rattle.meaning.specs.Space.{processes};
 ghost use Rattle.meaning.specs.Description.{descriptionOf, streamsOf};
 ghost use Rattle.meaning.specs.Calls.{answer, table};
 ghost use Rattle.numbering.specs.Ranges.{Bounded};
-ghost use Rattle.layout.specs.Spans.{Spans};
-ghost use Rattle.process_row.specs.Rows.{rowFrom, Readable};
+ghost use Rattle.layout.specs.Spans.{Spans, spanWords};
+ghost use Rattle.process_row.specs.Rows.{rowFrom, Readable, planWords};
 ghost use Rattle.table.specs.Blocks.{Streamed};
 ghost use Rattle.table.specs.Planned.{Shaped, Drawn, refusedFor, Planned};
 ghost use Rattle.table.specs.Drawable.{Drawable};
 use integers::Matrix;
 use integers::V2;
 use integers::V3;
+use layout::SPANS;
 use meaning::Answer;
 use meaning::Description;
 use meaning::Limits;
 use meaning::Nest;
 use meaning::Row;
 use numbering::Extent;
+use pipes::BLOCK;
+use process_row::PLAN;
 use process_row::Shape;
 
 // ---- the plan
 
 // The words of all streams in use.
 fn fill_streams(d: Description, spans: &[u32], words: &mut [u32])
-    requires { ⌜ (Drawable d) × (Spans (d .nest) (now spans)) × (3072 ≤ length (now spans)) × (now words ≡ replicate 15360 0) ⌝ }
+    requires { ⌜ (Drawable d) × (Spans (d .nest) (now spans)) × (spanWords ≤ length (now spans)) × (now words ≡ replicate planWords 0) ⌝ }
     ensures { λ r. ⌜ Streamed (d .nest) (streamsOf d) (length (streamsOf d)) (now (words .exit)) ⌝ }
 {
     let n = d.nest;
     let m = d.sizes.streams as usize;
     let mut i: usize = 0;
     while i < m {
-        let a = 3072 + 2048 * i;
-        let e = a + 2048;
+        let a = SPANS + BLOCK * i;
+        let e = a + BLOCK;
         pipes::fill_stream(n, decode::stream(d, i), spans, &mut words[a..e]);
         i += 1;
     }
@@ -51,11 +54,11 @@ fn fill_streams(d: Description, spans: &[u32], words: &mut [u32])
 
 // The words of the processes go in front.
 fn copy_spans(spans: &[u32], words: &mut [u32])
-    requires { ⌜ (3072 ≤ length (now spans)) × (3072 ≤ length (now words)) ⌝ }
-    ensures { λ r. ⌜ now (words .exit) ≡ fillBy (λ k. getD (now (spans .entry)) k 0) 3072 (now (words .entry)) ⌝ }
+    requires { ⌜ (spanWords ≤ length (now spans)) × (spanWords ≤ length (now words)) ⌝ }
+    ensures { λ r. ⌜ now (words .exit) ≡ fillBy (λ k. getD (now (spans .entry)) k 0) spanWords (now (words .entry)) ⌝ }
 {
     let mut k: usize = 0;
-    while k < 3072 {
+    while k < SPANS {
         words[k] = spans[k];
         k += 1;
     }
@@ -78,7 +81,7 @@ fn shape_of(n: Nest) -> Shape
 
 // The plan of a description; its words come as zeros.
 fn draw(d: Description, spans: &[u32], words: &mut [u32]) -> Shape
-    requires { ⌜ (Drawable d) × (Spans (d .nest) (now spans)) × (3072 ≤ length (now spans)) × (now words ≡ replicate 15360 0) ⌝ }
+    requires { ⌜ (Drawable d) × (Spans (d .nest) (now spans)) × (spanWords ≤ length (now spans)) × (now words ≡ replicate planWords 0) ⌝ }
     ensures { λ r. ⌜ (r .refusal ≡ 0) × (Drawn d r (now (words .exit))) ⌝ }
 {
     fill_streams(d, spans, words);
@@ -122,7 +125,7 @@ fn process_count(n: Nest) -> usize
 }
 
 // The refusal of the call, 0 if there is none; the words of the processes are then filled.
-fn refusal_for(s: &[u8], limits: Limits, room: usize, spans: &mut [u32; 3072]) -> u32
+fn refusal_for(s: &[u8], limits: Limits, room: usize, spans: &mut [u32; SPANS]) -> u32
     requires { ⌜ UpTo limits gaugeLimits ⌝ }
     ensures { λ r. ⌜ (r ≡ refusedFor limits (now (s .entry)) room) × (r ≡ 0 → Spans (descriptionOf (now (s .entry)) .nest) (now (spans .exit))) ⌝ }
 {
@@ -136,11 +139,11 @@ fn refusal_for(s: &[u8], limits: Limits, room: usize, spans: &mut [u32; 3072]) -
 }
 
 // The plan of the call; its words come as zeros.
-fn plan(s: &[u8], board: u32, room: usize, words: &mut [u32; 15360]) -> Shape
-    requires { ⌜ now words ≡ replicate 15360 0 ⌝ }
+fn plan(s: &[u8], board: u32, room: usize, words: &mut [u32; PLAN]) -> Shape
+    requires { ⌜ now words ≡ replicate planWords 0 ⌝ }
     ensures { λ r. ⌜ Planned (limitsOf board) (now (s .entry)) room r (now (words .exit)) ⌝ }
 {
-    let mut spans = [0u32; 3072];
+    let mut spans = [0u32; SPANS];
     let refusal = refusal_for(s, boards::limits_of(board), room, &mut spans);
     if refusal == 0 {
         let spans = &spans;
@@ -171,7 +174,7 @@ fn answer_for(shape: Shape) -> Answer
 // ---- all rows
 
 // The first n rows are filled.
-fn fill_rows<'r, 'a>(rows: &'r mut [Row], shape: Shape, words: &'a [u32; 15360], n: usize)
+fn fill_rows<'r, 'a>(rows: &'r mut [Row], shape: Shape, words: &'a [u32; PLAN], n: usize)
     requires { ⌜ (n ≤ length (now rows)) × ((p : ℕ) → p < n → Readable shape (now words) p) ⌝ }
     ensures { λ _. ⌜ now (rows .exit) ≡ fillBy (rowFrom shape (now (words .entry))) n (now (rows .entry)) ⌝ }
 {
@@ -187,7 +190,7 @@ pub fn table<'s, 'r>(s: &'s [u8], rows: &'r mut [Row], board: u32) -> Answer
     ensures { λ r. ⌜ (r ≡ table (limitsOf board) (now (s .entry)) (now (rows .entry)) .answer)
         × (now (rows .exit) ≡ table (limitsOf board) (now (s .entry)) (now (rows .entry)) .rows) ⌝ }
 {
-    let mut words = [0u32; 15360];
+    let mut words = [0u32; PLAN];
     let room = rows.len();
     let shape = plan(s, board, room, &mut words);
     let n = row_count(shape);

@@ -3,18 +3,19 @@ ghost use mathlib.Core.Path.{_≡_};
 ghost use mathlib.Core.List.{_++_};
 ghost use Prim.Native.Nat.{_≤_, _-_, min};
 ghost use lib.ListN.{replicate};
-ghost use Rattle.meaning.specs.Limits.{limitsOf};
+ghost use Rattle.meaning.specs.Limits.{limitsOf, gaugeLimits};
 ghost use Rattle.meaning.specs.Calls.{table};
 ghost use Rattle.table_rows.specs.Marked.{marked};
 use integers::V2;
 use integers::V3;
 use meaning::Answer;
+use meaning::PROCESSES;
 use meaning::Row;
 
 // Table's answer, and the list afterwards.
 pub struct Listed {
     pub answer: Answer,
-    pub rows: [Row; 1024],
+    pub rows: [Row; PROCESSES],
 }
 
 // A row as it is before the call.
@@ -33,7 +34,7 @@ fn mark() -> Row
     }
 }
 
-fn both(answer: Answer, rows: [Row; 1024]) -> Listed
+fn both(answer: Answer, rows: [Row; PROCESSES]) -> Listed
     ensures { λ r. ⌜ (r .answer ≡ answer) × (r .rows ≡ rows) ⌝ }
 {
     Listed {
@@ -44,27 +45,27 @@ fn both(answer: Answer, rows: [Row; 1024]) -> Listed
 
 // The call is lent the first n of 1,024 marked rows.
 fn lend<'s>(s: &'s [u8], n: usize, board: u32) -> Listed
-    requires { ⌜ n ≤ 1024 ⌝ }
+    requires { ⌜ n ≤ gaugeLimits .processes ⌝ }
     ensures { λ r. ⌜ (r .answer ≡ table (limitsOf board) (now (s .entry)) (replicate n marked) .answer)
-        × (r .rows ≡ table (limitsOf board) (now (s .entry)) (replicate n marked) .rows ++ replicate (1024 - n) marked) ⌝ }
+        × (r .rows ≡ table (limitsOf board) (now (s .entry)) (replicate n marked) .rows ++ replicate (gaugeLimits .processes - n) marked) ⌝ }
 {
     let m = mark();
-    let mut rows = [m; 1024];
+    let mut rows = [m; PROCESSES];
     let answer = table::table(s, &mut rows[..n], board);
     both(answer, rows)
 }
 
 // As many rows as are asked for, up to as many as there are.
 fn room(n: usize) -> usize
-    ensures { λ r. ⌜ r ≡ min n 1024 ⌝ }
+    ensures { λ r. ⌜ r ≡ min n gaugeLimits .processes ⌝ }
 {
-    if n < 1024 { n } else { 1024 }
+    if n < PROCESSES { n } else { PROCESSES }
 }
 
 // The call is lent n marked rows, or 1,024 if that is fewer: there are never more processes.
 pub fn table<'s>(s: &'s [u8], n: usize, board: u32) -> Listed
-    ensures { λ r. ⌜ (r .answer ≡ table (limitsOf board) (now (s .entry)) (replicate (min n 1024) marked) .answer)
-        × (r .rows ≡ table (limitsOf board) (now (s .entry)) (replicate (min n 1024) marked) .rows ++ replicate (1024 - min n 1024) marked) ⌝ }
+    ensures { λ r. ⌜ (r .answer ≡ table (limitsOf board) (now (s .entry)) (replicate (min n gaugeLimits .processes) marked) .answer)
+        × (r .rows ≡ table (limitsOf board) (now (s .entry)) (replicate (min n gaugeLimits .processes) marked) .rows ++ replicate (gaugeLimits .processes - min n gaugeLimits .processes) marked) ⌝ }
 {
     lend(s, room(n), board)
 }

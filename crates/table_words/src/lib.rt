@@ -17,7 +17,11 @@ ghost use Rattle.meaning.specs.Accept.{refusalOf};
 ghost use Rattle.table_words.specs.Words.{laid, bits3, rowWords, wordsOf};
 ghost use Rattle.table_words.specs.Lent.{tableNumber, tableWords};
 use integers::V3;
+use meaning::PROCESSES;
 use meaning::Row;
+
+// The words of a row.
+const ROW_WORDS: usize = 21;
 
 // ---- numbers
 
@@ -42,7 +46,7 @@ fn vector_words(v: V3) -> [u32; 3]
 }
 
 // A row in its 21 words.
-fn row_words(r: Row) -> [u32; 21]
+fn row_words(r: Row) -> [u32; ROW_WORDS]
     ensures { λ r′. ⌜ r′ ≡ rowWords r ⌝ }
 {
     let point = r.point;
@@ -88,14 +92,14 @@ fn put(values: &[u32], at: usize, words: &mut [u32])
 }
 
 // The first rows go into the words.
-fn put_rows(rows: [Row; 1024], count: usize, words: &mut [u32])
-    requires { ⌜ (count ≤ 1024) × (21 * count ≤ length (now words)) ⌝ }
+fn put_rows(rows: [Row; PROCESSES], count: usize, words: &mut [u32])
+    requires { ⌜ (count ≤ gaugeLimits .processes) × (21 * count ≤ length (now words)) ⌝ }
     ensures { λ r. ⌜ now (words .exit) ≡ laid (wordsOf rows count) (now (words .entry)) ⌝ }
 {
     let mut p: usize = 0;
     while p < count {
         let row = row_words(rows[p]);
-        put(&row, 21 * p, words);
+        put(&row, ROW_WORDS * p, words);
         p += 1;
     }
 }
@@ -114,7 +118,7 @@ pub fn table_words(board: u32, bytes: &[u8], words: &mut [u32]) -> u32
     ensures { λ r. ⌜ (r ≡ tableNumber (limitsOf board) (now (bytes .entry)) (length (now (words .entry))))
         × (now (words .exit) ≡ laid (tableWords (limitsOf board) (now (bytes .entry)) (length (now (words .entry)))) (now (words .entry))) ⌝ }
 {
-    let listed = table_rows::table(bytes, words.len() / 21, board);
+    let listed = table_rows::table(bytes, words.len() / ROW_WORDS, board);
     let answer = listed.answer;
     let number = answer_words::number_of(answer);
     if number == 0 {

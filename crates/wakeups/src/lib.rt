@@ -16,11 +16,12 @@ ghost use Prim.Native.Nat.{ℕ, _+_, _≤_, _<_};
 ghost use lib.ListN.{length, replicate};
 ghost use Rattle.meaning.specs.Limits.{stateWordsMost};
 ghost use Rattle.port_table.specs.PortsOf.{RowsFit};
-ghost use Rattle.ready_set.specs.Flags.{Kept};
+ghost use Rattle.ready_set.specs.Flags.{Kept, flagWords};
 ghost use Rattle.step_rules.specs.Fits.{Inside};
 ghost use Rattle.step_order.specs.Ranks.{Sized, rankCount, named, nameAt};
 ghost use Rattle.wakeups.specs.Wakeups.{foreignNamed, foreignBy, counterNamed, counterBy, flagAt, Apart, WakeupsOf, Local};
 ghost use Rattle.wakeups.specs.Renewed.{Renewed, OneRank, GiveRank, PortRank, OwnRank};
+use meaning::STATE_WORDS;
 use port_table::Size;
 
 // ---- the table
@@ -37,12 +38,12 @@ fn foreign_named(ports: &[u32], z: Size, kind: u32, number: usize, stream: usize
         }
         1 => {
             let k = port_table::port(ports, number, stream);
-            if 0 < k.hop { k.before } else { 99328 }
+            if 0 < k.hop { k.before } else { STATE_WORDS }
         }
-        2 => 99328,
+        2 => STATE_WORDS,
         3 => {
             let k = port_table::port(ports, number, stream);
-            if 0 < k.hop { k.after } else { 99328 }
+            if 0 < k.hop { k.after } else { STATE_WORDS }
         }
         _ => {
             let e = port_table::end(ports, number);
@@ -123,7 +124,7 @@ fn retest_named(
     stream: usize,
     flags: &mut [u32],
 )
-    requires { ⌜ (RowsFit (length (now state)) (now ports) z) × (Sized z) × (r < rankCount z) × (nameAt z r ≡ named kind number stream) × (length (now flags) ≡ 33824) ⌝ }
+    requires { ⌜ (RowsFit (length (now state)) (now ports) z) × (Sized z) × (r < rankCount z) × (nameAt z r ≡ named kind number stream) × (length (now flags) ≡ flagWords) ⌝ }
     ensures { λ _. ⌜ Renewed (flagAt (now (ports .entry)) (now (state .entry)) z) (OneRank r) (now (flags .entry)) (now (flags .exit)) ⌝ }
 {
     let b = step_rules::can(ports, state, z, kind, number, stream);
@@ -132,7 +133,7 @@ fn retest_named(
 
 // That of rank r.
 fn retest(ports: &[u32], state: &[u32], z: Size, r: usize, flags: &mut [u32])
-    requires { ⌜ (RowsFit (length (now state)) (now ports) z) × (Sized z) × (r < rankCount z) × (length (now flags) ≡ 33824) ⌝ }
+    requires { ⌜ (RowsFit (length (now state)) (now ports) z) × (Sized z) × (r < rankCount z) × (length (now flags) ≡ flagWords) ⌝ }
     ensures { λ _. ⌜ Renewed (flagAt (now (ports .entry)) (now (state .entry)) z) (OneRank r) (now (flags .entry)) (now (flags .exit)) ⌝ }
 {
     let n = step_order::name_of(z, r);
@@ -154,7 +155,7 @@ pub fn fill_flags(ports: &[u32], state: &[u32], z: Size, flags: &mut [u32])
 
 // Those of the gives of process p.
 fn retest_gives(ports: &[u32], state: &[u32], z: Size, p: usize, flags: &mut [u32])
-    requires { ⌜ (RowsFit (length (now state)) (now ports) z) × (Sized z) × (p < z .processes) × (length (now flags) ≡ 33824) ⌝ }
+    requires { ⌜ (RowsFit (length (now state)) (now ports) z) × (Sized z) × (p < z .processes) × (length (now flags) ≡ flagWords) ⌝ }
     ensures { λ _. ⌜ Renewed (flagAt (now (ports .entry)) (now (state .entry)) z) (GiveRank z p (z .streams)) (now (flags .entry)) (now (flags .exit)) ⌝ }
 {
     let m = z.streams;
@@ -167,7 +168,7 @@ fn retest_gives(ports: &[u32], state: &[u32], z: Size, p: usize, flags: &mut [u3
 
 // Those of the steps at a port, and of the fire of its process.
 fn retest_port(ports: &[u32], state: &[u32], z: Size, p: usize, i: usize, flags: &mut [u32])
-    requires { ⌜ (RowsFit (length (now state)) (now ports) z) × (Sized z) × (p < z .processes) × (i < z .streams) × (length (now flags) ≡ 33824) ⌝ }
+    requires { ⌜ (RowsFit (length (now state)) (now ports) z) × (Sized z) × (p < z .processes) × (i < z .streams) × (length (now flags) ≡ flagWords) ⌝ }
     ensures { λ _. ⌜ Renewed (flagAt (now (ports .entry)) (now (state .entry)) z) (PortRank z p i) (now (flags .entry)) (now (flags .exit)) ⌝ }
 {
     retest_named(
@@ -195,7 +196,7 @@ fn retest_port(ports: &[u32], state: &[u32], z: Size, p: usize, i: usize, flags:
 
 // Those of the steps of the process or pipe of rank r.
 fn retest_own(ports: &[u32], state: &[u32], z: Size, r: usize, flags: &mut [u32])
-    requires { ⌜ (RowsFit (length (now state)) (now ports) z) × (Sized z) × (r < rankCount z) × (length (now flags) ≡ 33824) ⌝ }
+    requires { ⌜ (RowsFit (length (now state)) (now ports) z) × (Sized z) × (r < rankCount z) × (length (now flags) ≡ flagWords) ⌝ }
     ensures { λ _. ⌜ Renewed (flagAt (now (ports .entry)) (now (state .entry)) z) (OwnRank z r) (now (flags .entry)) (now (flags .exit)) ⌝ }
 {
     let n = step_order::name_of(z, r);
@@ -213,8 +214,8 @@ fn retest_own(ports: &[u32], state: &[u32], z: Size, r: usize, flags: &mut [u32]
 // The flags after the step of rank r was done.
 pub fn refresh(ports: &[u32], wakeups: &[u32], state: &[u32], z: Size, r: usize, flags: &mut [u32])
     requires { ⌜ (RowsFit (length (now state)) (now ports) z) × (RowsFit stateWordsMost (now ports) z) × (Sized z) × (WakeupsOf (now ports) z (now wakeups))
-        × (r < rankCount z) × (length (now flags) ≡ 33824) ⌝ }
-    ensures { λ _. ⌜ (length (now (flags .exit)) ≡ 33824) × ((old : List ℕ) → Local (now (ports .entry)) z (now (wakeups .entry)) old (now (state .entry)) r
+        × (r < rankCount z) × (length (now flags) ≡ flagWords) ⌝ }
+    ensures { λ _. ⌜ (length (now (flags .exit)) ≡ flagWords) × ((old : List ℕ) → Local (now (ports .entry)) z (now (wakeups .entry)) old (now (state .entry)) r
         → Kept (flagAt (now (ports .entry)) old z) (now (flags .entry)) → Kept (flagAt (now (ports .entry)) (now (state .entry)) z) (now (flags .exit))) ⌝ }
 {
     retest_own(ports, state, z, r, flags);

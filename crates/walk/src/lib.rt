@@ -22,8 +22,12 @@ ghost use Rattle.walk.specs.Touched.{Misses};
 ghost use Rattle.walk.specs.Search.{numberOn, Numberable, Searching};
 use integers::Matrix;
 use integers::V3;
+use meaning::INSTANCES;
 use meaning::Nest;
 use numbering::Extent;
+
+// The words of a walk: three for each instance.
+pub const WALK: usize = 3 * INSTANCES;
 
 // ---- the walk
 

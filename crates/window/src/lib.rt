@@ -14,13 +14,15 @@ ghost use Rattle.meaning.specs.Tests.{refusal};
 ghost use Rattle.meaning.specs.Description.{streamsOf, descriptionOf};
 ghost use Rattle.meaning.specs.Array.{arrayOf, pipeNumber};
 ghost use Rattle.meaning.specs.Calls.{refusedBy, window};
-ghost use Rattle.layout.specs.Spans.{processOf, Spans};
+ghost use Rattle.layout.specs.Spans.{processOf, Spans, spanWords};
 ghost use Rattle.pipes.specs.Elements.{Near};
 ghost use Rattle.pipe_parts.specs.Starts.{Counting};
 ghost use Rattle.figures.specs.Shares.{Sharing, Described};
 ghost use Rattle.window.specs.Search.{counted, searched, looking, visited, streamLengths, allLengths};
 ghost use Rattle.window.specs.Pieces.{Windowed, ownTests, pieceOf, nothing, Within};
 use lanes::Flow;
+use lanes::LANES;
+use layout::SPANS;
 use meaning::Description;
 use meaning::Limits;
 use meaning::Nest;
@@ -45,7 +47,7 @@ pub struct Piece {
 
 // A further pipe, of so many elements.
 fn counted(w: Search, length: u32) -> Search
-    requires { ⌜ (w .start ≤ 30000000) × (length ≤ 4096) ⌝ }
+    requires { ⌜ (w .start ≤ 30000000) × (length ≤ gaugeLimits .instances) ⌝ }
     ensures { λ r. ⌜ (r ≡ counted w length) × (r .start ≤ w .start + length) ⌝ }
 {
     if w.found {
@@ -71,7 +73,7 @@ fn counted(w: Search, length: u32) -> Search
 // The pipe that enters at process p, if one does.
 fn visited(f: Flow, spans: &[u32], lanes: &[u32], p: usize, w: Search) -> Search
     requires { ⌜ (Near f (now spans) (now lanes) p) × (w .start ≤ 30000000) ⌝ }
-    ensures { λ r. ⌜ (r ≡ visited (f .nest) (f .stream) (processOf (f .nest) p) w) × (r .start ≤ w .start + 4096) ⌝ }
+    ensures { λ r. ⌜ (r ≡ visited (f .nest) (f .stream) (processOf (f .nest) p) w) × (r .start ≤ w .start + gaugeLimits .instances) ⌝ }
 {
     if pipe_parts::is_entry(f, spans, lanes, p) {
         counted(w, pipes::total_at(f, spans, lanes, p))
@@ -96,20 +98,20 @@ fn searched(f: Flow, processes: u32, spans: &[u32], lanes: &[u32], first: Search
 
 // The same by nest and stream.
 fn stream_searched(n: Nest, s: Stream, spans: &[u32], w: Search) -> Search
-    requires { ⌜ (Sharing n s) × (Spans n (now spans)) × (3072 ≤ length (now spans)) × (w .start ≤ 25165824) ⌝ }
+    requires { ⌜ (Sharing n s) × (Spans n (now spans)) × (spanWords ≤ length (now spans)) × (w .start ≤ 25165824) ⌝ }
     ensures { λ r. ⌜ (r ≡ searched w (streamLengths n s)) × (r .start ≤ w .start + 4194304) ⌝ }
 {
     let f = lanes::flow_of(n, s);
     let space = f.space;
     let processes = numbering::size_of(space);
-    let mut lanes = [0u32; 4096];
+    let mut lanes = [0u32; LANES];
     lanes::fill_lanes(f, processes, spans, &mut lanes);
     searched(f, processes, spans, &lanes, w)
 }
 
 // The pipes of all streams.
 fn all_searched(d: Description, spans: &[u32], pipe: u32) -> Search
-    requires { ⌜ (Described d) × (Spans (d .nest) (now spans)) × (3072 ≤ length (now spans)) ⌝ }
+    requires { ⌜ (Described d) × (Spans (d .nest) (now spans)) × (spanWords ≤ length (now spans)) ⌝ }
     ensures { λ r. ⌜ (r ≡ searched (looking pipe 0) (allLengths (d .nest) (streamsOf d))) × (r .start ≤ 25165824) ⌝ }
 {
     let n = d.nest;
@@ -143,7 +145,7 @@ fn refused(number: u32) -> Piece
 
 // The part of a pipe, if there is such a pipe.
 fn located(d: Description, spans: &[u32], pipe: u32) -> Piece
-    requires { ⌜ (Windowed d) × (Spans (d .nest) (now spans)) × (3072 ≤ length (now spans)) ⌝ }
+    requires { ⌜ (Windowed d) × (Spans (d .nest) (now spans)) × (spanWords ≤ length (now spans)) ⌝ }
     ensures { λ r. ⌜ r ≡ pieceOf d pipe (cond (ltb pipe (pipeNumber (arrayOf d))) 0 19) ⌝ }
 {
     let w = all_searched(d, spans, pipe);
@@ -167,7 +169,7 @@ fn accepted_piece(
     waiting: usize,
     received: usize,
 ) -> Piece
-    requires { ⌜ (Windowed d) × (Spans (d .nest) (now spans)) × (3072 ≤ length (now spans)) ⌝ }
+    requires { ⌜ (Windowed d) × (Spans (d .nest) (now spans)) × (spanWords ≤ length (now spans)) ⌝ }
     ensures { λ r. ⌜ (r ≡ pieceOf d pipe (refusal (ownTests d pipe side waiting received))) × (Within r waiting received) ⌝ }
 {
     let e = elements::element_count(d);
@@ -193,7 +195,7 @@ fn piece_within(
         (refusedBy limits (now (s .entry)) (ownTests (descriptionOf (now (s .entry))) pipe side waiting received)))
         × (Within r waiting received) ⌝ }
 {
-    let mut spans = [0u32; 3072];
+    let mut spans = [0u32; SPANS];
     let number = refuse::refusal_within(s, limits, &mut spans);
     if number == 0 {
         let spans = &spans;
