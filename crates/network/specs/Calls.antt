@@ -12,9 +12,9 @@ use Rattle.meaning.specs.Description.{descriptionOf}
 use Rattle.meaning.specs.Accept.{refusalOf}
 use Rattle.meaning.specs.Array.{Array, arrayOf, processCount, streamCount, pipeNumber, onPipe}
 use Rattle.meaning.specs.Rules.{Step, Send, Take, Fire, Give, Receive, Memory, ready, apply, inOrder, Found, at, nothing, lowest, runSteps, applyAll}
-use Rattle.meaning.specs.Calls.{orElse, memoryTests, refusedBy, has-port, ifThere, stepOf, isNothing, readyAt, applied, step, run}
+use Rattle.meaning.specs.Calls.{orElse, memoryTests, refusedBy, hasPort, ifThere, stepOf, isNothing, readyAt, applied, step, run}
 use Rattle.meaning.specs.Demand3.{Call, CallStep, CallRun, CallReady, CallWindow, CallResult, Told, leaves, asList, grants, memoryAfter, grantedBy}
-use Rattle.network.specs.Lists.{both-true}
+use Rattle.lists.specs.Tests.{both-true}
 use Rattle.network.specs.Ready.{There}
 use Rattle.network.specs.Members.{listed, ready-there, found-passes}
 use Rattle.network.specs.Runs.{Grants, none}
@@ -96,13 +96,13 @@ module _ (l : Limits) (s : List ℕ) where
   unfolding Sure
   step-there kind number stream =
       sure-cond (eqb kind 0) _ _ (sure-if (ltb number (pipeNumber A)) (Send number) (ltb-true number (pipeNumber A)))
-      (sure-cond (eqb kind 1) _ _ (sure-if (has-port l s number stream) (Take number stream) on)
+      (sure-cond (eqb kind 1) _ _ (sure-if (hasPort l s number stream) (Take number stream) on)
       (sure-cond (eqb kind 2) _ _ (sure-if (ltb number (processCount A)) (Fire number) (ltb-true number (processCount A)))
-      (sure-cond (eqb kind 3) _ _ (sure-if (has-port l s number stream) (Give number stream) on)
+      (sure-cond (eqb kind 3) _ _ (sure-if (hasPort l s number stream) (Give number stream) on)
       (sure-cond (eqb kind 4) _ _ (sure-if (ltb number (pipeNumber A)) (Receive number) (ltb-true number (pipeNumber A)))
       (λ a e. absurd (no-step a e))))))
     where
-      on : has-port l s number stream ≡ true → onPipe A number stream ≡ true
+      on : hasPort l s number stream ≡ true → onPipe A number stream ≡ true
       on e = both-true (ltb number (processCount A) && ltb stream (streamCount A)) (onPipe A number stream) e .1
 
   -- a call's steps are granted, and they are what it does

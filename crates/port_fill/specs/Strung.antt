@@ -15,13 +15,14 @@ use Rattle.meaning.specs.Lists.{filter}
 use Rattle.meaning.specs.Space.{processes}
 use Rattle.meaning.specs.Streams.{elements}
 use Rattle.meaning.specs.Pipes.{entries}
+use Rattle.lists.specs.Tests.{filter-fewer}
 use Rattle.layout.specs.Spans.{processOf, Spans}
 use Rattle.ports.specs.declared.Port.{Port}
 use Rattle.ports.specs.declared.End.{End}
 use Rattle.pipes.specs.declared.Flow.{Flow}
 use Rattle.pipes.specs.Flow.{Flows, Seen}
 use Rattle.pipes.specs.Elements.{Near}
-use Rattle.pipe_parts.specs.Starts.{entering, filter-fewer, startAt, enteredAt, start-most}
+use Rattle.pipe_parts.specs.Starts.{entering, startAt, enteredAt, start-most}
 use Rattle.figures.specs.Shares.{Sharing}
 use Rattle.port_rows.specs.declared.Strand.{Strand}
 use Rattle.port_rows.specs.Strands.{Narrow, PortGiven, rowFrom, endFrom}

@@ -1,5 +1,4 @@
 -- Processes that can move, by a port table of rows, and the call Ready; src/lib.rt has the list.
-pub mod Any
 pub mod Moves
 pub mod Meaning
 pub mod Call
