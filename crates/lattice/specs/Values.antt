@@ -27,12 +27,12 @@ Value m y = (x : V3) × (image m x ≡ y)
 abbrev pub minorsWith : Matrix → V2 → V3
 minorsWith m y = sub3 (scale3 (y .b) (m .top)) (scale3 (y .a) (m .low))
 
--- how far apart the values of m lie: `table_rows` times `columns` is g
+-- how far apart the values of m lie: `rows` times `columns` is g
 pub record Apart (m : Matrix) (g : ℕ) : Type 0 where
   pub rows : ℕ
   pub columns : ℕ
   pub product : rows * columns ≡ g
-  -- the rows that hold a value are every `table_rows`-th
+  -- the rows that hold a value are every `rows`-th
   pub holds : (a : ℤ) → ((b : ℤ) × Value m (record { a = a; b = b })) ↔ (rows ∣ natAbs a)
   -- in a row that holds one, every `columns`-th point from it on is one, either way, and no other
   pub within : (y : V2) → Value m y → (b : ℤ) → Value m (record { a = y .a; b = b }) ↔ (columns ∣ natAbs (b -ℤ y .b))

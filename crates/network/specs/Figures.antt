@@ -20,10 +20,6 @@ use Rattle.lists.specs.Sums.{total-map, total-ext, total-same, total-append}
 use Rattle.network.specs.Wiring.{Wired}
 use Rattle.network.specs.Outcome.{stepTotal}
 
-module _ {X Y : Type 0} where
-
-module _ {X : Type 0} where
-
 -- a sum over the pipes is one over the streams and their entries
 pipes-total : (f : Pipe → ℕ) (g : Stream → V2 → ℕ) (n : Nest) → ((i e : ℕ) (s : Stream) (y : V2) → f (pipeOf n i e s y) ≡ g s y)
     → (i e : ℕ) (ss : List Stream) → total f (pipesFrom n i e ss) ≡ total (λ s. total (g s) (entries n s)) ss

@@ -328,7 +328,7 @@ fn lent_after(c: Call, l: Lent) -> Lent {
     l
 }
 
-fn spans(c: Call) -> bool {
+fn ends(c: Call) -> bool {
     if c.found { 8 < c.number } else { true }
 }
 
@@ -347,7 +347,7 @@ fn play_calls(
     while 16 <= left {
         let c = script::read_call();
         left -= 16;
-        if spans(c) {
+        if ends(c) {
             return left;
         }
         play_call(board, s, c, l, waiting, received, state);

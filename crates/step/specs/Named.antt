@@ -11,7 +11,7 @@ use borrow.Author.Tests.{ltb-true, ne-eqb}
 use Rattle.meaning.specs.declared.Limits.{Limits}
 use Rattle.meaning.specs.Array.{Array, processCount, streamCount, pipeNumber, onPipe}
 use Rattle.meaning.specs.Rules.{Take, Give, Receive, at, nothing}
-use Rattle.meaning.specs.Calls.{A, has-port, ifThere, stepOf}
+use Rattle.meaning.specs.Calls.{A, hasPort, ifThere, stepOf}
 use Rattle.lists.specs.Tests.{both-true}
 use Rattle.ports.specs.Rows.{rowOf}
 use Rattle.ports.specs.declared.Port.{Port}
@@ -48,7 +48,7 @@ abbrev pub Total : Array → Type 0
 Total A = (p i : ℕ) → p < processCount A → i < streamCount A → onPipe A p i ≡ ltb 0 (rowOf A p i .total)
 
 module _ (l : Limits) (s : List ℕ) {b : List ℕ} {z : Size} (t : Stands (A l s) b z) (on : Total (A l s)) where
-  has-port-is : (p i : ℕ) → has-port l s p i ≡ hasPortBy b z p i
+  has-port-is : (p i : ℕ) → hasPort l s p i ≡ hasPortBy b z p i
   has-port-is p i = rw (t .size .processes, t .size .streams) (go (ltb p (processCount (A l s))) (ltb i (streamCount (A l s))) refl refl)
     where
       go : (x y : Bool) → ltb p (processCount (A l s)) ≡ x → ltb i (streamCount (A l s)) ≡ y
