@@ -9,8 +9,6 @@ use Rattle.meaning.specs.Array.{Array, noPipe, noStop, pipeAt, stopsOn, pipeNum
 use Rattle.meaning.specs.Rules.{processOn, streamOn}
 use Rattle.lists.specs.Tests.{both-true, any-position, position-passes}
 
-module _ {X : Type 0} (f : X → Bool) where
-
 -- the pipe of process p and stream s, and the process's place on it
 abbrev pub pipe : Array → ℕ → ℕ → ℕ
 pipe A p s = pipeThrough A p s
