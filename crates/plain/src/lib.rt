@@ -122,18 +122,6 @@ fn run_loops(d: Description, store: &mut [u32])
 
 // ---- the call
 
-// The values, copied.
-fn copy(values: &[u32], output: &mut [u32])
-    requires { ⌜ length (now output) ≡ length (now values) ⌝ }
-    ensures { λ r. ⌜ now (output .exit) ≡ now (values .entry) ⌝ }
-{
-    let mut i = 0;
-    while i < values.len() {
-        output[i] = values[i];
-        i += 1;
-    }
-}
-
 // The first of the refusals 20 and 28 that applies to so many values and places for them, 0 if none does.
 fn own_refusal(d: Description, values: usize, output: usize) -> u32
     requires { ⌜ Few d ⌝ }
@@ -154,7 +142,7 @@ fn run_accepted(d: Description, values: &[u32], output: &mut [u32]) -> Answer
 {
     let r = own_refusal(d, values.len(), output.len());
     if r == 0 {
-        copy(values, output);
+        words::store(output, 0, values);
         run_loops(d, output);
         Answer::Done
     } else {

@@ -26,7 +26,7 @@ use Rattle.pipe_parts.specs.Starts.{entering, startAt, enteredAt, start-most}
 use Rattle.figures.specs.Shares.{Sharing}
 use Rattle.port_rows.specs.declared.Strand.{Strand}
 use Rattle.port_rows.specs.Strands.{Narrow, PortGiven, rowFrom, endFrom}
-use Rattle.port_table.specs.Stored.{stored}
+use Rattle.words.specs.Stored.{stored}
 use Rattle.port_table.specs.Rows.{portWords, endWords}
 use Rattle.port_fill.specs.declared.Sums.{Sums}
 use Rattle.port_fill.specs.Marks.{mark, marks, marks-step, marks-length}

@@ -168,7 +168,7 @@ module _ (A : Array) (st : List ℕ) (s : sound A st ≡ true) where
       let w = stop-sound A st s q on k h in
       let x = le-leb (takenAt A st q k) (elementsOn A q) (omega arith) in
       let y = le-leb (givenAt A st q k) (elementsOn A q) (omega arith) in
-      port-is A st q k h ∙ true-both (true-both (and x y) (w .0)) (w .1)
+      port-is A st q k h ∙ true-both (true-both (true-both x y) (w .0)) (w .1)
 
   pub sound-rows : RowsSound A st
   sound-rows =
