@@ -18,9 +18,8 @@ use Rattle.meaning.specs.Description.{noStream, streamsOf}
 use Rattle.meaning.specs.Accept.{stateWords}
 use Rattle.meaning.specs.Array.{runs, Array, arrayOf, processCount, streamCount}
 use Rattle.meaning.specs.State.{Firings, Taken, Given, Hand, Keep, Place, Sent, Received, End, stride, processStart, index, wordCount}
-use Rattle.geometry.specs.Members.{total-same}
+use Rattle.lists.specs.Sums.{total-same, total-map-first, total-like, total-times}
 use Rattle.geometry.specs.Arrays.{streamAt}
-use Rattle.addresses.specs.Sums.{total-like, total-map, total-times}
 use Rattle.addresses.specs.Pipes.{base, before-from, all-from}
 
 -- the words of a process and a stream, of a pipe, and of all pipes of a stream
@@ -65,7 +64,7 @@ module _ (d : Description) where
   stride-is =
       let hops = A .hops in
       ap (λ (c : ℕ). 1 + c)
-      (sym (ap (total (λ h. 4 + h)) (take-length hops)) ∙ total-map (λ h. 4 + h) (hop n) (streamsOf d) (length hops)
+      (sym (ap (total (λ h. 4 + h)) (take-length hops)) ∙ total-map-first (λ h. 4 + h) (hop n) (streamsOf d) (length hops)
       ∙ ap (λ (c : ℕ). total (portWords n) (take c (streamsOf d))) stream-count ∙ ap (total (portWords n)) (take-length (streamsOf d)))
 
   -- ---- the words of a process
@@ -75,7 +74,7 @@ module _ (d : Description) where
 
   pub taken-index : (p i : ℕ) → index A (Taken p i) ≡ portAt d p i
   unfolding arrayOf
-  taken-index p i = ap₂ (λ (a b : ℕ). a + 1 + b) (firings-index p) (total-map (λ h. 4 + h) (hop n) (streamsOf d) i)
+  taken-index p i = ap₂ (λ (a b : ℕ). a + 1 + b) (firings-index p) (total-map-first (λ h. 4 + h) (hop n) (streamsOf d) i)
 
   pub given-index : (p i : ℕ) → index A (Given p i) ≡ portAt d p i + 1
   given-index p i = ap (λ (c : ℕ). c + 1) (taken-index p i)

@@ -1,5 +1,4 @@
 -- Where the words of a process and of a pipe stand; src/lib.rt lists the theorems.
-pub mod Sums
 pub mod Pipes
 pub mod Through
 pub mod Ports

@@ -22,7 +22,7 @@ use Rattle.meaning.specs.Description.{streamsOf}
 use Rattle.meaning.specs.Body.{streamStart, elementCount}
 use Rattle.meaning.specs.Array.{Pipe, Array, arrayOf, pipeNumber, noPipe, pipeAt, elementsOn, pipeOrder, partStart, pipeThrough, listLength}
 use Rattle.meaning.specs.Points.{Within, Inside}
-use Rattle.geometry.specs.Members.{yes-any, map-at, each-length, each-part}
+use Rattle.lists.specs.Members.{yes-any, map-at, each-length, each-part}
 use Rattle.geometry.specs.Places.{ahead, getD-ahead, ahead-lt, distinct-at, position-is}
 use Rattle.geometry.specs.Boxes.{box-has}
 use Rattle.geometry.specs.RowOrder.{row-number}
@@ -32,9 +32,10 @@ use Rattle.geometry.specs.Elements.{entryOf, entry-pipe, entry-is}
 use Rattle.geometry.specs.Descriptions.{Laid}
 use Rattle.geometry.specs.Arrays.{streamAt}
 use Rattle.geometry.specs.PipeOrder.{numbers-once, list-length}
-use Rattle.addresses.specs.Sums.{total-below}
+use Rattle.lists.specs.Sums.{total-below}
+use Rattle.lists.specs.Tests.{is-true}
 use Rattle.addresses.specs.Pipes.{entryAt, pipe-lt, pipe-at}
-use Rattle.addresses.specs.Through.{is-true, pointOf, entryNumber, pipeIndex, entry-lt, entry-is-at, through-is}
+use Rattle.addresses.specs.Through.{pointOf, entryNumber, pipeIndex, entry-lt, entry-is-at, through-is}
 use Rattle.addresses.specs.Ports.{elements-is}
 use Rattle.addresses.specs.Ends.{number-lt, number-point}
 

@@ -20,11 +20,11 @@ use Rattle.meaning.specs.Description.{noStream, streamsOf}
 use Rattle.meaning.specs.Body.{streamStart}
 use Rattle.meaning.specs.Array.{Pipe, stopOf, pipeOf, pipesFrom, Array, arrayOf, pipeNumber, noPipe, pipeAt, stopsOn, elementsOn, partStart}
 use Rattle.meaning.specs.Rules.{streamOn}
-use Rattle.geometry.specs.Members.{map-at, total-next}
+use Rattle.lists.specs.Members.{map-at}
+use Rattle.lists.specs.Sums.{total-next, total-map-first, total-append, total-below, Part, part, total-first, total-second, total-like}
 use Rattle.geometry.specs.Elements.{partOf, pipes-total}
 use Rattle.geometry.specs.Descriptions.{Laid}
 use Rattle.geometry.specs.Arrays.{streamAt, pipe-count}
-use Rattle.addresses.specs.Sums.{total-append, total-below, Part, part, total-first, total-second, total-like, total-map}
 
 -- the number of a stream's first pipe, by the streams before it
 abbrev pub entryCount : Nest → Stream → ℕ
@@ -69,7 +69,7 @@ pipe-from n i e (s ∷ ss) (suc k) j h l =
 module _ (f : Pipe → ℕ) (g : Stream → V2 → ℕ) (n : Nest) (same : (i e : ℕ) (s : Stream) (y : V2) → f (pipeOf n i e s y) ≡ g s y) where
   one-stream : (i e : ℕ) (s : Stream) (l : List V2) (j : ℕ) → j ≤ length l → total f (take j (map (pipeOf n i e s) l)) ≡ total (g s) (take j l)
   one-stream i e s l j h =
-      total-map f (pipeOf n i e s) l j ∙ total-like (λ y. f (pipeOf n i e s y)) (g s) l j zero2 h (λ k m. same i e s (getD l k zero2))
+      total-map-first f (pipeOf n i e s) l j ∙ total-like (λ y. f (pipeOf n i e s y)) (g s) l j zero2 h (λ k m. same i e s (getD l k zero2))
 
   all-entries : (i e : ℕ) (s : Stream) (l : List V2) → total f (map (pipeOf n i e s) l) ≡ total (g s) l
   unfolding total

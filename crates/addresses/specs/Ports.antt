@@ -17,17 +17,17 @@ use Rattle.meaning.specs.Pipes.{reach, pipe, before, isPipe, entries, pipeEleme
 use Rattle.meaning.specs.Description.{streamsOf}
 use Rattle.meaning.specs.Array.{runs, Stop, Pipe, rowSoak, stopOf, Array, arrayOf, runsOf, countAt, instanceAt, noStop, pipeAt, stopsOn, elementsOn, stopAt, pipeThrough, placeOn}
 use Rattle.meaning.specs.Rules.{processOn, streamOn}
-use Rattle.geometry.specs.Members.{map-at}
+use Rattle.lists.specs.Members.{map-at}
 use Rattle.geometry.specs.Processes.{runAt}
 use Rattle.geometry.specs.Firings.{runs-length, runs-at}
 use Rattle.geometry.specs.Pipes.{same-elements}
 use Rattle.geometry.specs.Positions.{pipe-length}
-use Rattle.geometry.specs.Elements.{entry-pipe, entry-is}
+use Rattle.geometry.specs.Elements.{entry-pipe, entry-is, entry-same}
 use Rattle.geometry.specs.Descriptions.{Laid}
 use Rattle.geometry.specs.Wiring.{processAt}
 use Rattle.geometry.specs.Arrays.{streamAt}
 use Rattle.addresses.specs.Pipes.{base, entryAt, pipe-at, stream-on, hop-on, stops-on, elements-on}
-use Rattle.addresses.specs.Through.{pointOf, entryNumber, pipeIndex, line-same, point-inside, point-number, entry-lt, entry-is-at, place-lt, process-at, through-is, place-through}
+use Rattle.addresses.specs.Through.{pointOf, entryNumber, pipeIndex, point-inside, point-number, entry-lt, entry-is-at, place-lt, process-at, through-is, place-through}
 
 -- the stop at place k of pipe base i + j
 pub stop-at : (d : Description) (i j : ℕ) → i < length (streamsOf d) → j < length (entries (d .nest) (streamAt d i)) → (k : ℕ)
@@ -112,7 +112,7 @@ module _ {d : Description} (laid : Laid d) where
     pub length-is : length (pipe n s (entryAt d i (entryNumber d p i))) ≡ before n s y + suc (reach (space n) (move n s) y)
     length-is =
         let h = laid .stream i hi in
-        ap (λ (e : V2). length (pipe n s e)) (entry-is-at laid p i hp hi on) ∙ ap length (line-same h (point-inside laid p hp)) ∙ pipe-length h y
+        ap (λ (e : V2). length (pipe n s e)) (entry-is-at laid p i hp hi on) ∙ ap length (entry-same h (point-inside laid p hp)) ∙ pipe-length h y
 
     pub stops-is : stopsOn A q ≡ before n s y + suc (reach (space n) (move n s) y)
     stops-is =

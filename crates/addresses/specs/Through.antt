@@ -1,10 +1,10 @@
 -- A process and a stream: it is on a pipe exactly if the line through it has a computing process, and then on that of the line's entry, at the place that
 -- `before` says. Assumes a description that is not refused.
-use mathlib.Core.Path.{_≡_, refl, sym, _∙_, ap, ap₂, subst}
+use mathlib.Core.Path.{_≡_, sym, _∙_, ap, ap₂, subst}
 use mathlib.Core.Logic.{_⊎_, inl, inr}
-use mathlib.Core.Bool.{Bool, true, false, not, cond, _&&_}
-use mathlib.Core.List.{List, [], _∷_, map, List·Memᴰ as In}
-use Prim.Native.Nat.{ℕ, zero, suc, _+_, _<_}
+use mathlib.Core.Bool.{Bool, true, not, _&&_}
+use mathlib.Core.List.{List, map, List·Memᴰ as In}
+use Prim.Native.Nat.{ℕ, _+_, _<_}
 use native.Mathlib.Omega.{arith}
 use lib.Dec.{T, T-not, not-T, eqb, ltb→lt, eqb→eq}
 use lib.ListN.{length, getD}
@@ -14,45 +14,26 @@ use Rattle.integers.specs.declared.V2.{V2}
 use Rattle.meaning.specs.declared.Nest.{Nest}
 use Rattle.meaning.specs.declared.Stream.{Stream}
 use Rattle.meaning.specs.declared.Description.{Description}
-use Rattle.meaning.specs.Lists.{any, position}
+use Rattle.meaning.specs.Lists.{any}
 use Rattle.meaning.specs.Space.{rowIndex, space, processes, computing}
 use Rattle.meaning.specs.Pipes.{pipe, before, isPipe, isEntry, entries}
 use Rattle.meaning.specs.Description.{streamsOf}
 use Rattle.meaning.specs.Body.{streamStart}
 use Rattle.meaning.specs.Array.{Stop, Pipe, stopOf, pipeOf, Array, arrayOf, pipeNumber, noPipe, noStop, isStop, pipeThrough, onPipe, placeOn}
 use Rattle.meaning.specs.Points.{Inside}
-use Rattle.geometry.specs.Members.{in-filter, filter-in, any-yes, map-in, map-at}
-use Rattle.geometry.specs.Numbers.{decide, and-left, and-right, both}
+use Rattle.lists.specs.Members.{filter-in, any-yes, map-in, map-at}
+use Rattle.lists.specs.Tests.{is-true, is-false, position-passes}
+use Rattle.geometry.specs.Numbers.{decide, and-left, and-right}
 use Rattle.geometry.specs.Places.{ahead, getD-in, getD-ahead, ahead-lt, rank, ahead-filter}
-use Rattle.geometry.specs.Boxes.{row-distinct, inside-points, points-inside, points-sorted}
+use Rattle.geometry.specs.Boxes.{row-distinct, points-inside, points-sorted}
 use Rattle.geometry.specs.RowOrder.{row-at, row-lt, row-number}
 use Rattle.geometry.specs.Pipes.{Accepted, in-pipe, pipe-self, same-pipe}
 use Rattle.geometry.specs.Positions.{before-is, pipe-length}
-use Rattle.geometry.specs.Elements.{entryOf, entry-pipe, entry-is, is-entry, entries-entry}
+use Rattle.geometry.specs.Elements.{entryOf, entry-is, entries-entry, entry-same, line-entry}
 use Rattle.geometry.specs.Descriptions.{Laid}
 use Rattle.geometry.specs.Wiring.{processAt, wired}
 use Rattle.geometry.specs.Arrays.{streamAt, PipeIs, pipe-is, one-number, through, place-on}
 use Rattle.addresses.specs.Pipes.{base, entryAt, pipe-lt, pipe-at}
-
-pub is-true : (b : Bool) → T b → b ≡ true
-is-true true t = refl
-is-true false t = absurd t
-
-is-false : (b : Bool) → T (not b) → b ≡ false
-is-false true t = absurd t
-is-false false t = refl
-
--- what `position` finds passes the test
-position-passes : {X : Type 0} (f : X → Bool) (d : X) (l : List X) → position f l < length l → T (f (getD l (position f l) d))
-unfolding position
-position-passes f d [] h = absurd (omega arith)
-position-passes {X} f d (x ∷ l) h = go (f x) (λ t. t) h (position-passes f d l)
-  where
-    go : (b : Bool) → (T b → T (f x)) → cond b 0 (suc (position f l)) < suc (length l)
-        → (position f l < length l → T (f (getD l (position f l) d)))
-        → T (f (getD (x ∷ l) (cond b 0 (suc (position f l))) d))
-    go true e h ih = e tt
-    go false e h ih = ih (omega arith)
 
 -- the point of a process
 abbrev pub pointOf : Description → ℕ → V2
@@ -61,19 +42,6 @@ pointOf d p = getD (processes (d .nest)) p zero2
 -- ---- lines
 
 module _ {n : Nest} {s : Stream} (h : Accepted n s) where
-  -- the line's entry has the same points
-  pub line-same : {y : V2} → Inside (space n) y → pipe n s (entryOf n s y) ≡ pipe n s y
-  line-same {y} hy = same-pipe h hy (entry-is h hy .inside) (entry-pipe h y)
-
-  -- so it is an entry if one of them computes
-  pub line-entry : {y : V2} → Inside (space n) y → T (isPipe n s y) → In (entryOf n s y) (entries n s)
-  line-entry {y} hy t =
-      let e = entryOf n s y in
-      let b = entry-is h hy in
-      in-filter (λ y. isEntry n s y && isPipe n s y) (inside-points (space n) e (b .inside))
-      (both (isEntry n s e) (isPipe n s e) (is-entry h b)
-      (subst (λ (l : List V2). T (any (computing n) l)) (sym (line-same hy)) t))
-
   pub entry-line : {e : V2} → In e (entries n s) → T (isPipe n s e)
   entry-line {e} i = and-right (isEntry n s e) (isPipe n s e) (filter-in (λ y. isEntry n s y && isPipe n s y) (processes n) i .ok)
 
@@ -81,8 +49,8 @@ module _ {n : Nest} {s : Stream} (h : Accepted n s) where
   pub line-place : {y : V2} → Inside (space n) y
       → (before n s y < length (pipe n s (entryOf n s y))) × (processAt n s (entryOf n s y) (before n s y) ≡ y)
   line-place {y} hy = (
-    subst (λ (l : List V2). before n s y < length l) (sym (line-same hy)) (omega (arith, pipe-length h y)),
-    ap (λ (l : List V2). getD l (before n s y) zero2) (line-same hy)
+    subst (λ (l : List V2). before n s y < length l) (sym (entry-same h hy)) (omega (arith, pipe-length h y)),
+    ap (λ (l : List V2). getD l (before n s y) zero2) (entry-same h hy)
         ∙ ap (λ (k : ℕ). getD (pipe n s y) k zero2) (sym (before-is h y)) ∙ getD-ahead y zero2 (pipe-self h hy),
   )
 
@@ -221,7 +189,7 @@ module _ {d : Description} (laid : Laid d) where
     on-line : pipeThrough A p i < pipeNumber A → T (isPipe n s y)
     on-line h =
         let r = pipe-is d (pipeThrough A p i) h in
-        let t = subst (λ (w : Pipe). T (passing w)) (r .is) (position-passes passing noPipe (A .pipes) h) in
+        let t = subst (λ (w : Pipe). T (passing w)) (r .is) (subst T (sym (position-passes passing noPipe (A .pipes) h)) tt) in
         let stops = map (stopOf n (streamAt d (r .stream))) (pipe n (streamAt d (r .stream)) (r .entry)) in
         let e : r .stream ≡ i = eqb→eq (r .stream) i (and-left (eqb (r .stream) i) (any (isStop p) stops) t) in
         let u = any-yes (isStop p) stops (and-right (eqb (r .stream) i) (any (isStop p) stops) t) in

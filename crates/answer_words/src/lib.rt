@@ -3,7 +3,6 @@
 //
 // specs/: Words, what the words of an answer are, by `Answers` of meaning.
 ghost use mathlib.Core.Path.{_≡_};
-ghost use mathlib.Core.Bool.{cond};
 ghost use lib.ListN.{set};
 ghost use Rattle.meaning.specs.Answers.{answerNumber};
 ghost use Rattle.answer_words.specs.Words.{ofAnswer, ofRan, ofReadiness, noted};
@@ -28,13 +27,6 @@ pub fn number_of(answer: Answer) -> u32
     }
 }
 
-// 1 if so, 0 if not.
-fn digit(b: bool) -> u32
-    ensures { λ r. ⌜ r ≡ cond b 1 0 ⌝ }
-{
-    if b { 1 } else { 0 }
-}
-
 // Of Table, Start, Step, Result and Plain run.
 pub fn of_answer(answer: Answer) -> Words
     ensures { λ r. ⌜ r ≡ ofAnswer answer ⌝ }
@@ -54,7 +46,7 @@ pub fn of_ran(answer: Ran) -> Words
         Ran::Ran { steps, ready } => Words {
             number: 0,
             first: steps,
-            second: digit(ready),
+            second: words::flag(ready),
         },
         Ran::Refused(number) => Words {
             number: number,

@@ -5,7 +5,6 @@
 //
 //   Kept      what Accept, Run, Ready and Window leave in lent words
 ghost use mathlib.Core.Path.{_≡_};
-ghost use mathlib.Core.Bool.{cond};
 ghost use mathlib.Core.List.{[], _∷_};
 ghost use lib.ListN.{length};
 ghost use Rattle.meaning.specs.Limits.{limitsOf};
@@ -133,13 +132,6 @@ pub extern "C" fn beqlanosh_step(
     answer_words::number_of(answer)
 }
 
-// 1 if so, 0 if not.
-fn digit(b: bool) -> u32
-    ensures { λ r. ⌜ r ≡ cond b 1 0 ⌝ }
-{
-    if b { 1 } else { 0 }
-}
-
 // RUN: so many steps, lowest first; how many were done, and 1 if any is ready, 0 if none.
 #[no_mangle]
 pub extern "C" fn beqlanosh_run(
@@ -161,7 +153,7 @@ pub extern "C" fn beqlanosh_run(
     let ran = run::run(board, bytes, steps, waiting, received, state);
     match ran {
         Ran::Ran { steps: done, ready } => {
-            *answer = [done, digit(ready)];
+            *answer = [done, words::flag(ready)];
             0
         }
         Ran::Refused(number) => number,

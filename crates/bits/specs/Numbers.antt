@@ -6,9 +6,10 @@ use Prim.Native.Nat.{ℕ, zero, suc, _+_, _≤_, _<_}
 use native.Mathlib.Nat.{zero-add, suc-add, add-zero}
 use native.Mathlib.Omega.{arith}
 use lib.Dec.{ltb}
-use lib.ListN.{length, getD, set, replicate}
+use lib.ListN.{length, set, replicate}
 use borrow.Author.Tests.{lt-ltb, le-ltb}
 use Rattle.meaning.specs.Lists.{filter, position, numbersFrom, numbers}
+use Rattle.lists.specs.Rows.{numbers-add, same-numbers}
 
 -- an outcome passes if it is true
 abbrev pub passes : Bool → Bool
@@ -41,39 +42,13 @@ module _ {A : Type 0} (f : A → Bool) where
 -- ---- consecutive numbers
 
 module _ {B : Type 0} where
-  pub length-numbers : (f : ℕ → B) (i n : ℕ) → length (map f (numbersFrom i n)) ≡ n
-  unfolding numbersFrom
-  length-numbers f i zero = refl
-  length-numbers f i (suc n) = ap suc (length-numbers f (suc i) n)
-
-  pub getD-numbers : (f : ℕ → B) (i n j : ℕ) (d : B) → j < n → getD (map f (numbersFrom i n)) j d ≡ f (i + j)
-  unfolding numbersFrom
-  getD-numbers f i zero j d h = absurd (omega arith)
-  getD-numbers f i (suc n) zero d h = ap f (sym (add-zero i))
-  getD-numbers f i (suc n) (suc j) d h = getD-numbers f (suc i) n j d (omega arith) ∙ ap f (omega arith)
-
-  pub numbers-add : (f : ℕ → B) (i m n : ℕ) → map f (numbersFrom i (m + n)) ≡ map f (numbersFrom i m) ++ map f (numbersFrom (i + m) n)
-  unfolding numbersFrom
-  numbers-add f i zero n = simp (zero-add, add-zero)
-  numbers-add f i (suc m) n =
-      ap (λ (k : ℕ). map f (numbersFrom i k)) (suc-add m n)
-      ∙ ap (λ (l : List B). f i ∷ l) (numbers-add f (suc i) m n ∙ ap (λ (k : ℕ). map f (numbersFrom (suc i) m) ++ map f (numbersFrom k n)) (omega arith))
-
-  -- functions that agree on the numbers
-  pub numbers-agree : (f g : ℕ → B) (i n : ℕ) → ((j : ℕ) → i ≤ j → j < i + n → f j ≡ g j) → map f (numbersFrom i n) ≡ map g (numbersFrom i n)
-  unfolding numbersFrom
-  numbers-agree f g i zero h = refl
-  numbers-agree f g i (suc n) h =
-      ap (λ (y : B). y ∷ map f (numbersFrom (suc i) n)) (h i (omega arith) (omega arith))
-      ∙ ap (λ (l : List B). g i ∷ l) (numbers-agree f g (suc i) n (λ j l m. h j (omega arith) (omega arith)))
-
   -- functions that differ at the number i + j alone
   pub numbers-set : (f g : ℕ → B) (i n j : ℕ) → j < n → ((x : ℕ) → (x ≡ i + j → ⊥) → g x ≡ f x) → set (map f (numbersFrom i n)) j (g (i + j)) ≡ map g (numbersFrom i n)
   unfolding numbersFrom
   numbers-set f g i zero j h e = absurd (omega arith)
   numbers-set f g i (suc n) zero h e =
       ap (λ (k : ℕ). g k ∷ map f (numbersFrom (suc i) n)) (add-zero i)
-      ∙ ap (λ (l : List B). g i ∷ l) (numbers-agree f g (suc i) n (λ j l m. sym (e j (λ (d : j ≡ i + 0). omega arith))))
+      ∙ ap (λ (l : List B). g i ∷ l) (same-numbers f g (suc i) n (λ j l m. sym (e j (λ (d : j ≡ i + 0). omega arith))))
   numbers-set f g i (suc n) (suc j) h e =
       ap (λ (y : B). y ∷ set (map f (numbersFrom (suc i) n)) j (g (i + suc j))) (sym (e i (λ (d : i ≡ i + suc j). omega arith)))
       ∙ ap (λ (l : List B). g i ∷ l) (ap (λ (k : ℕ). set (map f (numbersFrom (suc i) n)) j (g k)) s ∙ numbers-set f g (suc i) n j (omega arith) (λ x d. e x (λ (q : x ≡ i + suc j). d (q ∙ s))))
@@ -101,8 +76,8 @@ none-pass i (suc n) = ap (λ (l : List Bool). false ∷ l) (none-pass (suc i) n)
 pub below-outcomes : (f : ℕ → Bool) (n m : ℕ) → map (below n f) (numbers (n + m)) ≡ map f (numbers n) ++ replicate m false
 below-outcomes f n m =
     numbers-add (below n f) 0 n m
-    ∙ ap (λ (l : List Bool). l ++ map (below n f) (numbersFrom (0 + n) m)) (numbers-agree (below n f) f 0 n (λ j l h. below-true n f j (omega arith)))
-    ∙ ap (λ (l : List Bool). map f (numbers n) ++ l) (numbers-agree (below n f) (λ p. false) (0 + n) m (λ j l h. below-false n f j (omega arith)) ∙ none-pass (0 + n) m)
+    ∙ ap (λ (l : List Bool). l ++ map (below n f) (numbersFrom (0 + n) m)) (same-numbers (below n f) f 0 n (λ j l h. below-true n f j (omega arith)))
+    ∙ ap (λ (l : List Bool). map f (numbers n) ++ l) (same-numbers (below n f) (λ p. false) (0 + n) m (λ j l h. below-false n f j (omega arith)) ∙ none-pass (0 + n) m)
 
 -- ---- outcomes in two parts
 

@@ -13,7 +13,8 @@ use lib.ListN.{length, getD, drop, set, replicate, List·getD-append}
 use lib.Seq.{set-append-left}
 use borrow.Author.Tests.{eq-eqb, ne-eqb}
 use Rattle.meaning.specs.Lists.{filter, position, total, numbersFrom, numbers}
-use Rattle.bits.specs.Numbers.{howMany, firstTrue, below, count-map, position-map, length-numbers, getD-numbers, numbers-add, numbers-agree, numbers-set, below-outcomes, many-append, many-false, first-le, first-in, first-past, first-false}
+use Rattle.lists.specs.Rows.{length-numbers, getD-numbers, numbers-add, same-numbers}
+use Rattle.bits.specs.Numbers.{howMany, firstTrue, below, count-map, position-map, numbers-set, below-outcomes, many-append, many-false, first-le, first-in, first-past, first-false}
 use Rattle.bits.specs.Word.{value, value-sum, value-set, value-ones, value-trailing, value-zero, value-some}
 
 -- process 64 k + b is bit b of word k
@@ -101,7 +102,7 @@ module _ (f : ℕ → Bool) (p : ℕ) where
   word-other : (k : ℕ) → (k ≡ 0 + p / 64 → ⊥) → wordOf (including f p) k ≡ wordOf f k
   word-other k n =
       word-is (including f p) k
-      ∙ ap value (numbers-agree (including f p) f (64 * k) 64 (λ j l h. including-other f p j (λ e. n (omega (arith, place, low)))))
+      ∙ ap value (same-numbers (including f p) f (64 * k) 64 (λ j l h. including-other f p j (λ e. n (omega (arith, place, low)))))
       ∙ sym (word-is f k)
 
   pub words-marked : (rest : List ℕ) → p < 1024 → marked (wordsOf f ++ rest) p ≡ wordsOf (including f p) ++ rest
@@ -121,7 +122,7 @@ module _ (f : ℕ → Bool) (p : ℕ) where
       fits = rw words-length at
 
       read : getD (wordsOf f ++ rest) k 0 ≡ wordOf f k
-      read = List·getD-append (wordsOf f) rest 0 k fits ∙ getD-numbers (wordOf f) 0 16 k 0 at ∙ ap (wordOf f) (zero-add k)
+      read = List·getD-append (wordsOf f) rest 0 k fits ∙ getD-numbers (wordOf f) 0 0 16 k at ∙ ap (wordOf f) (zero-add k)
 
 -- ---- m words from word k on
 

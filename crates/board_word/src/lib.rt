@@ -1,13 +1,7 @@
 // The board that a program is told by its first argument, request 2.9: a decimal numeral. An argument that is no numeral of a word is 4,294,967,295, which is no board.
 ghost use mathlib.Core.Path.{_≡_};
-ghost use Prim.Native.Nat.{_<_, min};
+ghost use Prim.Native.Nat.{min};
 ghost use Rattle.board_word.specs.Numeral.{withDigit, valueOf, numeralOf};
-
-fn wide(x: u32) -> u64
-    ensures { λ r. ⌜ (r ≡ x) × (r < 4294967296) ⌝ }
-{
-    x as u64
-}
 
 fn capped(x: u64) -> u32
     ensures { λ r. ⌜ r ≡ min x 4294967295 ⌝ }
@@ -25,7 +19,7 @@ fn with_digit(value: u32, c: u8) -> u32
     if b'9' < c {
         return 4294967295;
     }
-    capped(10 * wide(value) + (c - b'0') as u64)
+    capped(10 * words::wide(value) + (c - b'0') as u64)
 }
 
 // The value of characters, of none 0.

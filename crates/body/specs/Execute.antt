@@ -13,9 +13,10 @@ use Rattle.meaning.specs.Body.{runLines, gather, scatter, execute, touchedBy}
 use Rattle.meaning.specs.Array.{Array}
 use Rattle.meaning.specs.State.{Word, index, read, write}
 use Rattle.meaning.specs.Rules.{bodyAt, writeAll}
+use Rattle.lists.specs.Stores.{scatter-first}
 use Rattle.body.specs.Fit.{Fit}
 use Rattle.body.specs.Lines.{bodyOf, body-in-registers}
-use Rattle.body.specs.Store.{cleared, registers, gather-length, scatter-first}
+use Rattle.body.specs.Store.{cleared, registers, gather-length}
 
 -- instance x of the lines ls, whose values stand at the places ps
 abbrev pub executeAt : V3 → List Line → List ℕ → List ℕ → List ℕ

@@ -50,10 +50,3 @@ scatter-next store ps vs i h k = rw (drop-cons ps i 0, drop-cons vs i 0, add-one
 pub scatter-end : (store ps vs : List ℕ) (i : ℕ) → length ps ≤ i → scatter store (drop i ps) vs ≡ store
 unfolding scatter
 scatter-end store ps vs i h = rw (drop-of-length-le ps h)
-
--- values past the places change nothing
-pub scatter-first : (store ps vs : List ℕ) → scatter store ps (take (length ps) vs) ≡ scatter store ps vs
-unfolding scatter
-scatter-first store [] vs = refl
-scatter-first store (p ∷ ps) [] = refl
-scatter-first store (p ∷ ps) (v ∷ vs) = scatter-first (set store p v) ps vs

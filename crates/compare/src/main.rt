@@ -26,15 +26,9 @@ const MOST_ELEMENTS: u32 = ELEMENTS as u32;
 
 // ---- values and sums
 
-fn wide(x: u32) -> u64
-    ensures { λ r. ⌜ r < 4294967296 ⌝ }
-{
-    x as u64
-}
-
 // The one rule behind values and sums. It tells lists apart that differ in one place.
 fn mix(sum: u32, word: u32) -> u32 {
-    ((wide(sum) * 1664525 + wide(word) + 1013904223) % 4294967296) as u32
+    ((words::wide(sum) * 1664525 + words::wide(word) + 1013904223) % 4294967296) as u32
 }
 
 // A whole number modulo 2^32.
@@ -137,14 +131,14 @@ fn print(text: &[u8]) {
 
 fn print_number(x: u32) {
     print(b" ");
-    io::print_decimal(STDOUT_FILENO, wide(x));
+    io::print_decimal(STDOUT_FILENO, words::wide(x));
 }
 
 fn print_signed(z: i32) {
     let size = integers::magnitude(z);
     if z < 0 {
         print(b" -");
-        io::print_decimal(STDOUT_FILENO, wide(size));
+        io::print_decimal(STDOUT_FILENO, words::wide(size));
     } else {
         print_number(size);
     }
@@ -214,20 +208,13 @@ fn print_list(name: &[u8], words: &[u32], count: usize)
     print(b"\n");
 }
 
-fn number_of(answer: Answer) -> u32 {
-    match answer {
-        Answer::Done => 0,
-        Answer::Refused(number) => number,
-    }
-}
-
 fn print_call(answer: Answer, sum: u32) {
-    print_number(number_of(answer));
+    print_number(answer_words::number_of(answer));
     print_number(sum);
 }
 
 fn print_figures(f: Figures, g: Divisors) {
-    io::print_decimal(STDOUT_FILENO, wide(f.processes));
+    io::print_decimal(STDOUT_FILENO, words::wide(f.processes));
     print_number(f.instances);
     print_number(f.elements);
     print_number(f.pipes);

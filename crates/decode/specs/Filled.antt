@@ -7,19 +7,15 @@ use Prim.Native.Nat.{ℕ, zero, suc, _+_, _-_, _≤_, _<_}
 use native.Mathlib.Omega.{arith}
 use lib.Dec.{ltb}
 use borrow.Author.Tests.{ltb-true, ltb-false}
-use lib.ListN.{length, getD, set, replicate, length-replicate, getD-replicate, List·getD-eq-default}
+use lib.ListN.{getD, set, replicate, length-replicate, getD-replicate, List·getD-eq-default}
 use lib.Seq.{set-at, append-snoc}
 use Rattle.integers.specs.Fill.{fillBy, fill-at, fill-past}
 use Rattle.meaning.specs.Lists.{numbers, numbersFrom}
+use Rattle.lists.specs.Rows.{length-numbers}
 
 module _ {A : Type 0} (f : ℕ → A) where
   abbrev pub filled : ℕ → ℕ → A → List A
   filled n k d = map f (numbers n) ++ replicate (k - n) d
-
-  map-length : (i n : ℕ) → length (map f (numbersFrom i n)) ≡ n
-  unfolding numbersFrom
-  map-length i zero = refl
-  map-length i (suc n) = ap suc (map-length (suc i) n)
 
   map-more : (i n : ℕ) {j : ℕ} → i + n ≡ j → map f (numbersFrom i (suc n)) ≡ map f (numbersFrom i n) ++ (f j ∷ [])
   unfolding numbersFrom
@@ -34,7 +30,7 @@ module _ {A : Type 0} (f : ℕ → A) where
       let e : k - n ≡ suc (k - suc n) = omega arith in
       let rest = replicate (k - suc n) d in
       ap (λ (l : List A). set l n (f n)) (fill-is n k d (omega arith) ∙ ap (λ (j : ℕ). map f (numbers n) ++ replicate j d) e)
-      ∙ set-at (map f (numbers n)) d rest (f n) n (map-length 0 n)
+      ∙ set-at (map f (numbers n)) d rest (f n) n (length-numbers f 0 n)
       ∙ sym (append-snoc (map f (numbers n)) (f n) rest)
       ∙ ap (λ (l : List A). l ++ rest) (sym (map-more 0 n (omega arith)))
 

@@ -30,7 +30,7 @@ use Rattle.meaning.specs.Guards.{lastComparison}
 use Rattle.meaning.specs.Description.{sizesOf, matrixWords, leftAt, rightAt, directionAt, stepAt, placeAt, mapAt, loadingAt, lineWords, lineAt, wordsOf, inRange, vectorAt, unit3, matrixAt, nestOf, loadingOf, streamOf, bodyLine, noStream, noLine, descriptionOf, refused1, refused2, refused3, refused4, refused5}
 use Rattle.decode.specs.Offsets.{Sized, two-or-three}
 use Rattle.decode.specs.Filled.{filled-each}
-use Rattle.decode.specs.Scans.{every-at}
+use Rattle.lists.specs.Rows.{every-numbers}
 use Rattle.decode.specs.Ranges.{rangeTest, range-is, in-bounds, in-directions, in-steps, in-matrices, in-loading, lineTest, in-lines, in-operations, in-operands, in-loops, in-comparisons, in-guard-bounds}
 use Rattle.decode.specs.Refusals.{firstTests, neither, passed, sizes-in-range}
 
@@ -114,7 +114,7 @@ module _ (s : List ℕ) (z : Sizes) (h : Sized z) (good : refused4 s z ≡ false
   unfolding wordAt
   tested k l m =
       let all : every (λ k. inRange z k (wordAt s k)) (numbersFrom 3 (wordsOf z - 3)) ≡ true = not-false _ good in
-      range-is z k (bitsAt s k) h ∙ every-at (λ k. inRange z k (wordAt s k)) 3 (wordsOf z - 3) all k l (omega arith)
+      range-is z k (bitsAt s k) h ∙ every-numbers (λ k. inRange z k (wordAt s k)) 3 (wordsOf z - 3) all k l (omega arith)
 
   -- a word of each part
   bound-word : (k : ℕ) → 3 ≤ k → k < directionAt z → Abs (wordAt s k) 64

@@ -10,12 +10,8 @@ use Rattle.meaning.specs.declared.Nest.{Nest}
 use Rattle.meaning.specs.Tests.{Test, _if_, refusal}
 use Rattle.meaning.specs.Description.{sizesOf, nestOf, refused1, refused2, refused3, refused4, refused5}
 use Rattle.meaning.specs.Accept.{byteTests}
+use Rattle.lists.specs.Tests.{both-true}
 use Rattle.decode.specs.Offsets.{Sized}
-
--- both parts of a test that holds, and of one that fails
-both : (a b : Bool) → a && b ≡ true → (a ≡ true) × (b ≡ true)
-both true b e = (refl, e)
-both false b e = absurd (subst (λ (t : Bool). T (not t)) e tt)
 
 pub neither : (a b : Bool) → a || b ≡ false → (a ≡ false) × (b ≡ false)
 neither true b e = absurd (subst T e tt)
@@ -62,9 +58,9 @@ pub sizes-in-range : (z : Sizes) → refused2 z ≡ false → Sized z
 sizes-in-range z e =
     let p = neither (not a || not b) (not d) e in
     let q = neither (not a) (not b) (p .0) in
-    let l = both (leb 2 (z .loops)) (leb (z .loops) 3) (not-false a (q .0)) in
-    let m = both (leb 1 (z .streams)) (leb (z .streams) 6) (not-false b (q .1)) in
-    let n = both (leb 1 (z .lines)) (leb (z .lines) 8) (not-false d (p .1)) in
+    let l = both-true (leb 2 (z .loops)) (leb (z .loops) 3) (not-false a (q .0)) in
+    let m = both-true (leb 1 (z .streams)) (leb (z .streams) 6) (not-false b (q .1)) in
+    let n = both-true (leb 1 (z .lines)) (leb (z .lines) 8) (not-false d (p .1)) in
     record {
       least-loops = leb-true 2 (z .loops) (l .0);
       most-loops = leb-true (z .loops) 3 (l .1);

@@ -15,7 +15,7 @@ use Rattle.meaning.specs.Limits.{limitsOf}
 use Rattle.meaning.specs.Rules.{Memory, memoryOf}
 use Rattle.meaning.specs.Answers.{answerNumber}
 use Rattle.meaning.specs.Calls.{start, step, run, readyCall, window, result}
-use Rattle.meaning.specs.Demand3.{Call, CallStep, CallRun, CallReady, CallWindow, CallResult, Told, leaves, memoryAfter, Demand3}
+use Rattle.meaning.specs.Demand3.{CallStep, CallRun, CallReady, CallWindow, CallResult, Told, leaves, memoryAfter, Demand3}
 use Rattle.answer_words.specs.declared.Words.{Words}
 use Rattle.answer_words.specs.Words.{wordsOf, ofAnswer, ofRan, ofReadiness, noted}
 use Rattle.guarantee.specs.Guarantee.{guarantee}

@@ -1,13 +1,12 @@
 -- Where the element that an instance touches waits: in the part of the entry of its process's line, at its index there. Assumes a description that is not
 -- refused.
 use mathlib.Core.Path.{_≡_, refl, sym, _∙_, ap, ap₂, subst}
-use mathlib.Core.Bool.{Bool, true, false, cond}
 use mathlib.Core.List.{List, [], _∷_}
-use Prim.Native.Nat.{ℕ, zero, suc, _+_, _-_, _*_, _≤_, _<_}
+use Prim.Native.Nat.{ℕ, suc, _+_, _-_, _*_, _≤_, _<_}
 use native.Mathlib.Omega.{arith}
 use native.Mathlib.Decide.{decLe}
 use lib.Dec.{eqb}
-use lib.ListN.{length, getD, take}
+use lib.ListN.{length, getD}
 use lib.Seq.{getD-take, take-take}
 use Rattle.integers.specs.Vectors.{zero2, zero3, image}
 use Rattle.integers.specs.declared.V3.{V3}
@@ -16,7 +15,7 @@ use Rattle.meaning.specs.declared.Nest.{Nest}
 use Rattle.meaning.specs.declared.Stream.{Stream}
 use Rattle.meaning.specs.declared.Description.{Description}
 use Rattle.meaning.specs.Limits.{gaugeLimits}
-use Rattle.meaning.specs.Lists.{filter, position, total}
+use Rattle.meaning.specs.Lists.{position, total}
 use Rattle.meaning.specs.Loops.{instances, placeOf}
 use Rattle.meaning.specs.Space.{rowIndex, boxOf, space, processes}
 use Rattle.meaning.specs.Streams.{elements}
@@ -27,7 +26,8 @@ use Rattle.meaning.specs.Array.{arrayOf, pipeOrder, partStart}
 use Rattle.meaning.specs.Accept.{refusalOf}
 use Rattle.meaning.specs.Calls.{lengthOf}
 use Rattle.meaning.specs.Points.{Within}
-use Rattle.geometry.specs.Members.{total-next}
+use Rattle.lists.specs.Sums.{total-next}
+use Rattle.lists.specs.Tests.{take-filter}
 use Rattle.geometry.specs.Places.{ahead, getD-in, found}
 use Rattle.geometry.specs.Instances.{within-in, in-within}
 use Rattle.geometry.specs.Boxes.{points-inside, box-has}
@@ -45,24 +45,6 @@ use Rattle.elements.specs.Counts.{total-most}
 use Rattle.pipe_parts.specs.Starts.{entering, startAt}
 use Rattle.figures.specs.Shares.{Described, described}
 use Rattle.element_places.specs.Spread.{spread, spread-length, spread-keeps, spread-puts}
-
--- the members that pass before some place are the first of those that pass
-take-filter : {A : Type 0} (f : A → Bool) (k : ℕ) (l : List A) → take (length (filter f (take k l))) (filter f l) ≡ filter f (take k l)
-unfolding filter
-take-filter f zero [] = refl
-take-filter f (suc k) [] = refl
-take-filter {A} f zero (x ∷ l) = go (cond (f x) (x ∷ filter f l) (filter f l))
-  where
-    go : (m : List A) → take 0 m ≡ []
-    go [] = refl
-    go (y ∷ m) = refl
-take-filter {A} f (suc k) (x ∷ l) = go (f x) (take-filter f k l)
-  where
-    go : (b : Bool) → take (length (filter f (take k l))) (filter f l) ≡ filter f (take k l)
-        → take (length (cond b (x ∷ filter f (take k l)) (filter f (take k l)))) (cond b (x ∷ filter f l) (filter f l))
-        ≡ cond b (x ∷ filter f (take k l)) (filter f (take k l))
-    go true e = ap (λ (m : List A). x ∷ m) e
-    go false e = e
 
 -- ---- of instance k
 

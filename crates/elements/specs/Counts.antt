@@ -12,7 +12,7 @@ use Rattle.meaning.specs.Lists.{total}
 use Rattle.meaning.specs.Streams.{elements}
 use Rattle.meaning.specs.Description.{streamsOf, noStream}
 use Rattle.meaning.specs.Body.{streamStart, elementCount}
-use Rattle.geometry.specs.Members.{total-next}
+use Rattle.lists.specs.Sums.{total-next}
 use Rattle.decode.specs.Ranged.{Ranged}
 
 -- a description in range whose streams in use have at most 4096 elements each

@@ -21,7 +21,8 @@ use Rattle.meaning.specs.Description.{descriptionOf, streamsOf, noStream}
 use Rattle.meaning.specs.Calls.{lengthOf}
 use Rattle.meaning.specs.Accept.{refusalOf, figures}
 use Rattle.numbering.specs.Ranges.{Bounded}
-use Rattle.geometry.specs.Members.{total-next}
+use Rattle.lists.specs.Sums.{total-next}
+use Rattle.lists.specs.Tests.{filter-fewer}
 use Rattle.stream_lines.specs.Accepted.{accepted-within}
 use Rattle.stream_lines.specs.InRange.{nest-bounded}
 use Rattle.stream_lines.specs.StateWords.{end-words}
@@ -30,7 +31,7 @@ use Rattle.elements.specs.Few.{accepted-few}
 use Rattle.lanes.specs.declared.Flow.{Flow}
 use Rattle.lanes.specs.Flow.{Laid, Seen}
 use Rattle.lanes.specs.Accepted.{streams-used, laid-stream}
-use Rattle.pipe_parts.specs.Starts.{entering, filter-fewer}
+use Rattle.pipe_parts.specs.Starts.{entering}
 use Rattle.figures.specs.declared.Share.{Share}
 use Rattle.figures.specs.declared.Sums.{Sums}
 use Rattle.figures.specs.declared.Totals.{Totals}

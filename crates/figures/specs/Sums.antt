@@ -17,6 +17,7 @@ use Rattle.meaning.specs.Space.{space, processes}
 use Rattle.meaning.specs.Streams.{elements}
 use Rattle.meaning.specs.Pipes.{entries, pipe, pipeElements}
 use Rattle.meaning.specs.Points.{Inside}
+use Rattle.lists.specs.Tests.{filter-fewer}
 use Rattle.geometry.specs.Sorting.{fewer}
 use Rattle.geometry.specs.Places.{rank-yes, rank-no}
 use Rattle.geometry.specs.Boxes.{inside-points}
@@ -24,7 +25,7 @@ use Rattle.geometry.specs.Pipes.{Accepted, in-pipe}
 use Rattle.geometry.specs.Positions.{pipe-distinct}
 use Rattle.geometry.specs.Elements.{entries-entry, pipes-total}
 use Rattle.layout.specs.Spans.{processOf}
-use Rattle.pipe_parts.specs.Starts.{entering, total-next, total-part, filter-fewer}
+use Rattle.pipe_parts.specs.Starts.{entering, total-next, total-part}
 use Rattle.figures.specs.declared.Sums.{Sums}
 
 -- ---- lists

@@ -13,10 +13,11 @@ use Rattle.integers.specs.Fill.{fillBy, fill-length, fill-at}
 use Rattle.integers.specs.declared.V3.{V3}
 use Rattle.meaning.specs.declared.Line.{Line}
 use Rattle.meaning.specs.Lists.{every}
+use Rattle.lists.specs.Tests.{both-true}
 use Rattle.body.specs.Fit.{Fit, Runnable}
 use Rattle.body.specs.Execute.{executeAt}
 use Rattle.ports.specs.declared.Port.{Port}
-use Rattle.ports.specs.Links.{word, both}
+use Rattle.ports.specs.Links.{word}
 use Rattle.ports.specs.Ports.{PortFits}
 
 -- ---- use: x were taken and y given, f instances have fired
@@ -132,4 +133,4 @@ runnable n ks m count ls f l g =
     }
 
 pub fire-facts : (l : List ℕ) (ks : List Port) (m : ℕ) → canFire l ks m ≡ true → word l (getD ks 0 noPort .fired) < getD ks 0 noPort .count
-fire-facts l ks m h = ltb-true _ _ (both _ _ h .0)
+fire-facts l ks m h = ltb-true _ _ (both-true _ _ h .0)

@@ -24,7 +24,7 @@ use Rattle.meaning.specs.Streams.{line, stationary, elements, touches, touched}
 use Rattle.meaning.specs.Accept.{isZero3, lowRank, refused7, refused8, refused11, refused12, against, refused16, refused17}
 use Rattle.meaning.specs.Points.{IsLine as Line, Direction, Direction.onward, Direction.back, Directed, Earlier, Earlier.by-outer, Earlier.by-middle, Earlier.by-inner, Inside}
 use Rattle.meaning.specs.Conditions.{Onward, Onward.by-first, Onward.by-second, Onward.by-third}
-use Rattle.geometry.specs.Members.{any-yes, yes-any}
+use Rattle.lists.specs.Members.{any-yes, yes-any}
 use Rattle.geometry.specs.Numbers.{eqZ-eq, eq-eqZ, eq2-eq, eq-eq2, not-zero, positive-not}
 use Rattle.geometry.specs.Lines.{line-is, line-not}
 use Rattle.geometry.specs.Sorting.{fewer}

@@ -23,7 +23,7 @@ use Rattle.meaning.specs.Array.{Stop, Pipe, stopOf, pipeOf, pipesFrom, arrayOf,
 use Rattle.meaning.specs.Body.{streamStart}
 use Rattle.meaning.specs.Points.{Inside}
 use Rattle.meaning.specs.Sorted.{Sorted, Sorted.none}
-use Rattle.geometry.specs.Members.{any-yes, yes-any, map-in, map-at}
+use Rattle.lists.specs.Members.{any-yes, yes-any, map-in, map-at}
 use Rattle.geometry.specs.Sorting.{sorted-filter, sorted-append, sorted-by-map}
 use Rattle.geometry.specs.Numbers.{and-left, and-right, both}
 use Rattle.geometry.specs.Places.{getD-in, found, sorted-at, position-is}

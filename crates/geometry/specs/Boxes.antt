@@ -19,7 +19,7 @@ use Rattle.meaning.specs.Loops.{loop, instances}
 use Rattle.meaning.specs.Space.{Box, inside, points, minZ, maxZ, widen, widenAll, around, boxOf}
 use Rattle.meaning.specs.Points.{Direction.onward, Between, Precedes, Directed, Within, Inside, RowOrder as Row, RowOrder.by-a, RowOrder.by-b}
 use Rattle.meaning.specs.Sorted.{Sorted, Distinct}
-use Rattle.geometry.specs.Members.{Mapped, map-in, in-each, each-in}
+use Rattle.lists.specs.Members.{Mapped, map-in, in-each, each-in}
 use Rattle.geometry.specs.Sorting.{sorted-map, sorted-by-map, sorted-each}
 use Rattle.geometry.specs.Numbers.{and-left, and-right, both, lt-le}
 use Rattle.geometry.specs.Instances.{loop-in, in-loop, progression-sorted, within-in, in-within}

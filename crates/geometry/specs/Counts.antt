@@ -11,7 +11,7 @@ use Rattle.meaning.specs.Loops.{instances, placeOf}
 use Rattle.meaning.specs.Space.{space, processes, instancesAt, count}
 use Rattle.meaning.specs.Points.{Directed, At}
 use Rattle.meaning.specs.Sorted.{Distinct}
-use Rattle.geometry.specs.Members.{in-each, each-in, each-length}
+use Rattle.lists.specs.Members.{in-each, each-in, each-length}
 use Rattle.geometry.specs.Sorting.{sorted-each, fewer}
 use Rattle.geometry.specs.Instances.{within-in, in-within, distinct}
 use Rattle.geometry.specs.Boxes.{row-distinct, inside-points, points-sorted}

@@ -25,7 +25,8 @@ use Rattle.meaning.specs.Accept.{refused33, against, streamTests, testsFrom, ne
 use Rattle.meaning.specs.Tests.{Test, _if_, refusal}
 use Rattle.meaning.specs.Walk.{walkTests, walkRefusal}
 use Rattle.meaning.specs.Points.{Direction, Direction.onward, Direction.back, Directed, Within, Earlier}
-use Rattle.geometry.specs.Members.{in-numbers}
+use Rattle.lists.specs.Members.{in-numbers}
+use Rattle.lists.specs.Tests.{is-true, is-false}
 use Rattle.geometry.specs.Numbers.{eqZ-eq, and-left, and-right}
 use Rattle.geometry.specs.Tests.{numbered as tests-numbered, both-pass}
 use Rattle.geometry.specs.Processes.{Layout}
@@ -102,14 +103,6 @@ every-in f {k} (j ∷ l) t i = go (f j) (λ x. x) t i (every-in f l)
     go true g t (here e) ih = subst (λ (c : ℕ). T (f c)) (sym e) (g tt)
     go true g t (there m) ih = ih t m
     go false g t i ih = absurd t
-
-is-true : (b : Bool) → T b → b ≡ true
-is-true true t = refl
-is-true false t = absurd t
-
-is-false : (b : Bool) → T (not b) → b ≡ false
-is-false true t = absurd t
-is-false false t = refl
 
 -- a word in the range of directions
 direction : (z : Sizes) (k : ℕ) (w : ℤ) → directionAt z ≤ k → k < stepAt z → T (inRange z k w) → Direction w

@@ -9,7 +9,7 @@ use Rattle.meaning.specs.declared.Description.{Description}
 use Rattle.meaning.specs.Loops.{divisor}
 use Rattle.meaning.specs.Description.{noStream, streamsOf}
 use Rattle.meaning.specs.Accept.{streamDivisor}
-use Rattle.geometry.specs.Members.{map-at}
+use Rattle.lists.specs.Members.{map-at}
 
 module _ (d : Description) (used : length (streamsOf d) ≡ d .sizes .streams) (i : ℕ) where
   pub in-use : i < d .sizes .streams → streamDivisor d i ≡ divisor (getD (streamsOf d) i noStream .map)

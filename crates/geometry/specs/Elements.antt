@@ -22,7 +22,7 @@ use Rattle.meaning.specs.Streams.{stationary, move, elements, pass}
 use Rattle.meaning.specs.Pipes.{pipe, before, isPipe, isEntry, entries, uses, usedOn, backward, pipeElements}
 use Rattle.meaning.specs.Points.{Inside, RowOrder as Row}
 use Rattle.meaning.specs.Sorted.{Sorted, Distinct}
-use Rattle.geometry.specs.Members.{in-filter, filter-in, yes-any, in-each, each-in, each-length, each-part}
+use Rattle.lists.specs.Members.{in-filter, filter-in, yes-any, in-each, each-in, each-length, each-part}
 use Rattle.geometry.specs.Sorting.{sorted-with, sorted-filter, sorted-each, distinct-map, sorted-reverse, fewer}
 use Rattle.geometry.specs.Numbers.{and-left, both, zero-shift, shift-neg, neg-not}
 use Rattle.geometry.specs.Places.{ahead, getD-in, getD-ahead, ahead-lt, ahead-getD}
@@ -81,6 +81,10 @@ module _ {n : Nest} {s : Stream} (h : Accepted n s) where
       nil : (p q : ℕ) → pos p ≡ pos q +ℤ negℤ (pos q) → p ≡ 0
       nil p q e = omega (arith, eq-out (e ∙ Is-eq (Is-add (Is-pos q) (Is-neg (Is-pos q))) (Is-pos 0) (omega arith)))
 
+  -- it has the same points
+  pub entry-same : {y : V2} → Inside (space n) y → pipe n s (entryOf n s y) ≡ pipe n s y
+  entry-same {y} hy = same-pipe h hy (entry-is hy .inside) (entry-pipe y)
+
   -- no process stands before one whose predecessor lies outside the process space
   pub entry-before : {y : V2} → Inside (space n) y → isEntry n s y ≡ eqb (before n s y) 0
   entry-before {y} hy = go (inside (space n) (shift2 y (negsuc 0) (move n s))) (before n s y) (inside-yes (space n) _) (inside-in (space n) _)
@@ -120,14 +124,16 @@ module _ {n : Nest} {s : Stream} (h : Accepted n s) where
         zero = eqb→eq (before n s y) 0 (subst T (entry-before (points-inside (space n) y (k .mem))) (and-left (isEntry n s y) (isPipe n s y) (k .ok)));
       }
 
-  pub entry-in : {y : V2} {x : V3} → RunAt n y x → In (entryOf n s y) (entries n s)
-  entry-in {y} a =
-      let hy = in-space h a in
+  -- a line on which a process computes is a pipe, with this entry
+  pub line-entry : {y : V2} → Inside (space n) y → T (isPipe n s y) → In (entryOf n s y) (entries n s)
+  line-entry {y} hy t =
       let b = entry-is hy in
       in-filter (λ y. isEntry n s y && isPipe n s y) (inside-points (space n) (entryOf n s y) (b .inside))
       (both (isEntry n s (entryOf n s y)) (isPipe n s (entryOf n s y)) (is-entry b)
-      (subst (λ (l : List V2). T (any (computing n) l)) (sym (same-pipe h hy (b .inside) (entry-pipe y)))
-      (yes-any (computing n) (pipe-self h hy) (is-computing (h .layout) a))))
+      (subst (λ (l : List V2). T (any (computing n) l)) (sym (entry-same hy)) t))
+
+  pub entry-in : {y : V2} {x : V3} → RunAt n y x → In (entryOf n s y) (entries n s)
+  entry-in {y} a = let hy = in-space h a in line-entry hy (yes-any (computing n) (pipe-self h hy) (is-computing (h .layout) a))
 
   -- ---- G7: the pipes' elements are the stream's, each once
 

@@ -21,7 +21,7 @@ use Rattle.meaning.specs.Loops.{stepOf, increment}
 use Rattle.meaning.specs.Space.{instancesAt, count, first}
 use Rattle.meaning.specs.Array.{insertByStep, byStep, runs}
 use Rattle.meaning.specs.Sorted.{Sorted, Sorted.none, Sorted.more}
-use Rattle.geometry.specs.Members.{map-in, map-at, numbers-in, in-numbers, numbers-length, numbers-at}
+use Rattle.lists.specs.Members.{map-in, map-at, numbers-in, in-numbers, numbers-length, numbers-at}
 use Rattle.geometry.specs.Sorting.{sorted-map, sorted-with, sorted-by-map, numbers-sorted, sorted-unique}
 use Rattle.geometry.specs.Numbers.{not-zero, lt-le, positive-not, zero-on, on-less, on-one, zero-shift3}
 use Rattle.geometry.specs.Lines.{on-line}

@@ -14,7 +14,8 @@ use Rattle.meaning.specs.Lists.{each}
 use Rattle.meaning.specs.Loops.{progression, size, loop, instances}
 use Rattle.meaning.specs.Points.{Direction, Direction.onward, Direction.back, Between, Precedes, Directed, Within, Earlier, Earlier.by-outer, Earlier.by-middle, Earlier.by-inner}
 use Rattle.meaning.specs.Sorted.{Sorted, Sorted.none, Sorted.more, Distinct}
-use Rattle.geometry.specs.Members.{map-in, in-each, each-in, each-length, total-same}
+use Rattle.lists.specs.Members.{map-in, in-each, each-in, each-length}
+use Rattle.lists.specs.Sums.{total-same}
 use Rattle.geometry.specs.Sorting.{sorted-map, sorted-by-map, sorted-each}
 use Rattle.geometry.specs.Numbers.{zero-on}
 use Rattle.geometry.specs.Places.{sorted-at, at-sorted}

@@ -1,5 +1,4 @@
 -- The geometry of an accepted description; src/lib.rt lists the theorems.
-pub mod Members
 pub mod Sorting
 pub mod Best
 pub mod Numbers

@@ -31,7 +31,7 @@ shortest-turn p q s u h = go (ltZ (dot s u) (pos 0))
     go true = shortest-neg p q u h
     go false = h
 
-turn-ahead : (s u : V3) → pos 0 ≤ℤ dot s (turn s u)
+pub turn-ahead : (s u : V3) → pos 0 ≤ℤ dot s (turn s u)
 turn-ahead s u = go (ltZ (dot s u) (pos 0)) (λ t. record { lt = t }) (λ t. ltZ-no t)
   where
     flip : (a b : ℤ) → a ≡ negℤ b → b <ℤ pos 0 → pos 0 ≤ℤ a

@@ -21,7 +21,7 @@ use Rattle.meaning.specs.Streams.{stationary, pass}
 use Rattle.meaning.specs.Pipes.{reach, lineIn, pipe, uses, usedOn, backward, pipeElements}
 use Rattle.meaning.specs.Points.{Inside, RowOrder as Row}
 use Rattle.meaning.specs.Sorted.{Sorted}
-use Rattle.geometry.specs.Members.{in-reverse, reverse-in}
+use Rattle.lists.specs.Members.{in-reverse, reverse-in}
 use Rattle.geometry.specs.Sorting.{sorted-filter, sorted-reverse, sorted-unique}
 use Rattle.geometry.specs.Places.{ahead}
 use Rattle.geometry.specs.Lines.{coordinates, image-other}

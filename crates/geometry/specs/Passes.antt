@@ -22,7 +22,7 @@ use Rattle.meaning.specs.State.{Firings, read}
 use Rattle.meaning.specs.Rules.{Fire, ready, readyToUse, fireInstance}
 use Rattle.meaning.specs.Points.{Within, At}
 use Rattle.meaning.specs.Demand2.{rowAt, RunBy, RunOnce, EveryPass}
-use Rattle.geometry.specs.Members.{map-at}
+use Rattle.lists.specs.Members.{map-at}
 use Rattle.geometry.specs.Numbers.{and-left}
 use Rattle.geometry.specs.Boxes.{box-has}
 use Rattle.geometry.specs.RowOrder.{row-at, row-lt, row-number}

@@ -29,7 +29,7 @@ use Rattle.meaning.specs.Points.{Inside}
 use Rattle.meaning.specs.Sorted.{Sorted}
 use Rattle.meaning.specs.Conditions.{Moves}
 use Rattle.meaning.specs.Demand2.{Uses, Ahead, along, PipeElements, Soaks, PipeEnds}
-use Rattle.geometry.specs.Members.{filter-in}
+use Rattle.lists.specs.Members.{filter-in}
 use Rattle.geometry.specs.Sorting.{sorted-with, sorted-filter, sorted-by-map}
 use Rattle.geometry.specs.Numbers.{decide, eq2-eq, eq-eq2, lt-le, on-less, shift-shift}
 use Rattle.geometry.specs.Places.{ahead, getD-in, found, sorted-from, getD-ahead, ahead-lt, ahead-getD}

@@ -23,7 +23,7 @@ use Rattle.meaning.specs.Array.{pipeOf, pipesFrom, arrayOf, pipeOrder, listLeng
 use Rattle.meaning.specs.Body.{elementCount}
 use Rattle.meaning.specs.Points.{Inside}
 use Rattle.meaning.specs.Sorted.{Sorted.none, Distinct}
-use Rattle.geometry.specs.Members.{map-in, numbers-in, in-numbers, numbers-length}
+use Rattle.lists.specs.Members.{map-in, numbers-in, in-numbers, numbers-length}
 use Rattle.geometry.specs.Sorting.{sorted-map, sorted-append, distinct-map, numbers-sorted, fewer}
 use Rattle.geometry.specs.Places.{getD-in, found, distinct-at, position-is}
 use Rattle.geometry.specs.Boxes.{points-inside}

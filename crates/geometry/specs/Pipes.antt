@@ -17,7 +17,7 @@ use Rattle.meaning.specs.Space.{inside, boxOf, space, instancesAt, first, compu
 use Rattle.meaning.specs.Streams.{line, stationary, move, elements, touches, pass}
 use Rattle.meaning.specs.Pipes.{pipe, isPipe, uses, usedOn, backward, pipeElements}
 use Rattle.meaning.specs.Points.{IsLine as Line, Inside, At}
-use Rattle.geometry.specs.Members.{in-filter, filter-in, no-members, any-yes, yes-any, in-reverse, reverse-in, map-in}
+use Rattle.lists.specs.Members.{in-filter, filter-in, no-members, any-yes, yes-any, in-reverse, reverse-in, map-in}
 use Rattle.geometry.specs.Numbers.{decide, yes-cond, no-cond, eq2-eq, eq-eq2, zero-shift, shift-shift, shift-still, shift-undo}
 use Rattle.geometry.specs.Lines.{on-line, not-sent, one-line}
 use Rattle.geometry.specs.Boxes.{inside-points, box-has}

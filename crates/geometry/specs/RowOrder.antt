@@ -15,7 +15,8 @@ use Rattle.meaning.specs.Loops.{progression, size, loop}
 use Rattle.meaning.specs.Space.{Box, points, rowIndex}
 use Rattle.meaning.specs.Points.{Between, Inside}
 use Rattle.meaning.specs.Sorted.{Sorted}
-use Rattle.geometry.specs.Members.{map-at, each-length, each-at, total-same}
+use Rattle.lists.specs.Members.{map-at, each-length, each-at}
+use Rattle.lists.specs.Sums.{total-same}
 use Rattle.geometry.specs.Places.{getD-in, distinct-at, sorted-from}
 use Rattle.geometry.specs.Instances.{progression-length, progression-at}
 use Rattle.geometry.specs.Boxes.{row-distinct, points-inside, points-sorted}

@@ -19,7 +19,7 @@ use Rattle.meaning.specs.Loops.{instances, stepOf}
 use Rattle.meaning.specs.Space.{eq2, boxOf, sentTo, countOf, sooner, later, firstOf, lastOf}
 use Rattle.meaning.specs.Points.{IsLine as Line, Directed, Within, Inside, At}
 use Rattle.meaning.specs.Sorted.{Distinct}
-use Rattle.geometry.specs.Members.{in-filter, filter-in, no-members}
+use Rattle.lists.specs.Members.{in-filter, filter-in, no-members}
 use Rattle.geometry.specs.Sorting.{sorted-filter, counted}
 use Rattle.geometry.specs.Best.{bestOr-in, bestOr-le}
 use Rattle.geometry.specs.Numbers.{eq2-eq, eq-eq2, lt-le}

@@ -20,7 +20,7 @@ use Rattle.meaning.specs.Streams.{stationary, touches, pass}
 use Rattle.meaning.specs.Pipes.{reach, pipe, uses, pipeElements, soak, drain}
 use Rattle.meaning.specs.Points.{Inside}
 use Rattle.meaning.specs.Demand2.{Uses}
-use Rattle.geometry.specs.Members.{in-filter, filter-in, any-yes, yes-any}
+use Rattle.lists.specs.Members.{in-filter, filter-in, any-yes, yes-any}
 use Rattle.geometry.specs.Numbers.{decide, eq2-eq, eq-eq2}
 use Rattle.geometry.specs.Places.{ahead, position-is, position-last, getD-ahead, ahead-lt, ahead-getD, ahead-map}
 use Rattle.geometry.specs.Boxes.{box-has}

@@ -9,7 +9,7 @@ use native.Mathlib.Omega.{arith}
 use lib.ListN.{length, length-map}
 use Rattle.meaning.specs.Lists.{filter, each, numbersFrom, numbers}
 use Rattle.meaning.specs.Sorted.{Sorted, Sorted.none, Sorted.more, Distinct}
-use Rattle.geometry.specs.Members.{filter-in, map-in, each-in, numbers-in, in-numbers, numbers-length}
+use Rattle.lists.specs.Members.{filter-in, map-in, each-in, numbers-in, in-numbers, numbers-length}
 
 module _ {A : Type 0} where
   -- another order that the first implies

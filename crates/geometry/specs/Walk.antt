@@ -18,7 +18,7 @@ use Rattle.meaning.specs.Space.{rowIndex, space, processes, count, first, last}
 use Rattle.meaning.specs.Sorted.{Sorted, Distinct}
 use Rattle.meaning.specs.Points.{Within}
 use Rattle.meaning.specs.Walk.{ownLine, walk, processNumber, ComesBefore, WholeWalk}
-use Rattle.geometry.specs.Members.{any-same, map-in, in-each, each-in, numbers-in, in-numbers}
+use Rattle.lists.specs.Members.{any-same, map-in, in-each, each-in, numbers-in, in-numbers}
 use Rattle.geometry.specs.Sorting.{sorted-map, sorted-with, sorted-by-map, sorted-each, numbers-sorted, fewer, rearranged}
 use Rattle.geometry.specs.Instances.{within-in, in-within, distinct}
 use Rattle.geometry.specs.Boxes.{inside-points}

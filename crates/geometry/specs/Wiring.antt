@@ -20,7 +20,7 @@ use Rattle.meaning.specs.Space.{boxOf, space, processes, count, first, computin
 use Rattle.meaning.specs.Streams.{line, stationary, move, hop, elements}
 use Rattle.meaning.specs.Pipes.{pipe, before, isPipe, isEntry, entries, pipeElements, soak, drain}
 use Rattle.meaning.specs.Points.{Within, Earlier, Inside}
-use Rattle.geometry.specs.Members.{filter-in, any-yes}
+use Rattle.lists.specs.Members.{filter-in, any-yes}
 use Rattle.geometry.specs.Numbers.{and-right, zero-shift}
 use Rattle.geometry.specs.Places.{ahead, getD-in, getD-ahead, ahead-getD, rank, ahead-filter}
 use Rattle.geometry.specs.Instances.{in-within, number-earlier}
@@ -31,7 +31,7 @@ use Rattle.geometry.specs.Pipes.{Accepted, OnePipe, flip-pipe, join-pipe
 use Rattle.geometry.specs.Soaks.{soak-first, soak-rank, still-total, element-index, element-at, total-is}
 use Rattle.geometry.specs.Positions.{pipe-distinct, before-is, pipe-length, pipe-at, at-inside, at-pipe, before-at, pipe-next, hop-positive}
 use Rattle.geometry.specs.Clock.{Clock, clock-from, clock}
-use Rattle.geometry.specs.Elements.{entryOf, homeOf, indexOf, entry-pipe, entry-is, one-entry, entries-entry, entry-in, elements-distinct, home-in, home-is, pipes-total, index-lt, element-home, home-element}
+use Rattle.geometry.specs.Elements.{entryOf, homeOf, indexOf, entry-pipe, entry-is, entry-same, one-entry, entries-entry, entry-in, elements-distinct, home-in, home-is, pipes-total, index-lt, element-home, home-element}
 use Rattle.geometry.specs.Order.{written-moving, written-still}
 
 -- the process at position k of the pipe that enters at y, and its element of index j
@@ -108,9 +108,6 @@ module _ {n : Nest} {s : Stream} (h : Accepted n s) where
   entry-elements : {p : V2} → Inside (space n) p → pipeElements n s (entryOf n s p) ≡ pipeElements n s p
   entry-elements {p} hp = same-elements h hp (entry-is h hp .inside) (entry-pipe h p)
 
-  entry-same : {p : V2} → Inside (space n) p → pipe n s (entryOf n s p) ≡ pipe n s p
-  entry-same {p} hp = same-pipe h hp (entry-is h hp .inside) (entry-pipe h p)
-
   -- an entry's pipe has a computing process
   computing-on : {y : V2} → In y (entries n s) → (p : V2) × Inside (space n) p × OnePipe n s y p × T (computing n p)
   computing-on {y} i =
@@ -144,8 +141,8 @@ module _ {n : Nest} {s : Stream} (h : Accepted n s) where
             let b = computes (h .layout) p c in
             let hp = in-space h b in (
               entry-in h b,
-              subst (λ (l : List V2). before n s p < length l) (sym (entry-same hp)) (omega (arith, pipe-length h p)),
-              ap (λ (l : List V2). getD l (before n s p) zero2) (entry-same hp)
+              subst (λ (l : List V2). before n s p < length l) (sym (entry-same h hp)) (omega (arith, pipe-length h p)),
+              ap (λ (l : List V2). getD l (before n s p) zero2) (entry-same h hp)
                   ∙ ap (λ (k : ℕ). getD (pipe n s p) k zero2) (sym (before-is h p)) ∙ getD-ahead p zero2 (pipe-self h hp),
             );
         places = hop-positive h;

@@ -23,7 +23,7 @@
 //   limits             UpTo: `up-to`: what is accepted under some limits is accepted under higher ones; `by-gauge`, `by-board`: under the gauge's
 //   for the network    Wiring: `wired`, `flowing`, `keeping`, `meeting`; Arrays: `pipe-is`, `pipe-of`, `through`, `place-on`
 //
-// Members, Sorting, Best, Numbers, Places, Reach and BoxLines are what these use; Tests is for the crates above. No theorem uses that an increment's
+// Sorting, Best, Numbers, Places, Reach and BoxLines are what these use; Tests is for the crates above. No theorem uses that an increment's
 // components lie in −1 to 1, nor, but for those of UpTo, a limit.
 pub fn one() -> usize {
     1

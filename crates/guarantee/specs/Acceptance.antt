@@ -21,8 +21,8 @@ use Rattle.meaning.specs.Description.{sizesOf, descriptionOf, streamsOf, stream
 use Rattle.meaning.specs.Accept.{streamTests, testsFrom, allTests, refusalOf, figures, divisors, accept, Accepts}
 use Rattle.meaning.specs.Answers.{acceptNumber}
 use Rattle.meaning.specs.Conditions.{streamOf, Meets, StreamMeets, AcceptedExactly, Condition, Condition.Board, Condition.Begins, Condition.Sizes-fit, Condition.Long, Condition.Words-fit, Condition.Bounds-fit, Condition.Instances, Condition.Place-rank, Condition.Increment, Condition.Processes, Condition.Rank, Condition.Line, Condition.Move, Condition.Hop, Condition.Order, Condition.Loading, Condition.Touched, Asks, ofStream, conditions, RefusedExactly}
-use Rattle.geometry.specs.Members.{in-each, each-in, in-numbers, numbers-in}
-use Rattle.network.specs.Lists.{length-numbers}
+use Rattle.lists.specs.Members.{in-each, each-in, in-numbers, numbers-in}
+use Rattle.lists.specs.Rows.{length-numbers}
 use Rattle.network.specs.Declined.{numbers-are}
 use Rattle.guarantee.specs.Refusals.{refuses-less, Tries, Tries.none, Tries.next, numbered, all-hold, none-refuses, first-fails, refuses-first}
 use Rattle.guarantee.specs.WordConditions.{refuses2, refuses3, refuses4, directed}

@@ -19,7 +19,7 @@ use Rattle.geometry.specs.RowOrder.{row-lt}
 use Rattle.geometry.specs.Descriptions.{Laid}
 use Rattle.geometry.specs.Wiring.{wired}
 use Rattle.geometry.specs.Arrays.{streamAt, pipe-is}
-use Rattle.network.specs.Lists.{total-next}
+use Rattle.lists.specs.Sums.{total-next}
 use Rattle.network.specs.Wiring.{element-pipe, elementAt}
 use Rattle.network.specs.Plain.{Among}
 use Rattle.guarantee.specs.Instances.{instanceNumber, instanceCount, within}
@@ -34,7 +34,7 @@ module _ {d : Description} (laid : Laid d) where
       record {
         from = omega arith;
         below =
-            omega (arith, total-next (λ s. length (elements (d .nest) s)) noStream (streamsOf d) k h, row-lt (boxOf (d .nest) (streamAt d k .map)) p i);
+            omega (arith, total-next (λ s. length (elements (d .nest) s)) (streamsOf d) k noStream h, row-lt (boxOf (d .nest) (streamAt d k .map)) p i);
       }
 
   pub touched-among : (i k : ℕ) → i < instanceCount d → k < length (streamsOf d) → Among d k (touchedAt d (instanceNumber d i) k)

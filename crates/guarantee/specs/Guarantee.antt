@@ -10,7 +10,7 @@ use Rattle.meaning.specs.Description.{descriptionOf}
 use Rattle.meaning.specs.Accept.{refusalOf}
 use Rattle.meaning.specs.Array.{arrayOf, pipeOrder}
 use Rattle.meaning.specs.Demand3.{Guarantee}
-use Rattle.geometry.specs.Members.{yes-any}
+use Rattle.lists.specs.Members.{yes-any}
 use Rattle.geometry.specs.Descriptions.{laid}
 use Rattle.geometry.specs.PipeOrder.{numbers-all, list-length}
 use Rattle.network.specs.Plain.{Among, Described, streams-are}
@@ -18,7 +18,7 @@ use Rattle.network.specs.Starts.{proper}
 use Rattle.network.specs.Demand as Demand
 use Rattle.guarantee.specs.Alike.{serves}
 use Rattle.guarantee.specs.Elements.{touched-among, element-among}
-use Rattle.guarantee.specs.Stops.{is-true}
+use Rattle.lists.specs.Tests.{is-true}
 use Rattle.guarantee.specs.Wired.{wired, wired-instances, wired-instance, wired-touched, wired-number}
 
 -- what the network asks of a description beside its wiring

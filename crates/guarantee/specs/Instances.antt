@@ -18,7 +18,8 @@ use Rattle.meaning.specs.Loops.{instances, placeOf}
 use Rattle.meaning.specs.Space.{rowIndex, space, processes, count}
 use Rattle.meaning.specs.Array.{runs, Array, arrayOf, runsOf, countAt, instanceAt, processCount}
 use Rattle.meaning.specs.Points.{Within, Inside}
-use Rattle.geometry.specs.Members.{map-at, numbers-length, numbers-at}
+use Rattle.lists.specs.Members.{map-at, numbers-length, numbers-at}
+use Rattle.lists.specs.Sums.{total-map, total-ext, total-numbers}
 use Rattle.geometry.specs.Numbers.{and-left, and-right, both}
 use Rattle.geometry.specs.Places.{getD-in, found, distinct-at, position-is}
 use Rattle.geometry.specs.Instances.{within-in, in-within, distinct}
@@ -31,7 +32,6 @@ use Rattle.geometry.specs.Passes.{instance-is}
 use Rattle.geometry.specs.Descriptions.{Laid}
 use Rattle.geometry.specs.Arrays.{one-number}
 use Rattle.network.specs.Cases.{Order, less, atLeast, order}
-use Rattle.guarantee.specs.Sums.{total-map, total-ext, total-numbers}
 
 -- the i-th instance of the written order
 abbrev pub instanceNumber : Description → ℕ → V3
@@ -150,5 +150,5 @@ module _ {d : Description} (laid : Laid d) where
   pub instances-add : total (countAt A) (numbers (processCount A)) ≡ instanceCount d
   unfolding arrayOf
   instances-add =
-      total-numbers length [] (A .runs) ∙ total-map length (runs n) (processes n) ∙ total-ext (runs-length (laid .layout)) (processes n)
+      total-numbers length [] (A .runs) ∙ total-map length (runs n) (processes n) ∙ total-ext _ _ (runs-length (laid .layout)) (processes n)
       ∙ counts-total (laid .layout .dirs)

@@ -4,7 +4,6 @@ pub mod WordConditions
 pub mod NestConditions
 pub mod StreamConditions
 pub mod Acceptance
-pub mod Sums
 pub mod Instances
 pub mod Stops
 pub mod Ranks

@@ -15,12 +15,13 @@ use Rattle.meaning.specs.Space.{computing}
 use Rattle.meaning.specs.Streams.{stationary}
 use Rattle.meaning.specs.Pipes.{pipe, pipeElements, soak}
 use Rattle.meaning.specs.Array.{Stop, stopOf, Array, arrayOf, stopsOn, elementsOn}
+use Rattle.lists.specs.Tests.{is-true}
 use Rattle.geometry.specs.Places.{rank}
 use Rattle.geometry.specs.Descriptions.{Laid}
 use Rattle.geometry.specs.Wiring.{processAt, keeping}
 use Rattle.geometry.specs.Arrays.{streamAt, PipeIs}
 use Rattle.network.specs.Wiring.{rankAt}
-use Rattle.guarantee.specs.Stops.{is-true, accepted, stops-are, stops-length, elements-length, stop-entry}
+use Rattle.guarantee.specs.Stops.{accepted, stops-are, stops-length, elements-length, stop-entry}
 
 -- the stops among the first k that keep
 module _ {X : Type 0} (stop : X → Stop) where

@@ -1,6 +1,6 @@
 -- The pipes of an array by number: their stops and elements in the words of the geometry, and how processes stand on them. Assumes a description that
 -- is not refused.
-use mathlib.Core.Path.{_≡_, refl, sym, _∙_, ap, ap₂, subst}
+use mathlib.Core.Path.{_≡_, sym, _∙_, ap, ap₂, subst}
 use mathlib.Core.Logic.{_⊎_, inl, inr}
 use mathlib.Core.Bool.{Bool, true, false, not, _&&_}
 use mathlib.Core.List.{List, map, Memᴰ·map as in-map}
@@ -23,7 +23,7 @@ use Rattle.meaning.specs.Body.{streamStart}
 use Rattle.meaning.specs.Array.{Stop, Pipe, stopOf, pipeOf, Array, arrayOf, countAt, instanceAt, processCount, streamCount, pipeNumber, noStop, pipeAt, stopsOn, elementsOn, stopAt, isStop, pipeThrough, onPipe, placeOn}
 use Rattle.meaning.specs.Rules.{processOn, streamOn}
 use Rattle.meaning.specs.Points.{Inside}
-use Rattle.geometry.specs.Members.{map-at, yes-any}
+use Rattle.lists.specs.Members.{map-at, yes-any}
 use Rattle.geometry.specs.Numbers.{decide, both, yes-cond, no-cond}
 use Rattle.geometry.specs.Places.{getD-in}
 use Rattle.geometry.specs.RowOrder.{row-lt}
@@ -34,19 +34,11 @@ use Rattle.geometry.specs.Elements.{entryOf, entries-entry}
 use Rattle.geometry.specs.Descriptions.{Laid}
 use Rattle.geometry.specs.Wiring.{processAt, elementAt, wired, flowing}
 use Rattle.geometry.specs.Arrays.{streamAt, PipeIs, pipe-is, pipe-of, through, place-on}
-use Rattle.network.specs.Lists.{any-position}
+use Rattle.lists.specs.Tests.{any-position, is-true, is-false}
 use Rattle.network.specs.Wiring.{stop-pipe, elementAt as elementOn}
 use Rattle.guarantee.specs.Instances.{process-count, count-at, run-at, counted-lt, point-inside, point-number}
 
 -- ---- tests
-
-pub is-true : (b : Bool) → T b → b ≡ true
-is-true true t = refl
-is-true false t = absurd t
-
-pub is-false : (b : Bool) → T (not b) → b ≡ false
-is-false true t = absurd t
-is-false false t = refl
 
 -- a process that does not compute has no instance
 pub null-count : (n : Nest) (p : V2) → T (not (computing n p)) → count n p ≡ 0

@@ -24,7 +24,7 @@ use Rattle.meaning.specs.Points.{Directed, Within, At, IsLine, Inside}
 use Rattle.meaning.specs.Description.{linesOf, written}
 use Rattle.meaning.specs.Accept.{against, refused13, refused14, refused15, refused16, refused17}
 use Rattle.meaning.specs.Conditions.{Small, SmallMove, Moves, ShortHop, Onward, Written, KeepsOrder, LoadingFits, AllTouched}
-use Rattle.geometry.specs.Members.{any-yes, yes-any}
+use Rattle.lists.specs.Members.{any-yes, yes-any}
 use Rattle.geometry.specs.Numbers.{eq-eq2}
 use Rattle.geometry.specs.Instances.{within-in}
 use Rattle.geometry.specs.Boxes.{points-inside}

@@ -4,7 +4,7 @@ use mathlib.Core.Path.{_≡_, refl, sym, _∙_, ap, subst, subst₂}
 use mathlib.Core.Logic.{_⊎_, inl, inr}
 use mathlib.Core.Bool.{not, cond}
 use mathlib.Core.List.{List, _++_, map}
-use Prim.Native.Nat.{ℕ, zero, suc, _+_, _-_, _≤_, _<_}
+use Prim.Native.Nat.{ℕ, _+_, _-_, _≤_, _<_}
 use native.Mathlib.Omega.{arith}
 use lib.Dec.{T, T-not, not-T}
 use lib.ListN.{length, getD, drop, replicate, length-append, length-drop, length-map, List·getD-append}
@@ -27,7 +27,8 @@ use Rattle.meaning.specs.Conditions.{streamOf}
 use Rattle.meaning.specs.Array.{rowSoak}
 use Rattle.meaning.specs.Calls.{byStream, rowOf}
 use Rattle.meaning.specs.Demand2.{ProcessSpace, InstancesOf, StreamWords, ComputingRow, NullWords, NullRow, RowSays, noRow, rowAt, TableSays}
-use Rattle.geometry.specs.Members.{map-at}
+use Rattle.lists.specs.Members.{map-at}
+use Rattle.lists.specs.Stores.{replicated}
 use Rattle.geometry.specs.Numbers.{decide, yes-cond, no-cond}
 use Rattle.geometry.specs.Places.{getD-in}
 use Rattle.geometry.specs.Boxes.{inside-points, points-inside, points-sorted}
@@ -82,11 +83,6 @@ module _ {n : Nest} {s : Stream} (h : Accepted n s) {y : V2} where
 
 -- ---- the rows
 
-zeros : (n i : ℕ) → _≡_ {A = ℕ} (getD (replicate n 0) i 0) 0
-zeros zero i = refl
-zeros (suc n) zero = refl
-zeros (suc n) (suc i) = zeros n i
-
 -- the rows that Table leaves, lent at least as many as there are processes
 abbrev pub leftRows : Limits → List ℕ → List Row → List Row
 leftRows l s lent = let n = descriptionOf s .nest in map (rowOf l s) (processes n) ++ drop (length (processes n)) lent
@@ -118,7 +114,7 @@ module _ (l : Limits) (s : List ℕ) (ok : refusalOf l s ≡ 0) where
   word-past f i h =
       ap (λ (k : ℕ). getD (byStream l s f) k 0) (sum (length (map f (streamsOf d))) i (omega (arith, streams-are, length-map (streamsOf d) f)))
       ∙ getD-append-add (map f (streamsOf d)) (replicate (6 - length (streamsOf d)) 0) (i - length (map f (streamsOf d))) 0
-      ∙ zeros (6 - length (streamsOf d)) (i - length (map f (streamsOf d)))
+      ∙ replicated 0 (6 - length (streamsOf d)) (i - length (map f (streamsOf d)))
     where
       sum : (c i : ℕ) → c ≤ i → i ≡ c + (i - c)
       sum c i h = omega arith

@@ -35,7 +35,7 @@ use Rattle.geometry.specs.Wiring.{processAt, wired, flowing}
 use Rattle.geometry.specs.Arrays.{streamAt, PipeIs, pipe-is}
 use Rattle.network.specs.Cases.{Order, less, atLeast, order}
 use Rattle.network.specs.Wiring.{Course, moving, stationary as still}
-use Rattle.guarantee.specs.Sums.{total-member}
+use Rattle.lists.specs.Sums.{total-member}
 use Rattle.guarantee.specs.Instances.{counted-lt}
 use Rattle.guarantee.specs.Stops.{some-count, null-count, accepted, hop-of, stops-length, stop-inside, stop-place, count-is, run-is, soak-computing, moving-keeps, still-keeps}
 use Rattle.guarantee.specs.Ranks.{still-ranks}

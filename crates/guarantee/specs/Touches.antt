@@ -24,6 +24,7 @@ use Rattle.meaning.specs.Description.{noStream, streamsOf, written}
 use Rattle.meaning.specs.Body.{streamStart, touchedFrom, touchedBy}
 use Rattle.meaning.specs.Array.{Array, arrayOf, stopsOn, elementsOn, stopAt}
 use Rattle.meaning.specs.Rules.{processOn, streamOn}
+use Rattle.lists.specs.Tests.{is-true}
 use Rattle.geometry.specs.Numbers.{decide}
 use Rattle.geometry.specs.Boxes.{inside-points, points-inside, box-has}
 use Rattle.geometry.specs.Processes.{runAt, firingOf, firing-lt, instance-firing}
@@ -34,7 +35,7 @@ use Rattle.geometry.specs.Arrays.{streamAt, PipeIs, pipe-is, pipe-of, one-numbe
 use Rattle.network.specs.Turns.{Before, upstream, sooner}
 use Rattle.network.specs.Wiring.{kindOf, netOf, rankAt, usedIndex, UsedAt, stop-pipe, element-pipe, elementAt as elementOn}
 use Rattle.guarantee.specs.Instances.{instanceNumber, instanceCount, owner, firing, within, owner-inside}
-use Rattle.guarantee.specs.Stops.{is-true, some-count, accepted, stream-is, stops-length, elements-length, element-is, process-is, stop-inside, stop-entry, count-is, soak-computing, moving-keeps, still-keeps, uses-within}
+use Rattle.guarantee.specs.Stops.{some-count, accepted, stream-is, stops-length, elements-length, element-is, process-is, stop-inside, stop-entry, count-is, soak-computing, moving-keeps, still-keeps, uses-within}
 use Rattle.guarantee.specs.Ranks.{rank-soak, rank-lt}
 
 -- ---- the element that an instance touches

@@ -4,11 +4,10 @@ use mathlib.Core.List.{List}
 use Prim.Native.Nat.{ℕ, _*_, _<_}
 use native.Mathlib.Omega.{arith}
 use lib.Dec.{T}
-use lib.ListN.{length, getD, length-map}
+use lib.ListN.{length, getD}
 use Rattle.meaning.specs.declared.Limits.{Limits}
 use Rattle.meaning.specs.declared.Description.{Description}
 use Rattle.meaning.specs.Loops.{instances}
-use Rattle.meaning.specs.Streams.{hop}
 use Rattle.meaning.specs.Body.{touchedBy}
 use Rattle.meaning.specs.Description.{descriptionOf, streamsOf, written}
 use Rattle.meaning.specs.Accept.{refusalOf}
@@ -16,15 +15,12 @@ use Rattle.meaning.specs.Array.{arrayOf, instanceAt, streamCount}
 use Rattle.geometry.specs.Descriptions.{Laid, laid}
 use Rattle.geometry.specs.Arrays.{pipe-is}
 use Rattle.network.specs.Wiring.{writes, Wired, stop-pipe}
+use Rattle.network.specs.Plain.{streams-are}
 use Rattle.guarantee.specs.Acceptance.{some-stream}
 use Rattle.guarantee.specs.Instances.{instanceNumber, instanceCount, owner, firing, instanceOf, instance-of, instance-back, instance-same, instances-add}
 use Rattle.guarantee.specs.Stops.{some-element, uses-within, process-lt, stream-lt, hop-is, pipe-through, place-is, on-all}
 use Rattle.guarantee.specs.Touches.{touchedAt, touched-by, touch, find, meets}
 use Rattle.guarantee.specs.Times.{timeFrom, pace, pace-positive, time-rises, early}
-
-stream-count : (d : Description) → streamCount (arrayOf d) ≡ length (streamsOf d)
-unfolding arrayOf
-stream-count d = length-map (streamsOf d) (hop (d .nest))
 
 -- a stream is written in the array exactly if it is in the description
 writes-is : (d : Description) (k : ℕ) → writes (arrayOf d) k ≡ written d k
@@ -41,9 +37,9 @@ module _ {d : Description} (laid : Laid d) where
         process-lt = λ q k h. process-lt laid (pipe-is d q (stop-pipe (arrayOf d) q k h)) k h;
         pipe-is = pipe-through laid;
         place-is = place-is laid;
-        on-all = λ p i c h. on-all laid p i c (omega (arith, stream-count d));
+        on-all = λ p i c h. on-all laid p i c (omega (arith, streams-are d));
         has-element = λ q h. some-element laid (pipe-is d q h);
-        has-stream = omega (arith, stream-count d);
+        has-stream = omega (arith, streams-are d);
         uses-within = λ q k h. uses-within laid (pipe-is d q (stop-pipe (arrayOf d) q k h)) k h;
         time = timeFrom d (early laid .0);
         pace = pace d;
@@ -61,7 +57,7 @@ module _ {d : Description} (laid : Laid d) where
         touched = λ i k. touchedAt d (instanceNumber d i) k;
         touch = touch laid;
         find = find laid;
-        meets = λ k h w. meets laid k (omega (arith, stream-count d)) (subst T (sym (sym (writes-is d k) ∙ w)) tt);
+        meets = λ k h w. meets laid k (omega (arith, streams-are d)) (subst T (sym (sym (writes-is d k) ∙ w)) tt);
       }
 
 -- every description that is not refused is wired as the network asks
@@ -87,7 +83,7 @@ module _ (l : Limits) (s : List ℕ) (e : refusalOf l s ≡ 0) where
   -- and touches what it touches in the plain run
   pub wired-touched : (i k : ℕ) → k < streamCount (arrayOf d) → getD (touchedBy d (instanceNumber d i)) k 0 ≡ wired l s e .touched i k
   unfolding wired wiredOf
-  wired-touched i k h = touched-by d (instanceNumber d i) k (omega (arith, stream-count d))
+  wired-touched i k h = touched-by d (instanceNumber d i) k (omega (arith, streams-are d))
 
   -- by its number
   pub wired-number : (i k : ℕ) → wired l s e .touched i k ≡ touchedAt d (instanceNumber d i) k

@@ -1,7 +1,7 @@
 -- Signed machine words of 32 bits. The code's sums and products are towers of `toZ w32 (ofZ w32 ..)`: `Holds t z n` says that the tower t is
 -- the number z, and that |z| ≤ n. It is built along the code, `box` takes a tower off, and `tt` checks each bound below 2^31. Assumes nothing.
 use mathlib.Core.Path.{_≡_, refl, sym, _∙_, ap, ap₂, subst}
-use mathlib.Core.Bool.{Bool, true, false, not, cond}
+use mathlib.Core.Bool.{Bool, true, false, not, cond, true≢false}
 use Prim.Native.Nat.{ℕ, suc, _+_, _*_, _-_, _^_, _≤_, _<_}
 use native.Mathlib.Nat.{le-refl}
 use native.Mathlib.Decide.{ℕ-discrete}
@@ -141,13 +141,10 @@ pub eq-test : {t u a b : ℤ} {m n : ℕ} → T (ltb m (2 ^ 31)) → T (ltb n (2
     → eqb (ofZ w32 t) (ofZ w32 u) ≡ eqZ a b
 eq-test {t} {u} p q h k = eq-bits t u (fits p h .sfits) (fits q k .sfits) ∙ ap₂ eqZ (h .eq) (k .eq)
 
-false-true : false ≡ true → ⊥
-false-true e = subst (λ (b : Bool). T (not b)) e tt
-
 pub eqZ→eq : (a b : ℤ) → eqZ a b ≡ true → a ≡ b
 eqZ→eq (pos m) (pos n) e = ap pos (eqb-true m n e)
-eqZ→eq (pos m) (negsuc n) e = absurd (false-true e)
-eqZ→eq (negsuc m) (pos n) e = absurd (false-true e)
+eqZ→eq (pos m) (negsuc n) e = absurd (true≢false (sym e))
+eqZ→eq (negsuc m) (pos n) e = absurd (true≢false (sym e))
 eqZ→eq (negsuc m) (negsuc n) e = ap negsuc (eqb-true m n e)
 
 -- the tests of a chain of `&&`, each from what a call ensures of its flag f: one that holds, and one that fails

@@ -9,7 +9,7 @@ use Rattle.meaning.specs.Limits.{gaugeLimits}
 use Rattle.meaning.specs.Lists.{numbers}
 use Rattle.meaning.specs.Description.{sizesOf, streamOf, descriptionOf, streamsOf, noStream}
 use Rattle.meaning.specs.Accept.{refusalOf}
-use Rattle.geometry.specs.Members.{numbers-length}
+use Rattle.lists.specs.Members.{numbers-length}
 use Rattle.geometry.specs.Descriptions.{laid}
 use Rattle.stream_lines.specs.Accepted.{accepted-within}
 use Rattle.lanes.specs.Flow.{Laid}

@@ -19,7 +19,7 @@ use Rattle.meaning.specs.Streams.{stationary, move}
 use Rattle.meaning.specs.Pipes.{lineIn, pipe, backward, soak}
 use Rattle.meaning.specs.Points.{Inside, RowOrder as Row}
 use Rattle.meaning.specs.Sorted.{Sorted, Sorted.more, Distinct}
-use Rattle.geometry.specs.Members.{in-filter, filter-in, in-reverse, reverse-in}
+use Rattle.lists.specs.Members.{in-filter, filter-in, in-reverse, reverse-in}
 use Rattle.geometry.specs.Numbers.{yes-cond, no-cond, and-left, and-right, eq2-eq, eq-eq2}
 use Rattle.geometry.specs.Sorting.{sorted-filter, sorted-reverse, sorted-unique}
 use Rattle.geometry.specs.Places.{ahead, getD-in, position-past, ahead-lt, rank, rank-zero, rank-yes, rank-no, ahead-filter}

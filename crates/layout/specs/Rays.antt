@@ -1,10 +1,10 @@
 -- How often one can go on in a box: the least that either coordinate allows. Assumes nothing.
-use mathlib.Core.Path.{_≡_, refl, sym, _∙_, ap, subst}
-use mathlib.Core.Bool.{Bool, true, false}
+use mathlib.Core.Path.{_≡_, refl, sym, _∙_, ap}
+use mathlib.Core.Bool.{true, false, true≢false}
 use Prim.Native.Nat.{ℕ, zero, suc, _*_, _/_, _≤_, _<_}
 use native.Mathlib.Nat.{le-div-iff-mul-le, div-le-self}
 use native.Mathlib.Omega.{arith}
-use lib.Dec.{T, eqb}
+use lib.Dec.{eqb}
 use lib.IntN.{ℤ, pos, negsuc, natAbs, ℤ-discrete, _+ℤ_, _-ℤ_, _*ℤ_}
 use lib.Signed.{_≤ℤ_, _<ℤ_}
 use mir.Syntax.{w32}
@@ -24,9 +24,6 @@ use Rattle.numbering.specs.Extents.{Spanning}
 use Rattle.layout.specs.declared.Ray.{Ray}
 
 -- ---- one coordinate
-
-true-false : true ≡ false → ⊥
-true-false e = subst (λ (b : Bool). T b) e tt
 
 -- how often it allows to go on
 abbrev room : ℤ → ℤ → ℤ → ℤ → ℕ
@@ -52,7 +49,7 @@ pub room-up : (r : Ray) → eqZ (r .by) (pos 0) ≡ false → pos 0 ≤ℤ r .by
 room-up r e h = go (r .by) e h
   where
     go : (b : ℤ) → eqZ b (pos 0) ≡ false → pos 0 ≤ℤ b → up (r .hi -ℤ r .at) / natAbs b ≡ room (r .lo) (r .hi) (r .at) b
-    go (pos zero) e h = absurd (true-false e)
+    go (pos zero) e h = absurd (true≢false e)
     go (pos (suc c)) e h = refl
     go (negsuc c) e h = absurd (omega (arith, le-out h))
 
@@ -65,7 +62,7 @@ step-size h e = e ∙ ap natAbs (at tt h .eq)
 
 -- a step that is not zero
 pub some-step : (b : ℤ) → eqZ b (pos 0) ≡ false → 0 < natAbs b
-some-step (pos zero) e = absurd (true-false e)
+some-step (pos zero) e = absurd (true≢false e)
 some-step (pos (suc c)) e = omega arith
 some-step (negsuc c) e = omega arith
 

@@ -12,7 +12,6 @@ use Rattle.meaning.specs.declared.Line.{Line}
 use Rattle.meaning.specs.declared.Acceptance.the-variants.{Refused}
 use Rattle.meaning.specs.Description.{sizesOf, lineAt, noLine, descriptionOf, linesOf}
 use Rattle.meaning.specs.Accept.{accept, Accepts}
-use Rattle.meaning.specs.Calls.{run}
 use Rattle.meaning.specs.Conditions.{Known, SizesFit, formerTotal, GuardFits, Condition, Condition.Board, Condition.Begins, Condition.Sizes-fit, Condition.Long, Asks}
 use Rattle.meaning.specs.Alike.{DeclinedBy}
 use Rattle.meaning.specs.Leaves.{Runs, RunsLoops}

@@ -2,7 +2,7 @@
 use mathlib.Core.Path.{_≡_, refl}
 use mathlib.Core.List.{List, [], _∷_, map}
 use Prim.Native.Nat.{ℕ}
-use lib.IntN.{ℤ, pos, negsuc}
+use lib.IntN.{ℤ, pos}
 use Rattle.integers.specs.Bytes.{bitsAt, wordAt}
 use Rattle.lattice.specs.Gcd.{gcdOf, euclid}
 use Rattle.meaning.specs.Limits.{gaugeLimits}

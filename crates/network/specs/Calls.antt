@@ -14,7 +14,7 @@ use Rattle.meaning.specs.Array.{Array, arrayOf, processCount, streamCount, pipe
 use Rattle.meaning.specs.Rules.{Step, Send, Take, Fire, Give, Receive, Memory, ready, apply, inOrder, Found, at, nothing, lowest, runSteps, applyAll}
 use Rattle.meaning.specs.Calls.{orElse, memoryTests, refusedBy, hasPort, ifThere, stepOf, isNothing, readyAt, applied, step, run}
 use Rattle.meaning.specs.Demand3.{Call, CallStep, CallRun, CallReady, CallWindow, CallResult, Told, leaves, asList, grants, memoryAfter, grantedBy}
-use Rattle.network.specs.Lists.{both-true}
+use Rattle.lists.specs.Tests.{both-true}
 use Rattle.network.specs.Ready.{There}
 use Rattle.network.specs.Members.{listed, ready-there, found-passes}
 use Rattle.network.specs.Runs.{Grants, none}

@@ -5,8 +5,8 @@ use Prim.Native.Nat.{ℕ, suc, _+_, _*_, _≤_, _<_}
 use native.Mathlib.Nat.{le-refl}
 use native.Mathlib.Omega.{arith}
 use Rattle.meaning.specs.Lists.{total, numbers}
+use Rattle.lists.specs.Sums.{sum-same, sum-le, sum-one, sum-tight, sum-const}
 use Rattle.network.specs.Cases.{Order, less, atLeast, order}
-use Rattle.network.specs.Sums.{sum-same, sum-le, sum-one, sum-tight, sum-const}
 use Rattle.network.specs.Counters.{Step, put, get, fire, Counts, Net, Inv, OneMore, put≢get, put≢fire, get≢fire, get-elements, below-head}
 use Rattle.network.specs.Words.{Words}
 use Rattle.network.specs.Due.{Occurs, ready-occurs}

@@ -9,8 +9,8 @@ use borrow.Author.Tests.{ltb-true, ltb-false, leb-true, leb-false, eqb-true, eqb
 use Rattle.meaning.specs.Lists.{every, numbers}
 use Rattle.meaning.specs.Array.{Array}
 use Rattle.meaning.specs.Rules.{handEmpty, canUse, canOffer, soundHand}
+use Rattle.lists.specs.Rows.{every-numbers, numbers-every}
 use Rattle.network.specs.Cases.{Order, less, atLeast, order}
-use Rattle.network.specs.Lists.{every-numbers, numbers-every}
 use Rattle.network.specs.Counters.{through, keep, Hand, empty, first, free, Offer, soaked, drained, used, passed, kept, Use, hand, held}
 use Rattle.network.specs.Sound.{Balance, even, ahead, untaken, keeping, given}
 use Rattle.network.specs.Wiring.{kindOf}

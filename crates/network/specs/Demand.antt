@@ -20,7 +20,7 @@ use Rattle.meaning.specs.Rules.{Step, Memory, totalOf, applyAll}
 use Rattle.meaning.specs.Answers.{answerNumber}
 use Rattle.meaning.specs.Calls.{lengthOf, stateLength, started, start, allOut, inElementOrder, result}
 use Rattle.meaning.specs.Demand3.{Told, memoryAfter, grantedBy, receives, allReceived, finalValue, Holds, finish, SameMemory, declinedBy, NotByMemory, AfterCalls}
-use Rattle.network.specs.Lists.{every-numbers, same-every}
+use Rattle.lists.specs.Rows.{every-numbers, same-every}
 use Rattle.network.specs.WordOrder.{words-length}
 use Rattle.network.specs.Wiring.{Wired}
 use Rattle.network.specs.Ready.{end-is}

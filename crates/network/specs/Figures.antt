@@ -1,8 +1,7 @@
 -- The figures that Accept answers, read off the array: the words of a state, and the steps. Assumes nothing.
 use mathlib.Core.Path.{_≡_, refl, _∙_, ap, ap₂}
-use mathlib.Core.List.{List, [], _∷_, _++_, map}
+use mathlib.Core.List.{List, [], _∷_, map}
 use Prim.Native.Nat.{ℕ, suc, _+_, _*_}
-use native.Mathlib.Omega.{arith}
 use lib.ListN.{length, length-map}
 use Rattle.integers.specs.declared.V2.{V2}
 use Rattle.meaning.specs.declared.Nest.{Nest}
@@ -17,30 +16,9 @@ use Rattle.meaning.specs.Description.{streamsOf}
 use Rattle.meaning.specs.Accept.{stateWords, totalSteps}
 use Rattle.meaning.specs.Array.{Pipe, runs, pipeOf, pipesFrom, arrayOf, stopOf}
 use Rattle.meaning.specs.State.{wordCount}
+use Rattle.lists.specs.Sums.{total-map, total-ext, total-same, total-append}
 use Rattle.network.specs.Wiring.{Wired}
 use Rattle.network.specs.Outcome.{stepTotal}
-
-module _ {X Y : Type 0} where
-  total-map : (f : Y → ℕ) (g : X → Y) (l : List X) → total f (map g l) ≡ total (λ x. f (g x)) l
-  unfolding total
-  total-map f g [] = refl
-  total-map f g (x ∷ l) = ap (λ (n : ℕ). f (g x) + n) (total-map f g l)
-
-module _ {X : Type 0} where
-  total-same : (f g : X → ℕ) (l : List X) → ((x : X) → f x ≡ g x) → total f l ≡ total g l
-  unfolding total
-  total-same f g [] h = refl
-  total-same f g (x ∷ l) h = ap₂ _+_ (h x) (total-same f g l h)
-
-  total-append : (f : X → ℕ) (l l' : List X) → total f (l ++ l') ≡ total f l + total f l'
-  unfolding total
-  total-append f [] l' = omega arith
-  total-append f (x ∷ l) l' = omega (arith, total-append f l l')
-
-  total-const : (a : ℕ) (l : List X) → total (λ x. a) l ≡ length l * a
-  unfolding total
-  total-const a [] = omega arith
-  total-const a (x ∷ l) = omega (arith, total-const a l)
 
 -- a sum over the pipes is one over the streams and their entries
 pipes-total : (f : Pipe → ℕ) (g : Stream → V2 → ℕ) (n : Nest) → ((i e : ℕ) (s : Stream) (y : V2) → f (pipeOf n i e s y) ≡ g s y)
@@ -49,7 +27,7 @@ unfolding pipesFrom total
 pipes-total f g n h i e [] = refl
 pipes-total f g n h i e (s ∷ ss) =
     total-append f (map (pipeOf n i e s) (entries n s)) (pipesFrom n (suc i) (e + length (elements n s)) ss)
-    ∙ ap₂ _+_ (total-map f (pipeOf n i e s) (entries n s) ∙ total-same _ _ (entries n s) (h i e s))
+    ∙ ap₂ _+_ (total-map f (pipeOf n i e s) (entries n s) ∙ total-ext _ _ (h i e s) (entries n s))
     (pipes-total f g n h (suc i) (e + length (elements n s)) ss)
 
 module _ (d : Description) where
@@ -60,7 +38,7 @@ module _ (d : Description) where
       ap₂ _+_
       (ap₂ _*_ (length-map (processes (d .nest)) (runs (d .nest))) (ap (λ (n : ℕ). 1 + n) (total-map (λ h. 4 + h) (hop (d .nest)) (streamsOf d))))
       (pipes-total (λ r. 2 + r .hop) (λ s y. 2 + hop (d .nest) s) (d .nest) (λ i e s y. refl) 0 0 (streamsOf d)
-      ∙ total-same _ _ (streamsOf d) (λ s. total-const (2 + hop (d .nest) s) (entries (d .nest) s)))
+      ∙ total-ext _ _ (λ s. total-same _ (2 + hop (d .nest) s) (λ y. refl) (entries (d .nest) s)) (streamsOf d))
 
   -- and the steps that it answers are the total
   pub steps-are : (W : Wired (arrayOf d)) → W .instances ≡ length (instances (d .nest)) → stepTotal W ≡ totalSteps (d .nest) (streamsOf d)

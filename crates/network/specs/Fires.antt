@@ -10,7 +10,7 @@ use Rattle.meaning.specs.Lists.{numbers, numbersFrom}
 use Rattle.meaning.specs.Array.{Array, instanceAt, processCount, streamCount, stopsOn, stopAt, pipeThrough}
 use Rattle.meaning.specs.State.{Word, Firings, Hand, Keep, wordCount, read, write}
 use Rattle.meaning.specs.Rules.{processOn, streamOn, usedWord, usedWords, writeAll, bodyAt, increase, doFire}
-use Rattle.network.specs.Lists.{length-numbers, same-numbers}
+use Rattle.lists.specs.Rows.{length-numbers, same-numbers}
 use Rattle.network.specs.Counters.{fire, OneMore}
 use Rattle.network.specs.Firing.{Firing, hand-used, keep-used, Fires}
 use Rattle.network.specs.Wiring.{kindOf, netOf, Wired, HasPort, port-is, rankedOf, placeAt, keepsAt}

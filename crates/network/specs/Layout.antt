@@ -2,13 +2,14 @@
 use mathlib.Core.Path.{_≡_, refl, sym, _∙_, ap}
 use mathlib.Core.List.{List, [], _∷_}
 use Prim.Native.Nat.{ℕ, zero, suc, _+_, _*_, _≤_, _<_}
-use native.Mathlib.Nat.{mul-le-mul-right}
 use native.Mathlib.Omega.{arith}
 use lib.ListN.{length, getD, take, length-set}
 use lib.Seq.{getD-set-same, getD-set-other}
 use Rattle.meaning.specs.Lists.{total}
 use Rattle.meaning.specs.Array.{Array, Pipe, processCount, streamCount, pipeNumber, noPipe, pipeAt}
 use Rattle.meaning.specs.State.{Word, Firings, Taken, Given, Hand, Keep, Place, Sent, Received, End, stride, index, wordCount, read, write}
+use Rattle.lists.specs.Sums.{part-ends}
+use Rattle.integers.specs.Order.{part}
 use Rattle.network.specs.Cases.{Order, less, atLeast, order}
 
 -- ---- blocks one after the other: block i of a list begins where those before it end
@@ -22,12 +23,6 @@ module _ {X : Type 0} (size : X → ℕ) (d : X) where
   block-end (x ∷ xs) (suc i) zero h l = absurd (omega arith)
   block-end (x ∷ xs) (suc i) (suc j) h l = omega (arith, block-end xs i j (omega arith) (omega arith))
 
-  pub block-below : (xs : List X) (i : ℕ) → i < length xs → total size (take i xs) + size (getD xs i d) ≤ total size xs
-  unfolding total
-  block-below [] i l = absurd (omega arith)
-  block-below (x ∷ xs) zero l = omega arith
-  block-below (x ∷ xs) (suc i) l = omega (arith, block-below xs i (omega arith))
-
   pub block-apart : (xs : List X) (i o j o' : ℕ) → i < length xs → j < length xs → o < size (getD xs i d) → o' < size (getD xs j d)
       → total size (take i xs) + o ≡ total size (take j xs) + o' → (i ≡ j) × (o ≡ o')
   block-apart xs i o j o' l l' h h' e = go (order i j) (order j i)
@@ -37,16 +32,12 @@ module _ {X : Type 0} (size : X → ℕ) (d : X) where
       go (atLeast m) (less n) = absurd (omega (arith, block-end xs j i n l'))
       go (atLeast m) (atLeast n) = let z : i ≡ j = omega arith in (z, omega (arith, ap (λ (i : ℕ). total size (take i xs)) z))
 
--- rows of k words each
-row-end : (k p p' : ℕ) → p < p' → p * k + k ≤ p' * k
-row-end k p p' h = omega (arith, mul-le-mul-right k h)
-
 row-apart : (k p o p' o' : ℕ) → o < k → o' < k → p * k + o ≡ p' * k + o' → (p ≡ p') × (o ≡ o')
 row-apart k p o p' o' h h' e = go (order p p') (order p' p)
   where
     go : Order p p' → Order p' p → (p ≡ p') × (o ≡ o')
-    go (less m) n = absurd (omega (arith, row-end k p p' m))
-    go (atLeast m) (less n) = absurd (omega (arith, row-end k p' p n))
+    go (less m) n = absurd (omega (arith, part m k))
+    go (atLeast m) (less n) = absurd (omega (arith, part n k))
     go (atLeast m) (atLeast n) = let z : p ≡ p' = omega arith in (z, omega (arith, ap (λ (p : ℕ). p * k) z))
 
 -- ---- live words
@@ -153,29 +144,29 @@ module _ (A : Array) where
 
   inside : (s o : ℕ) → s < streamCount A → o < 4 + getD (A .hops) s 0 → suc (portOffset s + o) < stride A
   unfolding portOffset
-  inside s o h l = omega (arith, block-below (λ h. 4 + h) 0 (A .hops) s h)
+  inside s o h l = omega (arith, part-ends (λ h. 4 + h) 0 (A .hops) s h)
 
   place-below : (a : Cell) → Valid a → place a < wordCount A
   unfolding Valid place endOffset
-  place-below (ofProcess p) h = omega (arith, row-end (stride A) p (processCount A) h)
-  place-below (ofPort p s o) (h, l, k) = omega (arith, row-end (stride A) p (processCount A) h, inside s o l k)
-  place-below (ofEnd q o) (h, k) = omega (arith, block-below (λ (r : Pipe). 2 + r .hop) noPipe (A .pipes) q h)
+  place-below (ofProcess p) h = omega (arith, part h (stride A))
+  place-below (ofPort p s o) (h, l, k) = omega (arith, part h (stride A), inside s o l k)
+  place-below (ofEnd q o) (h, k) = omega (arith, part-ends (λ (r : Pipe). 2 + r .hop) noPipe (A .pipes) q h)
 
   place-apart : (a b : Cell) → Valid a → Valid b → place a ≡ place b → a ≡ b
   unfolding Valid place portOffset endOffset
   place-apart (ofProcess p) (ofProcess p') h h' e = ap ofProcess (row-apart (stride A) p 0 p' 0 (omega arith) (omega arith) e .0)
   place-apart (ofProcess p) (ofPort p' s o) h (h', l, k) e =
       absurd (omega (arith, row-apart (stride A) p 0 p' (suc (portOffset s + o)) (omega arith) (inside s o l k) e .1))
-  place-apart (ofProcess p) (ofEnd q o) h l e = absurd (omega (arith, row-end (stride A) p (processCount A) h))
+  place-apart (ofProcess p) (ofEnd q o) h l e = absurd (omega (arith, part h (stride A)))
   place-apart (ofPort p s o) (ofProcess p') (h, l, k) h' e =
       absurd (omega (arith, row-apart (stride A) p (suc (portOffset s + o)) p' 0 (inside s o l k) (omega arith) e .1))
   place-apart (ofPort p s o) (ofPort p' s' o') (h, l, k) (h', l', k') e =
       let r = row-apart (stride A) p (suc (portOffset s + o)) p' (suc (portOffset s' + o')) (inside s o l k) (inside s' o' l' k') e in
       let z = block-apart (λ h. 4 + h) 0 (A .hops) s o s' o' l l' k k' (omega arith) in
       λ i. ofPort (r .0 i) (z .0 i) (z .1 i)
-  place-apart (ofPort p s o) (ofEnd q o') (h, l, k) h' e = absurd (omega (arith, row-end (stride A) p (processCount A) h, inside s o l k))
-  place-apart (ofEnd q o) (ofProcess p) h l e = absurd (omega (arith, row-end (stride A) p (processCount A) l))
-  place-apart (ofEnd q o) (ofPort p s o') h (h', l, k) e = absurd (omega (arith, row-end (stride A) p (processCount A) h', inside s o' l k))
+  place-apart (ofPort p s o) (ofEnd q o') (h, l, k) h' e = absurd (omega (arith, part h (stride A), inside s o l k))
+  place-apart (ofEnd q o) (ofProcess p) h l e = absurd (omega (arith, part l (stride A)))
+  place-apart (ofEnd q o) (ofPort p s o') h (h', l, k) e = absurd (omega (arith, part h' (stride A), inside s o' l k))
   place-apart (ofEnd q o) (ofEnd q' o') (h, l) (h', l') e =
       let z = block-apart (λ (r : Pipe). 2 + r .hop) noPipe (A .pipes) q o q' o' h h' l l' (omega arith) in λ i. ofEnd (z .0 i) (z .1 i)
 

@@ -1,7 +1,5 @@
 -- The network: demand 3 over abstract wiring, then for the array of a description. src/lib.rt says which file has what.
 pub mod Cases
-pub mod Lists
-pub mod Sums
 pub mod Counters
 pub mod Sound
 pub mod Descent

@@ -10,7 +10,7 @@ use Rattle.meaning.specs.Array.{Array, processCount, streamCount, pipeNumber, p
 use Rattle.meaning.specs.Rules.{Step, Send, Take, Fire, Give, Receive, readyToTake, readyToGive, ready, stepsOf, inOrder, at, firstReady}
 use Rattle.network.specs.Wiring.{placeAt}
 use Rattle.network.specs.Cases.{Order, less, atLeast, order}
-use Rattle.network.specs.Lists.{both-true}
+use Rattle.lists.specs.Tests.{both-true}
 use Rattle.network.specs.Ready.{There}
 
 -- ---- members

@@ -16,7 +16,7 @@ use Rattle.meaning.specs.Rules.{processOn, streamOn, Send, Take, Fire, Give, Re
 use Rattle.meaning.specs.Rules as Rules
 use Rattle.meaning.specs.Demand3.{receives}
 use Rattle.network.specs.Cases.{Order, less, atLeast, order}
-use Rattle.network.specs.Sums.{sum-members}
+use Rattle.lists.specs.Sums.{total-numbers}
 use Rattle.network.specs.Counters.{Step, put, get, fire, Counts, Guard}
 use Rattle.network.specs.Sound.{Sound}
 use Rattle.network.specs.Values.{plain}
@@ -50,7 +50,7 @@ module _ {A : Array} (W : Wired A) where
   pub total-is : stepSum (netOf A) (processCount A) (pipeNumber A) (totals (netOf A)) ≡ stepTotal
   total-is =
       totals-add (netOf A) (processCount A) (pipeNumber A)
-      ∙ ap₂ _+_ (W .instances-add) (sym (sum-members (λ (r : Pipe). 2 * (length (r .elements) * suc (length (r .stops)))) noPipe (A .pipes)))
+      ∙ ap₂ _+_ (W .instances-add) (total-numbers (λ (r : Pipe). 2 * (length (r .elements) * suc (length (r .stops)))) noPipe (A .pipes))
 
   -- ---- readiness: a step that the abstract network may grant is a ready step in the order of the steps
 

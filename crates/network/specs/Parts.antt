@@ -10,17 +10,14 @@ use borrow.Author.Tests.{lt-ltb, le-ltb}
 use Rattle.meaning.specs.Lists.{each, total}
 use Rattle.meaning.specs.Array.{Array, Pipe, pipeNumber, noPipe, pipeAt, elementsOn, pipeOrder, partStart, partOf, listLength}
 use Rattle.meaning.specs.Body.{gather}
+use Rattle.lists.specs.Sums.{part-ends}
+use Rattle.lists.specs.Members.{each-length}
 use Rattle.network.specs.Cases.{Order, less, atLeast, order}
-use Rattle.network.specs.Layout.{block-below, block-apart}
+use Rattle.network.specs.Layout.{block-apart}
 use Rattle.network.specs.Wiring.{elementAt, element-pipe}
 use Rattle.network.specs.Slots.{outOf}
 
 module _ {X : Type 0} (f : X → List ℕ) (d : X) where
-  length-each : (l : List X) → length (each f l) ≡ total (λ x. length (f x)) l
-  unfolding each total
-  length-each [] = refl
-  length-each (x ∷ l) = length-append (f x) (each f l) ∙ ap (λ (n : ℕ). length (f x) + n) (length-each l)
-
   -- the j-th of the q-th list stands where the lists before it end
   each-at : (l : List X) (q j : ℕ) → q < length l → j < length (f (getD l q d))
       → getD (each f l) (total (λ x. length (f x)) (take q l) + j) 0 ≡ getD (f (getD l q d)) j 0
@@ -57,7 +54,7 @@ module _ (A : Array) where
   -- a pipe's part is within the list, and two places in parts are one only if pipe and number are
   part-end : (q : ℕ) → q < pipeNumber A → partStart A q + elementsOn A q ≤ listLength A
   part-end q h =
-      omega (arith, block-below (λ (r : Pipe). length (r .elements)) noPipe (A .pipes) q h, length-each (λ (r : Pipe). r .elements) noPipe (A .pipes))
+      omega (arith, part-ends (λ (r : Pipe). length (r .elements)) noPipe (A .pipes) q h, each-length (λ (r : Pipe). r .elements) (A .pipes))
 
   pub part-below : (q i : ℕ) → i < elementsOn A q → partStart A q + i < listLength A
   part-below q i h = omega (arith, part-end q (element-pipe A q i h))
@@ -137,5 +134,5 @@ module _ (A : Array) where
       → ((q : ℕ) → q < pipeNumber A → partOf A q out ≡ map f (pipeAt A q .elements)) → out ≡ map f (pipeOrder A)
   parts-are out e f h =
       each-is (λ (r : Pipe). map f (r .elements)) (λ r. length (r .elements)) noPipe (A .pipes) out
-      (e ∙ length-each (λ (r : Pipe). r .elements) noPipe (A .pipes)) h
+      (e ∙ each-length (λ (r : Pipe). r .elements) (A .pipes)) h
       ∙ sym (map-each f (λ (r : Pipe). r .elements) (A .pipes))

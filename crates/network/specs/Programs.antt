@@ -15,7 +15,7 @@ use Rattle.meaning.specs.Body.{resultOf, runLine, runLines}
 use Rattle.meaning.specs.Lines.{line-leaves, lines-length}
 use Rattle.meaning.specs.Array.{Array, instanceAt, countAt, streamCount, pipeThrough, stopsOn, stopAt}
 use Rattle.meaning.specs.Rules.{processOn, streamOn, bodyAt}
-use Rattle.network.specs.Lists.{length-numbers, getD-first, same-numbers}
+use Rattle.lists.specs.Rows.{length-numbers, getD-first, same-numbers}
 use Rattle.network.specs.Values.{Program, Body}
 use Rattle.network.specs.Firing.{Own, in-hand, in-keep}
 use Rattle.network.specs.Wiring.{kindOf, rankAt, netOf, elementAt, writes, UsedAt, Wired, element-pipe, has-port, rankedOf, linedOf, laidOf, clockOf}

@@ -21,7 +21,8 @@ use Rattle.meaning.specs.Rules.{Memory}
 use Rattle.meaning.specs.Answers.{answerNumber}
 use Rattle.meaning.specs.Calls.{lengthOf, answer, refusedBy, allOut, inElementOrder, Written, resultTests, result}
 use Rattle.meaning.specs.Demand3.{CallResult, finalValue}
-use Rattle.network.specs.Lists.{any-position, position-passes, length-numbers, getD-first}
+use Rattle.lists.specs.Tests.{position-passes, any-position}
+use Rattle.lists.specs.Rows.{length-numbers, getD-first}
 use Rattle.network.specs.Wiring.{Wired}
 use Rattle.network.specs.Parts.{getD-map}
 use Rattle.network.specs.Declined.{numbers-are, Usable, declined-own}

@@ -68,11 +68,11 @@ module _ {A : Array} (W : Wired A) where
         let e = ap (elementsOn A) (W .pipe-is q k l) in
         (omega (arith, z .0, e, taken-is A st q k l), omega (arith, z .1, e, given-is A st q k l))
 
-    AtStop : ℕ → ℕ → Type 0
-    AtStop q k = Balance (elementsOn A q) (countsOf A st (get q k)) (countsOf A st (put q (suc k))) (kindOf (stopAt A q k .keeps)) × Link q k
+    Stop : ℕ → ℕ → Type 0
+    Stop q k = Balance (elementsOn A q) (countsOf A st (get q k)) (countsOf A st (put q (suc k))) (kindOf (stopAt A q k .keeps)) × Link q k
 
-    says-stop : Processes → (q k : ℕ) → k < stopsOn A q → Says (AtStop q k) (soundStop A st q k)
-    unfolding AtStop
+    says-stop : Processes → (q k : ℕ) → k < stopsOn A q → Says (Stop q k) (soundStop A st q k)
+    unfolding Stop
     says-stop f q k l =
         let w = within f q k l in
         says-and
@@ -85,7 +85,7 @@ module _ {A : Array} (W : Wired A) where
     Ends q = (countsOf A st (put q 0) ≤ elementsOn A q) × (countsOf A st (get q (stopsOn A q)) ≤ elementsOn A q)
 
     Stops : ℕ → Type 0
-    Stops q = (k : ℕ) → k < stopsOn A q → AtStop q k
+    Stops q = (k : ℕ) → k < stopsOn A q → Stop q k
 
     says-pipe : Processes → (q : ℕ) → q < pipeNumber A → Says ((Ends q × Stops q) × Link q (stopsOn A q)) (soundPipe A st q)
     unfolding Ends Stops
@@ -111,7 +111,7 @@ module _ {A : Array} (W : Wired A) where
     Pipes = (q : ℕ) → q < pipeNumber A → (Ends q × Stops q) × Link q (stopsOn A q)
 
     sound-of-tests : Processes → Pipes → Sound (netOf A) (countsOf A st)
-    unfolding Pipes Ends Stops AtStop Link Process Processes
+    unfolding Pipes Ends Stops Stop Link Process Processes
     sound-of-tests f w = record { fires = fires; puts = puts; gets = gets; link = link; balance = λ q k l. w q (stop-pipe A q k l) .0 .1 k l .0 }
       where
         fires : (p : ℕ) → countsOf A st (fire p) ≤ countAt A p
@@ -181,7 +181,7 @@ module _ {A : Array} (W : Wired A) where
 
     -- the test of a state
     pub says-sound : Says (Sound (netOf A) (countsOf A st) × Off st) (sound A st)
-    unfolding sound Off Processes Process Pipes Ends Stops AtStop Link
+    unfolding sound Off Processes Process Pipes Ends Stops Stop Link
     says-sound =
         says-as (λ w. (sound-of-tests (w .0) (w .1), λ p s h l e. w .0 p h .1 s l))
         (λ z. (

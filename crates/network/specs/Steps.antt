@@ -11,7 +11,7 @@ use Rattle.meaning.specs.Array.{Array, countAt, instanceAt, processCount, strea
 use Rattle.meaning.specs.State.{Firings, Received, wordCount, read}
 use Rattle.meaning.specs.Rules.{streamOn, oldest, bodyAt, Send, Take, Fire, Give, Receive, Memory, apply, applyAll}
 use Rattle.meaning.specs.Rules as Rules
-use Rattle.network.specs.Lists.{same-numbers}
+use Rattle.lists.specs.Rows.{same-numbers}
 use Rattle.network.specs.Counters.{fire, Guard, OneMore, put≢fire, get≢fire}
 use Rattle.network.specs.Sound.{Sound}
 use Rattle.network.specs.System.{word}

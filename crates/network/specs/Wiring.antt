@@ -9,9 +9,10 @@ use lib.Dec.{eqb}
 use lib.ListN.{length, getD, take, List·getD-eq-default}
 use borrow.Author.Tests.{ltb-true, eqb-true}
 use Rattle.meaning.specs.Lists.{any, total, numbers}
-use Rattle.meaning.specs.Array.{Array, Pipe, AtStop, countAt, processCount, streamCount, pipeNumber, noPipe, noStop, pipeAt, stopsOn, elementsOn, stopAt, isStop, pipeThrough, onPipe, placeOn}
+use Rattle.meaning.specs.Array.{Array, Pipe, Stop, countAt, processCount, streamCount, pipeNumber, noPipe, noStop, pipeAt, stopsOn, elementsOn, stopAt, isStop, pipeThrough, onPipe, placeOn}
 use Rattle.meaning.specs.Rules.{processOn, streamOn}
-use Rattle.network.specs.Lists.{position-passes, any-position, total-next, both-true}
+use Rattle.lists.specs.Sums.{total-next}
+use Rattle.lists.specs.Tests.{position-passes, any-position, both-true}
 use Rattle.network.specs.Cases.{Order, less, atLeast, order}
 use Rattle.network.specs.Counters.{Kind, through, keep, Shape, room, some, Net}
 use Rattle.network.specs.Ranks.{Next, level, rise, Ranked, rank-keep}
@@ -182,7 +183,7 @@ module _ {A : Array} (W : Wired A) where
 
   pub rank-next : (q k : ℕ) → k < stopsOn A q → Next (rankAt A q k) (rankAt A q (suc k)) (kindOf (stopAt A q k .keeps))
   rank-next q k h =
-      go (stopAt A q k .keeps) (rankAt A q k) (rankAt A q (suc k)) (total-next (λ (t : AtStop). cond (t .keeps) 1 0) noStop (pipeAt A q .stops) k h)
+      go (stopAt A q k .keeps) (rankAt A q k) (rankAt A q (suc k)) (total-next (λ (t : Stop). cond (t .keeps) 1 0) (pipeAt A q .stops) k noStop h)
     where
       go : (b : Bool) (r r' : ℕ) → r' ≡ r + cond b 1 0 → Next r r' (kindOf b)
       go true r r' e = rise (omega arith)
@@ -192,7 +193,7 @@ module _ {A : Array} (W : Wired A) where
   rank-none : (q : ℕ) → ((k : ℕ) → k < stopsOn A q → stopAt A q k .keeps ≡ false) → (k : ℕ) → k ≤ stopsOn A q → rankAt A q k ≡ 0
   rank-none q f zero h = rank-start q
   rank-none q f (suc k) h =
-      total-next (λ (t : AtStop). cond (t .keeps) 1 0) noStop (pipeAt A q .stops) k h
+      total-next (λ (t : Stop). cond (t .keeps) 1 0) (pipeAt A q .stops) k noStop h
       ∙ ap₂ _+_ (rank-none q f k (omega arith)) (ap (λ (b : Bool). cond b 1 0) (f k h))
 
   pub rank-end : (q : ℕ) → (rankAt A q (stopsOn A q) ≡ 0) ⊎ (rankAt A q (stopsOn A q) ≡ elementsOn A q)

@@ -9,7 +9,8 @@ use lib.Seq.{take-length, length-take-le, getD-take, ext-getD}
 use Rattle.meaning.specs.Lists.{each, total, numbers, numbersFrom}
 use Rattle.meaning.specs.Array.{Array, Pipe, processCount, streamCount, pipeNumber, noPipe, pipeAt}
 use Rattle.meaning.specs.State.{Word, Firings, Taken, Given, Hand, Keep, Place, Sent, Received, End, processStart, portStart, endStart, index, wordCount, portWords, processWords, pipeWords, words, read}
-use Rattle.network.specs.Lists.{total-next, length-numbers, getD-first, same-numbers}
+use Rattle.lists.specs.Sums.{total-next}
+use Rattle.lists.specs.Rows.{length-numbers, getD-first, same-numbers}
 use Rattle.network.specs.Layout.{Live}
 
 -- ---- the numbers from a up to b
@@ -91,7 +92,7 @@ module _ (A : Array) where
       (upto-more (c + 2) (c + 3) (omega arith)
       (upto-more (c + 3) (c + 4) (omega arith)
       (places-stand (Place p s) (c + 4) (getD (A .hops) s 0) (portStart A p (suc s)) (λ i. refl)
-      (omega (arith, total-next (λ h. 4 + h) 0 (A .hops) s h))))))
+      (omega (arith, total-next (λ h. 4 + h) (A .hops) s 0 h))))))
 
   process-stands : (p : ℕ) → Upto (processStart A p) (processStart A (suc p)) (map (index A) (processWords A p))
   unfolding total
@@ -114,7 +115,7 @@ module _ (A : Array) where
       upto-more c (c + 1) (omega arith)
       (upto-more (c + 1) (c + 2) (omega arith)
       (places-stand (End q) (c + 2) (pipeAt A q .hop) (endStart A (suc q)) (λ i. refl)
-      (omega (arith, total-next (λ (r : Pipe). 2 + r .hop) noPipe (A .pipes) q h))))
+      (omega (arith, total-next (λ (r : Pipe). 2 + r .hop) (A .pipes) q noPipe h))))
 
   all-stand : Upto (processStart A 0) (endStart A (0 + pipeNumber A)) (map (index A) (words A))
   unfolding total

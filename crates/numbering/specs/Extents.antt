@@ -7,7 +7,7 @@ use lib.ListN.{length, getD, drop, drop-of-length-le}
 use lib.Seq.{drop-cons}
 use lib.IntN.{ℤ, pos, negsuc}
 use lib.Signed.{_≤ℤ_, ≤ℤ-refl}
-use Rattle.integers.specs.Differences.{Abs, gaps, parts, zrules}
+use Rattle.integers.specs.Differences.{Abs, gaps, parts}
 use Rattle.integers.specs.Variables.{linear}
 use Rattle.integers.specs.Bounds.{Abs-add, Abs-mul, Abs-range}
 use Rattle.integers.specs.Vectors.{zero3, image}
@@ -19,7 +19,7 @@ use Rattle.meaning.specs.Space.{Box, widen, widenAll, around, boxOf}
 use Rattle.meaning.specs.Points.{Between, Within as InBounds, Inside}
 use Rattle.geometry.specs.Places.{getD-in}
 use Rattle.geometry.specs.Instances.{in-within}
-use Rattle.geometry.specs.Boxes.{box-has, box-least}
+use Rattle.geometry.specs.Boxes.{box-has, box-least, le-trans}
 use Rattle.vectors.specs.Within.{Within, Within2, Rows}
 use Rattle.numbering.specs.declared.Extent.{Extent}
 use Rattle.numbering.specs.Ranges.{Bounded, Apart, point-small}
@@ -61,9 +61,6 @@ module _ (m : Matrix) (xs : List V3) where
 pub record Spanning (k : Box) : Type 0 where
   pub first : Apart (k .lo .a) (k .hi .a)
   pub second : Apart (k .lo .b) (k .hi .b)
-
-le-trans : {u v w : ℤ} → u ≤ℤ v → v ≤ℤ w → u ≤ℤ w
-le-trans h k = omega (arith, zrules)
 
 -- images of small points are small
 image-small : {m : Matrix} {x : V3} → Rows 4 m → Within 64 x → Within2 768 (image m x)

@@ -15,7 +15,8 @@ use Rattle.meaning.specs.declared.Nest.{Nest}
 use Rattle.meaning.specs.Lists.{each}
 use Rattle.meaning.specs.Loops.{size, loop, instances}
 use Rattle.meaning.specs.Points.{Direction, Direction.onward, Direction.back}
-use Rattle.geometry.specs.Members.{map-at, each-length, each-at, total-same}
+use Rattle.lists.specs.Members.{map-at, each-length, each-at}
+use Rattle.lists.specs.Sums.{total-same}
 use Rattle.geometry.specs.Instances.{progression-length, progression-at}
 use Rattle.numbering.specs.declared.Loop.{Loop}
 use Rattle.numbering.specs.declared.Turns.{Turns}

@@ -14,6 +14,7 @@ use Rattle.meaning.specs.Lists.{filter, total}
 use Rattle.meaning.specs.Space.{processes}
 use Rattle.meaning.specs.Streams.{elements}
 use Rattle.meaning.specs.Pipes.{isEntry, isPipe, pipeElements}
+use Rattle.lists.specs.Tests.{filter-fewer}
 use Rattle.geometry.specs.Places.{rank, rank-zero, rank-yes, rank-no}
 use Rattle.geometry.specs.Pipes.{Accepted}
 use Rattle.geometry.specs.Elements.{pipes-total}
@@ -58,15 +59,6 @@ module _ {A : Type 0} where
           → total g (cond b (x ∷ filter f (take k l)) (filter f (take k l))) ≤ total g (cond b (x ∷ filter f l) (filter f l))
       go true e = omega arith
       go false e = e
-
-  pub filter-fewer : (f : A → Bool) (l : List A) → length (filter f l) ≤ length l
-  unfolding filter
-  filter-fewer f [] = omega arith
-  filter-fewer f (x ∷ l) = go (f x) (filter-fewer f l)
-    where
-      go : (b : Bool) → length (filter f l) ≤ length l → length (cond b (x ∷ filter f l) (filter f l)) ≤ suc (length l)
-      go true e = omega arith
-      go false e = omega arith
 
 -- ---- the entries of a stream
 

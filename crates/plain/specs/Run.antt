@@ -1,4 +1,4 @@
--- The run of the instances one by one, a list copied, and what the call answers. Assumes nothing.
+-- The run of the instances one by one, and what the call answers. Assumes nothing.
 use mathlib.Core.Path.{_≡_, refl, sym, _∙_, ap, ap₂, subst}
 use mathlib.Core.Bool.{cond}
 use mathlib.Core.List.{List, [], _∷_}
@@ -7,9 +7,8 @@ use native.Mathlib.Numerals.{add-one}
 use native.Mathlib.Omega.{arith}
 use lib.Dec.{eqb}
 use lib.ListN.{length, getD, take, drop, drop-of-length-le}
-use lib.Seq.{drop-cons, ext-getD}
+use lib.Seq.{drop-cons}
 use borrow.Author.Tests.{ne-eqb}
-use Rattle.integers.specs.Fill.{fillBy, fill-length, fill-at}
 use Rattle.integers.specs.Vectors.{zero3}
 use Rattle.integers.specs.declared.V3.{V3}
 use Rattle.meaning.specs.declared.Description.{Description}
@@ -48,13 +47,6 @@ pub executed : (d : Description) (k : ℕ) {x : V3} (table store : List ℕ) {ou
 executed d k table store h l e o =
     o ∙ ap₂ (λ (x : V3) (ps : List ℕ). executeAt x (linesOf d) store ps) e (lent d table k h l)
     ∙ execute-touched d (getD (instances (d .nest)) k zero3) store
-
--- ---- a list copied onto another of its length
-
-pub copied : (vs out : List ℕ) → length out ≡ length vs → fillBy (λ k. getD vs k 0) (length vs) out ≡ vs
-copied vs out e =
-    ext-getD 0 _ _ (fill-length (λ k. getD vs k 0) (length vs) out ∙ e) λ i h.
-    fill-at (λ k. getD vs k 0) (length vs) i out 0 (omega (arith, fill-length (λ k. getD vs k 0) (length vs) out)) (omega arith)
 
 -- ---- what the call answers
 

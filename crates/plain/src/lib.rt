@@ -122,18 +122,6 @@ fn run_loops(d: Description, store: &mut [u32])
 
 // ---- the call
 
-// The values, copied.
-fn copy(values: &[u32], output: &mut [u32])
-    requires { ⌜ length (now output) ≡ length (now values) ⌝ }
-    ensures { λ r. ⌜ now (output .exit) ≡ now (values .entry) ⌝ }
-{
-    let mut i = 0;
-    while i < values.len() {
-        output[i] = values[i];
-        i += 1;
-    }
-}
-
 // The call on an accepted description.
 fn run_accepted(d: Description, values: &[u32], output: &mut [u32]) -> Answer
     requires { ⌜ Fitting d ⌝ }
@@ -142,7 +130,7 @@ fn run_accepted(d: Description, values: &[u32], output: &mut [u32]) -> Answer
     let e = elements::element_count(d);
     let r = declines::of_plain(e, values.len(), output.len());
     if r == 0 {
-        copy(values, output);
+        words::store(output, 0, values);
         run_loops(d, output);
         Answer::Done
     } else {

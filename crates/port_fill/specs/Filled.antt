@@ -1,8 +1,8 @@
 -- The rows of a description, stream by stream: they are those of its array. Assumes a description that is not refused.
 use mathlib.Core.Path.{_≡_, refl, sym, _∙_, ap, ap₂, subst}
 use mathlib.Core.Logic.{_⊎_, inl, inr}
-use mathlib.Core.Bool.{Bool, true, false, cond}
-use mathlib.Core.List.{List, [], _∷_}
+use mathlib.Core.Bool.{true}
+use mathlib.Core.List.{List}
 use Prim.Native.Nat.{ℕ, zero, suc, _+_, _-_, _*_, _≤_, _<_}
 use native.Mathlib.Nat.{eq-or-lt-of-le, le-of-suc-le-suc}
 use native.Mathlib.Decide.{decLe}
@@ -17,14 +17,16 @@ use Rattle.meaning.specs.declared.Nest.{Nest}
 use Rattle.meaning.specs.declared.Stream.{Stream}
 use Rattle.meaning.specs.declared.Description.{Description}
 use Rattle.meaning.specs.Limits.{processWordsMost}
-use Rattle.meaning.specs.Lists.{filter, total}
+use Rattle.meaning.specs.Lists.{total}
 use Rattle.meaning.specs.Space.{rowIndex, space, processes}
 use Rattle.meaning.specs.Streams.{hop, elements}
 use Rattle.meaning.specs.Pipes.{entries, pipeElements}
 use Rattle.meaning.specs.Description.{streamsOf, noStream}
 use Rattle.meaning.specs.Body.{streamStart}
 use Rattle.meaning.specs.Array.{Array, arrayOf, pipeNumber, partStart}
-use Rattle.geometry.specs.Members.{filter-in, total-none, total-next}
+use Rattle.lists.specs.Members.{filter-in}
+use Rattle.lists.specs.Sums.{total-none, total-next}
+use Rattle.lists.specs.Tests.{is-true, take-filter}
 use Rattle.geometry.specs.Sorting.{sorted-filter}
 use Rattle.geometry.specs.Places.{ahead, getD-in, ahead-getD, ahead-filter}
 use Rattle.geometry.specs.Boxes.{row-distinct, points-sorted}
@@ -32,7 +34,7 @@ use Rattle.geometry.specs.Elements.{partOf}
 use Rattle.geometry.specs.Descriptions.{Laid}
 use Rattle.geometry.specs.Arrays.{streamAt, pipe-count}
 use Rattle.addresses.specs.Pipes.{entryCount, base, entryAt, base-next, part-start}
-use Rattle.addresses.specs.Through.{is-true, pointOf}
+use Rattle.addresses.specs.Through.{pointOf}
 use Rattle.addresses.specs.Ends.{number-lt, number-point, entry-inside}
 use Rattle.addresses.specs.Indices.{portWords as portSize, endsWords, strideOf, process-count, stream-count}
 use Rattle.ports.specs.declared.Port.{Port}
@@ -61,24 +63,6 @@ rows-apart p k v r i l hi hv = go (decLe p r)
     go : Dec (p ≤ r) → (60 * p + 10 * k + v < 60 * r + 10 * i) ⊎ (60 * r + 10 * i + 10 ≤ 60 * p + 10 * k + v)
     go (yes h) = inl (omega arith)
     go (no h) = inr (omega arith)
-
--- the members that pass before some place are the first of those that pass
-take-filter : {A : Type 0} (f : A → Bool) (k : ℕ) (l : List A) → take (length (filter f (take k l))) (filter f l) ≡ filter f (take k l)
-unfolding filter
-take-filter f zero [] = refl
-take-filter f (suc k) [] = refl
-take-filter {A} f zero (x ∷ l) = go (cond (f x) (x ∷ filter f l) (filter f l))
-  where
-    go : (m : List A) → take 0 m ≡ []
-    go [] = refl
-    go (y ∷ m) = refl
-take-filter {A} f (suc k) (x ∷ l) = go (f x) (take-filter f k l)
-  where
-    go : (b : Bool) → take (length (filter f (take k l))) (filter f l) ≡ filter f (take k l)
-        → take (length (cond b (x ∷ filter f (take k l)) (filter f (take k l)))) (cond b (x ∷ filter f l) (filter f l))
-        ≡ cond b (x ∷ filter f (take k l)) (filter f (take k l))
-    go true e = ap (λ (m : List A). x ∷ m) e
-    go false e = e
 
 -- ---- what the rows say
 

@@ -13,7 +13,7 @@ use Rattle.ports.specs.declared.Port.{Port}
 use Rattle.ports.specs.declared.End.{End}
 use Rattle.ports.specs.Ports.{same-port}
 use Rattle.ports.specs.Ends.{same-end}
-use Rattle.port_table.specs.Stored.{stored, stored-length, stored-other, stored-at}
+use Rattle.words.specs.Stored.{stored, stored-length, stored-other, stored-at}
 use Rattle.port_table.specs.Rows.{portWords, endWords, portRead, endRead}
 
 module _ (on : ℕ → Bool) (row : ℕ → List ℕ) (at : ℕ → ℕ) (m : ℕ) where

@@ -15,17 +15,18 @@ use Rattle.meaning.specs.Lists.{filter}
 use Rattle.meaning.specs.Space.{processes}
 use Rattle.meaning.specs.Streams.{elements}
 use Rattle.meaning.specs.Pipes.{entries}
+use Rattle.lists.specs.Tests.{filter-fewer}
 use Rattle.layout.specs.Spans.{processOf, Spans}
 use Rattle.ports.specs.declared.Port.{Port}
 use Rattle.ports.specs.declared.End.{End}
 use Rattle.lanes.specs.declared.Flow.{Flow}
 use Rattle.lanes.specs.Flow.{Flows, Seen}
 use Rattle.pipes.specs.Elements.{Near}
-use Rattle.pipe_parts.specs.Starts.{entering, filter-fewer, startAt, enteredAt, start-most}
+use Rattle.pipe_parts.specs.Starts.{entering, startAt, enteredAt, start-most}
 use Rattle.figures.specs.Shares.{Sharing}
 use Rattle.port_rows.specs.declared.Strand.{Strand}
 use Rattle.port_rows.specs.Strands.{Narrow, PortGiven, rowFrom, endFrom}
-use Rattle.port_table.specs.Stored.{stored}
+use Rattle.words.specs.Stored.{stored}
 use Rattle.port_table.specs.Rows.{portWords, endWords}
 use Rattle.port_fill.specs.declared.Sums.{Sums}
 use Rattle.port_fill.specs.Marks.{mark, marks, marks-step, marks-length}

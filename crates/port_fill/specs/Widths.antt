@@ -1,8 +1,8 @@
 -- The rows of a stream fit words. Assumes nothing.
 use mathlib.Core.Path.{_≡_, refl}
 use mathlib.Core.Bool.{Bool, true, false, cond}
-use mathlib.Core.List.{List, [], _∷_}
-use Prim.Native.Nat.{ℕ, suc, _+_, _≤_, _<_}
+use mathlib.Core.List.{List}
+use Prim.Native.Nat.{ℕ, _+_, _≤_, _<_}
 use native.Mathlib.Omega.{arith}
 use lib.Dec.{eqb}
 use lib.ListN.{length}
@@ -10,11 +10,11 @@ use Rattle.integers.specs.declared.V2.{V2}
 use Rattle.meaning.specs.declared.Nest.{Nest}
 use Rattle.meaning.specs.declared.Stream.{Stream}
 use Rattle.meaning.specs.Limits.{endWordsMost, stateWordsMost}
-use Rattle.meaning.specs.Lists.{position}
 use Rattle.meaning.specs.Space.{rowIndex, boxOf, space, processes, count, computing}
 use Rattle.meaning.specs.Streams.{move, elements}
 use Rattle.meaning.specs.Pipes.{reach, before, isPipe, uses, pipeElements, soak}
 use Rattle.meaning.specs.Array.{rowSoak}
+use Rattle.lists.specs.Tests.{position-most}
 use Rattle.geometry.specs.Sorting.{fewer}
 use Rattle.geometry.specs.Boxes.{inside-points}
 use Rattle.geometry.specs.RowOrder.{row-lt}
@@ -31,15 +31,6 @@ use Rattle.port_rows.specs.declared.Strand.{Strand}
 use Rattle.stream_lines.specs.StateWords.{process-words, end-words}
 use Rattle.port_rows.specs.Strands.{Narrow, portIndex, endIndex, beforeFrom, afterFrom, roomFrom, pipeOf, portFrom, offFrom, rowFrom, endFrom, some-before, count-fits}
 use Rattle.port_table.specs.Rows.{PortWide, EndWide}
-
-position-most : {A : Type 0} (f : A → Bool) (l : List A) → position f l ≤ length l
-unfolding position
-position-most f [] = omega arith
-position-most f (x ∷ l) = go (f x) (position-most f l)
-  where
-    go : (b : Bool) → position f l ≤ length l → cond b 0 (suc (position f l)) ≤ suc (length l)
-    go true e = omega arith
-    go false e = omega arith
 
 wide : {a : ℕ} → a ≤ stateWordsMost + endWordsMost + 2 → a < 4294967296
 wide h = omega arith

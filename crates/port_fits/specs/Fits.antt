@@ -1,8 +1,8 @@
 -- The port table of an accepted description's array: its rows' words lie in every state that is long enough, and its pipes' parts in the lists. Assumes nothing.
 use mathlib.Core.Path.{_≡_, refl, sym, _∙_, subst}
 use mathlib.Core.Bool.{Bool, true, false, cond}
-use mathlib.Core.List.{List, [], _∷_}
-use Prim.Native.Nat.{ℕ, suc, _+_, _≤_, _<_}
+use mathlib.Core.List.{List}
+use Prim.Native.Nat.{ℕ, _+_, _≤_, _<_}
 use native.Mathlib.Omega.{arith}
 use borrow.Author.Tests.{lt-ltb}
 use lib.Dec.{ltb}
@@ -12,7 +12,6 @@ use Rattle.meaning.specs.declared.Nest.{Nest}
 use Rattle.meaning.specs.declared.Stream.{Stream}
 use Rattle.meaning.specs.declared.Description.{Description}
 use Rattle.meaning.specs.Limits.{gaugeLimits}
-use Rattle.meaning.specs.Lists.{position}
 use Rattle.meaning.specs.Space.{computing}
 use Rattle.meaning.specs.Pipes.{uses, pipeElements, soak}
 use Rattle.meaning.specs.Description.{descriptionOf, streamsOf}
@@ -20,6 +19,7 @@ use Rattle.meaning.specs.Array.{rowSoak, Array, arrayOf, processCount, streamCo
 use Rattle.meaning.specs.State.{wordCount}
 use Rattle.meaning.specs.Accept.{refusalOf}
 use Rattle.meaning.specs.Calls.{lengthOf, stateLength}
+use Rattle.lists.specs.Tests.{position-most}
 use Rattle.geometry.specs.Descriptions.{Laid, laid}
 use Rattle.geometry.specs.Arrays.{streamAt}
 use Rattle.guarantee.specs.Wired.{wired}
@@ -37,15 +37,6 @@ use Rattle.ports.specs.Rows.{offPort, rowOf, row-fits}
 use Rattle.port_table.specs.PortsOf.{portAt, endAt, PortsOf, RowsFit, PartsFit}
 use Rattle.port_fits.specs.Instances.{process-lt, count-most}
 use Rattle.port_fits.specs.Sizes.{sizeOf, regular, few-streams, size-of, pipes-most, words-few, part-inside, elements-few}
-
-position-most : {X : Type 0} (f : X → Bool) (l : List X) → position f l ≤ length l
-unfolding position
-position-most f [] = omega arith
-position-most f (x ∷ l) = go (f x) (position-most f l)
-  where
-    go : (b : Bool) → position f l ≤ length l → cond b 0 (suc (position f l)) ≤ suc (length l)
-    go true e = omega arith
-    go false e = omega arith
 
 -- a process soaks elements of its pipe
 soak-most : (n : Nest) (t : Stream) (y : V2) → rowSoak n t y ≤ length (pipeElements n t y)

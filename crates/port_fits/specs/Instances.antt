@@ -17,7 +17,6 @@ use Rattle.geometry.specs.Descriptions.{Laid, laid}
 use Rattle.addresses.specs.Through.{pointOf}
 use Rattle.addresses.specs.Ports.{count-at, instance-at}
 use Rattle.addresses.specs.Indices.{process-count}
-use Rattle.pipe_parts.specs.Starts.{filter-fewer}
 use Rattle.figures.specs.Shares.{described}
 
 module _ (s : List ℕ) (ok : refusalOf gaugeLimits s ≡ 0) where

@@ -11,7 +11,8 @@ use Rattle.meaning.specs.Array.{Array, Pipe, arrayOf, pipeNumber, noPipe, eleme
 use Rattle.meaning.specs.State.{wordCount}
 use Rattle.meaning.specs.Accept.{refusalOf, figures}
 use Rattle.meaning.specs.Calls.{lengthOf}
-use Rattle.geometry.specs.Members.{each-length}
+use Rattle.lists.specs.Members.{each-length}
+use Rattle.lists.specs.Sums.{part-ends}
 use Rattle.geometry.specs.Descriptions.{laid}
 use Rattle.geometry.specs.Arrays.{pipe-count}
 use Rattle.geometry.specs.PipeOrder.{list-length}
@@ -21,7 +22,7 @@ use Rattle.addresses.specs.Indices.{process-count, stream-count, word-count}
 use Rattle.stream_lines.specs.StateWords.{process-words}
 use Rattle.figures.specs.Shares.{Room, totalsOver, Described, described, totals-room, totals-all}
 use Rattle.element_places.specs.Order.{elements-most}
-use Rattle.ports.specs.Layout.{Regular, part-ends}
+use Rattle.ports.specs.Layout.{Regular}
 use Rattle.sound_rows.specs.Rows.{Single}
 use Rattle.port_table.specs.declared.Size.{Size}
 use Rattle.port_table.specs.PortsOf.{SizeOf}

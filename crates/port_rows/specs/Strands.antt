@@ -19,6 +19,7 @@ use Rattle.meaning.specs.Streams.{stationary, move}
 use Rattle.meaning.specs.Pipes.{reach, before, isPipe, pipeElements}
 use Rattle.meaning.specs.Array.{rowSoak}
 use Rattle.meaning.specs.Points.{Inside}
+use Rattle.lists.specs.Tests.{filter-fewer}
 use Rattle.geometry.specs.Reach.{reach-in}
 use Rattle.geometry.specs.RowOrder.{row-lt}
 use Rattle.addresses.specs.Ends.{backOf, onOf, exitOf, back-inside}
@@ -29,7 +30,7 @@ use Rattle.layout.specs.Rays.{reach-small}
 use Rattle.ports.specs.declared.Port.{Port}
 use Rattle.ports.specs.declared.End.{End}
 use Rattle.ports.specs.Ports.{same-port}
-use Rattle.pipe_parts.specs.Starts.{filter-fewer, enteredAt, entered-le}
+use Rattle.pipe_parts.specs.Starts.{enteredAt, entered-le}
 use Rattle.pipe_parts.specs.Entries.{pipe-test}
 use Rattle.lanes.specs.declared.Flow.{Flow}
 use Rattle.lanes.specs.Held.{entryNumber}

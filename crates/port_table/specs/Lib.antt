@@ -1,4 +1,3 @@
 -- Rows written into a list; the words of rows.
-pub mod Stored
 pub mod Rows
 pub mod PortsOf

@@ -3,15 +3,13 @@
 //
 // specs/, by file:
 //
-//   Stored    a row written into a list: what stands there, and what stays
 //   Rows      the words of rows, and rows read off them
 //   PortsOf   the port table of an array; port tables whose rows' words lie in a state
 ghost use mathlib.Core.Path.{_≡_};
-ghost use mathlib.Core.Bool.{cond};
 ghost use Prim.Native.Nat.{_+_, _≤_, _<_};
 ghost use lib.ListN.{length};
 ghost use Rattle.meaning.specs.Limits.{gaugeLimits, pipesMost};
-ghost use Rattle.port_table.specs.Stored.{stored};
+ghost use Rattle.words.specs.Stored.{stored};
 ghost use Rattle.port_table.specs.Rows.{PortWide, EndWide, portWords, endWords, portRead, endRead};
 ghost use Rattle.port_table.specs.PortsOf.{portAt, endAt, portsAt, portTableWords};
 use meaning::PIPES;
@@ -38,25 +36,6 @@ pub struct Size {
     pub pipes: usize,
 }
 
-// A row is written from a place on.
-fn store(ports: &mut [u32], at: usize, row: &[u32])
-    requires { ⌜ at + length (now row) ≤ length (now ports) ⌝ }
-    ensures { λ r. ⌜ now (ports .exit) ≡ stored (now (row .entry)) at (length (now (row .entry))) (now (ports .entry)) ⌝ }
-{
-    let mut w = 0;
-    while w < row.len() {
-        ports[at + w] = row[w];
-        w += 1;
-    }
-}
-
-// A truth as a word.
-fn flag(b: bool) -> u32
-    ensures { λ r. ⌜ r ≡ cond b 1 0 ⌝ }
-{
-    if b { 1 } else { 0 }
-}
-
 // The words of a port's row.
 fn port_words(k: Port) -> [u32; PORT]
     requires { ⌜ PortWide k ⌝ }
@@ -72,7 +51,7 @@ fn port_words(k: Port) -> [u32; PORT]
         k.soak as u32,
         k.count as u32,
         k.total as u32,
-        flag(k.keeps),
+        words::flag(k.keeps),
     ]
 }
 
@@ -100,7 +79,7 @@ pub fn put_port(ports: &mut [u32], at: usize, k: Port)
     ensures { λ r. ⌜ now (ports .exit) ≡ stored (portWords k) at 10 (now (ports .entry)) ⌝ }
 {
     let row = port_words(k);
-    store(ports, at, &row);
+    words::store(ports, at, &row);
 }
 
 // The row of a pipe's ends.
@@ -109,7 +88,7 @@ pub fn put_end(ports: &mut [u32], at: usize, e: End)
     ensures { λ r. ⌜ now (ports .exit) ≡ stored (endWords e) at 9 (now (ports .entry)) ⌝ }
 {
     let row = end_words(e);
-    store(ports, at, &row);
+    words::store(ports, at, &row);
 }
 
 // The port's row at place `at`.

@@ -2,17 +2,17 @@
 -- word where it counts. Assumes nothing.
 use mathlib.Core.Path.{_≡_, refl, ap}
 use mathlib.Core.Bool.{Bool, true, false, cond}
-use mathlib.Core.List.{List, [], _∷_}
 use Prim.Native.Nat.{ℕ, zero, suc, _+_, _*_, _≤_, _<_}
 use native.Mathlib.Nat.{mul-le-mul-right}
 use native.Mathlib.Omega.{arith}
 use lib.Dec.{ltb}
-use lib.ListN.{length, getD, take}
+use lib.ListN.{getD, take}
 use borrow.Author.Tests.{ltb-true, ltb-false}
 use Rattle.meaning.specs.Lists.{total}
 use Rattle.meaning.specs.Array.{Array, noPipe, processCount, streamCount, pipeNumber, stopAt, pipeAt, stopsOn, elementsOn, countAt}
 use Rattle.meaning.specs.State.{Taken, Given, Place, Sent, Received, End, stride, processStart, index, wordCount}
 use Rattle.meaning.specs.Rules.{processOn, streamOn, putIn, takenOut, linkPlace}
+use Rattle.lists.specs.Sums.{part-ends}
 use Rattle.ports.specs.Ports.{portOf, PortFits}
 use Rattle.ports.specs.Ends.{endOf, EndFits}
 
@@ -34,13 +34,6 @@ rows-apart p r w a b h g e = go (ltb p r) (ltb r p) refl refl
     go false false d f =
         let z : p ≡ r = omega (arith, ltb-false p r d, ltb-false r p f) in
         omega (arith, ap (λ (p : ℕ). p * w) z)
-
--- the words of member i end before those of the next
-pub part-ends : {X : Type 0} (f : X → ℕ) (d : X) (l : List X) (i : ℕ) → i < length l → total f (take i l) + f (getD l i d) ≤ total f l
-unfolding total
-part-ends f d [] i h = absurd (omega arith)
-part-ends f d (x ∷ l) zero h = omega arith
-part-ends f d (x ∷ l) (suc i) h = omega (arith, part-ends f d l i (omega arith))
 
 -- ---- the words of a port
 

@@ -1,6 +1,5 @@
 -- A link's fill, cut off at its places, and the link without its oldest value. Assumes nothing.
-use mathlib.Core.Path.{_≡_, refl, _∙_}
-use mathlib.Core.Bool.{Bool, true, false, _&&_}
+use mathlib.Core.Path.{_≡_, _∙_}
 use mathlib.Core.List.{List}
 use Prim.Native.Nat.{ℕ, zero, suc, _+_, _-_, _<_, min}
 use native.Mathlib.Omega.{arith}
@@ -42,8 +41,3 @@ unfolding movedDown
 move-before l i zero j h = getD-set-other l i j 0 0 (λ (e : j ≡ i). omega arith)
 move-before l i (suc n) j h =
     move-before (set l i (word l (suc i))) (suc i) n j (omega arith) ∙ getD-set-other l i j _ 0 (λ (e : j ≡ i). omega arith)
-
--- a test of two parts
-pub both : (a b : Bool) → (a && b) ≡ true → (a ≡ true) × (b ≡ true)
-both true b h = (refl, h)
-both false b h = absurd (let z : _≡_ {A = ℕ} 0 1 = cc in omega arith)

@@ -2,17 +2,16 @@
 -- are 0. Assumes nothing.
 use mathlib.Core.Path.{_≡_, refl}
 use mathlib.Core.Bool.{Bool, true, false, cond}
-use Prim.Native.Nat.{ℕ, suc, _+_, _*_, _≤_, _<_}
+use Prim.Native.Nat.{ℕ, _+_, _≤_, _<_}
 use native.Mathlib.Nat.{mul-le-mul-right}
 use native.Mathlib.Omega.{arith}
-use lib.ListN.{getD}
-use Rattle.meaning.specs.Array.{Array, processCount, streamCount, pipeNumber, countAt, stopAt, onPipe}
-use Rattle.meaning.specs.State.{Firings, Taken, Given, Place, stride, processStart, index, wordCount}
-use Rattle.meaning.specs.Rules.{processOn}
+use Rattle.meaning.specs.Array.{Array, processCount, streamCount, countAt, stopAt, onPipe}
+use Rattle.meaning.specs.State.{Firings, Taken, Given, Place, stride, index, wordCount}
+use Rattle.lists.specs.Sums.{part-ends}
 use Rattle.ports.specs.declared.Port.{Port}
 use Rattle.ports.specs.Ports.{portOf, PortFits}
 use Rattle.ports.specs.Places.{pipe, place, pipe-on, place-on, process-is}
-use Rattle.ports.specs.Layout.{Regular, part-ends, port-fits}
+use Rattle.ports.specs.Layout.{Regular, port-fits}
 
 -- the row of process p and stream i off every pipe
 abbrev pub offPort : Array → ℕ → ℕ → Port

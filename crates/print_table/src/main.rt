@@ -9,69 +9,69 @@ use meaning::Row;
 // ---- a row
 
 // One number for each stream.
-fn put_streams(line: &mut [u8; 256], at: usize, words: [u32; 6], streams: u32) -> usize {
+fn put_streams(page: &mut [u8; 4096], at: usize, words: [u32; 6], streams: u32) -> usize {
     let mut next = at;
     let mut i: usize = 0;
     while i < 6 {
         if streams <= i as u32 {
             return next;
         }
-        next = text::put_number(line, next, b" ", words[i]);
+        next = text::put_number(page, next, b" ", words[i]);
         i += 1;
     }
     next
 }
 
-fn put_null(line: &mut [u8; 256], at: usize, r: Row, streams: u32) -> usize {
-    let p = text::put_text(line, at, b" p");
+fn put_null(page: &mut [u8; 4096], at: usize, r: Row, streams: u32) -> usize {
+    let p = text::put_text(page, at, b" p");
     let soak = r.soak;
-    put_streams(line, p, soak, streams)
+    put_streams(page, p, soak, streams)
 }
 
-fn put_computing(line: &mut [u8; 256], at: usize, r: Row, loops: u32, streams: u32) -> usize {
-    let f = text::put_text(line, at, b" f");
-    let first = text::put_instance(line, f, r.first, loops);
-    let l = text::put_text(line, first, b" l");
-    let last = text::put_instance(line, l, r.last, loops);
-    let s = text::put_text(line, last, b" s");
+fn put_computing(page: &mut [u8; 4096], at: usize, r: Row, loops: u32, streams: u32) -> usize {
+    let f = text::put_text(page, at, b" f");
+    let first = text::put_instance(page, f, r.first, loops);
+    let l = text::put_text(page, first, b" l");
+    let last = text::put_instance(page, l, r.last, loops);
+    let s = text::put_text(page, last, b" s");
     let soak = r.soak;
-    let soaks = put_streams(line, s, soak, streams);
-    let d = text::put_text(line, soaks, b" d");
+    let soaks = put_streams(page, s, soak, streams);
+    let d = text::put_text(page, soaks, b" d");
     let drain = r.drain;
-    put_streams(line, d, drain, streams)
+    put_streams(page, d, drain, streams)
 }
 
-fn put_row(line: &mut [u8; 256], r: Row, loops: u32, streams: u32) -> usize {
-    let y = text::put(line, 0, b'y');
-    let point = text::put_point(line, y, r.point, loops);
-    let count = text::put_number(line, point, b" n ", r.count);
+fn put_row(page: &mut [u8; 4096], r: Row, loops: u32, streams: u32) -> usize {
+    let y = text::put(page, 0, b'y');
+    let point = text::put_point(page, y, r.point, loops);
+    let count = text::put_number(page, point, b" n ", r.count);
     let end = if r.count == 0 {
-        put_null(line, count, r, streams)
+        put_null(page, count, r, streams)
     } else {
-        put_computing(line, count, r, loops, streams)
+        put_computing(page, count, r, loops, streams)
     };
-    text::put(line, end, b'\n')
+    text::put(page, end, b'\n')
 }
 
-fn put_figures(line: &mut [u8; 256], f: Figures) -> usize {
-    let processes = text::put_number(line, 0, b"processes ", f.processes);
-    let instances = text::put_number(line, processes, b" instances ", f.instances);
-    let steps = text::put_number(line, instances, b" steps ", f.steps);
-    text::put(line, steps, b'\n')
+fn put_figures(page: &mut [u8; 4096], f: Figures) -> usize {
+    let processes = text::put_number(page, 0, b"processes ", f.processes);
+    let instances = text::put_number(page, processes, b" instances ", f.instances);
+    let steps = text::put_number(page, instances, b" steps ", f.steps);
+    text::put(page, steps, b'\n')
 }
 
 // ---- the table
 
 fn print_row(r: Row, loops: u32, streams: u32) {
-    let mut line = [0u8; 256];
-    let end = put_row(&mut line, r, loops, streams);
-    text::print_line(line, end);
+    let mut page = [0u8; 4096];
+    let end = put_row(&mut page, r, loops, streams);
+    text::print_page(page, end);
 }
 
 fn print_figures(f: Figures) {
-    let mut line = [0u8; 256];
-    let end = put_figures(&mut line, f);
-    text::print_line(line, end);
+    let mut page = [0u8; 4096];
+    let end = put_figures(&mut page, f);
+    text::print_page(page, end);
 }
 
 fn print_rows(rows: [Row; PROCESSES], count: u32, loops: u32, streams: u32) {

@@ -10,26 +10,26 @@ use libc::STDIN_FILENO;
 use meaning::Nest;
 use walk::WALK;
 
-fn put_visit(line: &mut [u8; 256], n: Nest, x: V3, loops: u32) -> usize
+fn put_visit(page: &mut [u8; 4096], n: Nest, x: V3, loops: u32) -> usize
     requires { ⌜ (Bounded n) × (Within 64 x) ⌝ }
 {
     let place = n.place;
     let step = n.step;
-    let y = text::put(line, 0, b'y');
-    let point = text::put_point(line, y, vectors::image_of(place, x), loops);
-    let t = text::put_text(line, point, b" t");
-    let time = text::put_signed(line, t, vectors::dot_of(step, x));
-    let i = text::put_text(line, time, b" x");
-    let end = text::put_instance(line, i, x, loops);
-    text::put(line, end, b'\n')
+    let y = text::put(page, 0, b'y');
+    let point = text::put_point(page, y, vectors::image_of(place, x), loops);
+    let t = text::put_text(page, point, b" t");
+    let time = text::put_signed(page, t, vectors::dot_of(step, x));
+    let i = text::put_text(page, time, b" x");
+    let end = text::put_instance(page, i, x, loops);
+    text::put(page, end, b'\n')
 }
 
 fn print_visit(n: Nest, x: V3, loops: u32)
     requires { ⌜ (Bounded n) × (Within 64 x) ⌝ }
 {
-    let mut line = [0u8; 256];
-    let end = put_visit(&mut line, n, x, loops);
-    text::print_line(line, end);
+    let mut page = [0u8; 4096];
+    let end = put_visit(&mut page, n, x, loops);
+    text::print_page(page, end);
 }
 
 fn print_visits(n: Nest, walk: &[i32], instances: usize, loops: u32)
@@ -42,16 +42,16 @@ fn print_visits(n: Nest, walk: &[i32], instances: usize, loops: u32)
     }
 }
 
-fn put_figures(line: &mut [u8; 256], processes: u32, instances: u32) -> usize {
-    let first = text::put_number(line, 0, b"processes ", processes);
-    let second = text::put_number(line, first, b" instances ", instances);
-    text::put(line, second, b'\n')
+fn put_figures(page: &mut [u8; 4096], processes: u32, instances: u32) -> usize {
+    let first = text::put_number(page, 0, b"processes ", processes);
+    let second = text::put_number(page, first, b" instances ", instances);
+    text::put(page, second, b'\n')
 }
 
 fn print_figures(processes: u32, instances: u32) {
-    let mut line = [0u8; 256];
-    let end = put_figures(&mut line, processes, instances);
-    text::print_line(line, end);
+    let mut page = [0u8; 4096];
+    let end = put_figures(&mut page, processes, instances);
+    text::print_page(page, end);
 }
 
 fn print_whole(n: Nest, walk: &[i32], loops: u32)

@@ -1,5 +1,5 @@
 -- Tests of consecutive numbers: whether one passes, and which is the first, also by blocks of 32. Assumes nothing.
-use mathlib.Core.Path.{_≡_, refl, sym, _∙_, ap, ap₂}
+use mathlib.Core.Path.{_≡_, refl, sym, _∙_, ap}
 use mathlib.Core.Bool.{Bool, true, false, cond}
 use mathlib.Core.Logic.{_⊎_, inl, inr}
 use Prim.Native.Nat.{ℕ, zero, suc, _+_, _*_, _-_, _/_, _%_, _≤_, _<_}
@@ -8,22 +8,10 @@ use native.Mathlib.Omega.{arith}
 use lib.Dec.{ltb}
 use borrow.Author.Tests.{lt-ltb, le-ltb, ltb-true, ltb-false}
 use Rattle.meaning.specs.Lists.{any, position, numbersFrom, numbers}
+use Rattle.lists.specs.Rows.{same-any, position-le}
 use Rattle.ready_set.specs.Flags.{mid}
 
 -- ---- tests that agree
-
-pub any-agree : (f g : ℕ → Bool) (i n : ℕ) → ((j : ℕ) → i ≤ j → j < i + n → f j ≡ g j) → any f (numbersFrom i n) ≡ any g (numbersFrom i n)
-unfolding any numbersFrom
-any-agree f g i zero h = refl
-any-agree f g i (suc n) h =
-    ap₂ (λ (b : Bool) (t : Bool). cond b true t) (h i (omega arith) (omega arith)) (any-agree f g (suc i) n (λ j l m. h j (omega arith) (omega arith)))
-
-pub position-agree : (f g : ℕ → Bool) (i n : ℕ) → ((j : ℕ) → i ≤ j → j < i + n → f j ≡ g j) → position f (numbersFrom i n) ≡ position g (numbersFrom i n)
-unfolding position numbersFrom
-position-agree f g i zero h = refl
-position-agree f g i (suc n) h =
-    ap₂ (λ (b : Bool) (t : ℕ). cond b 0 (suc t)) (h i (omega arith) (omega arith))
-    (position-agree f g (suc i) n (λ j l m. h j (omega arith) (omega arith)))
 
 -- ---- whether one passes
 
@@ -33,15 +21,6 @@ any-none i zero = refl
 any-none i (suc n) = any-none (suc i) n
 
 module _ (f : ℕ → Bool) where
-  pub position-le : (i n : ℕ) → position f (numbersFrom i n) ≤ n
-  unfolding position numbersFrom
-  position-le i zero = omega arith
-  position-le i (suc n) = go (f i) (position-le (suc i) n)
-    where
-      go : (b : Bool) → position f (numbersFrom (suc i) n) ≤ n → cond b 0 (suc (position f (numbersFrom (suc i) n))) ≤ suc n
-      go true h = omega arith
-      go false h = omega arith
-
   -- one passes exactly if the first is not past the end
   pub any-first : (i n : ℕ) → any f (numbersFrom i n) ≡ ltb (position f (numbersFrom i n)) n
   unfolding any position numbersFrom
@@ -188,7 +167,7 @@ module _ (f : ℕ → Bool) where
 
 pub mid-agree : (f g : ℕ → Bool) (k : ℕ) → ((x : ℕ) → 32 * k ≤ x → x < 32 * k + 32 → f x ≡ g x) → mid f k ≡ mid g k
 unfolding mid
-mid-agree f g k h = any-agree (λ b. f (32 * k + b)) (λ b. g (32 * k + b)) 0 32 (λ b l m. h (32 * k + b) (omega arith) (omega arith))
+mid-agree f g k h = same-any (λ b. f (32 * k + b)) (λ b. g (32 * k + b)) 0 32 (λ b l m. h (32 * k + b) (omega arith) (omega arith))
 
 pub mid-none : (k : ℕ) → mid (λ r. false) k ≡ false
 unfolding mid

@@ -10,8 +10,9 @@ use lib.ListN.{length, getD, set, replicate, length-set, length-replicate, getD-
 use lib.Seq.{getD-set-same, getD-set-other, set-getD}
 use borrow.Author.Tests.{eq-eqb, ne-eqb, eqb-true, eqb-false}
 use Rattle.meaning.specs.Lists.{any, position, numbers}
+use Rattle.lists.specs.Rows.{same-any, same-position}
 use Rattle.ready_set.specs.Flags.{flag, mid, top, Kept, put, on, above, summed, putAbove, putAll}
-use Rattle.ready_set.specs.Blocks.{any-agree, position-agree, mid-agree, mid-none, mid-member, mid-other, inBlock, blocks}
+use Rattle.ready_set.specs.Blocks.{mid-agree, mid-none, mid-member, mid-other, inBlock, blocks}
 
 -- ---- the set
 
@@ -57,10 +58,10 @@ module _ (g : ℕ → Bool) (l : List ℕ) (base n from k : ℕ)
 
   any-block : any (on l from) (numbers 32) ≡ mid g k
   unfolding mid
-  any-block = any-agree (on l from) (λ i. g (32 * k + i)) 0 32 (λ i _ m. on-block i (omega arith))
+  any-block = same-any (on l from) (λ i. g (32 * k + i)) 0 32 (λ i _ m. on-block i (omega arith))
 
   first-block : position (on l from) (numbers 32) ≡ inBlock g k
-  first-block = position-agree (on l from) (λ i. g (32 * k + i)) 0 32 (λ i _ m. on-block i (omega arith))
+  first-block = same-position (on l from) (λ i. g (32 * k + i)) 0 32 (λ i _ m. on-block i (omega arith))
 
 -- ---- a number put
 
@@ -224,7 +225,7 @@ kept-none =
 module _ (f : ℕ → Bool) (l : List ℕ) (kept : Kept f l) where
   tops : position (on l 33792) (numbers 32) ≡ position (mid (mid f)) (numbers 32)
   tops =
-      position-agree (on l 33792) (mid (mid f)) 0 32
+      same-position (on l 33792) (mid (mid f)) 0 32
       (λ i _ m. on-flag (getD l (33792 + i) 0) (mid (mid f) i) (kept .high i (omega arith) ∙ ap flag (top-is f i)))
 
   pub lowest-none : position (on l 33792) (numbers 32) ≡ 32 → 32768 ≡ position f (numbers 32768)

@@ -12,7 +12,7 @@ ghost use mathlib.Core.Bool.{Bool};
 ghost use Prim.Native.Nat.{ℕ, _+_, _<_, _≤_};
 ghost use lib.ListN.{length};
 ghost use Rattle.meaning.specs.Lists.{any, position, numbers};
-ghost use Rattle.ready_set.specs.Flags.{flag, Kept, put, on, above, putAbove, flagWords, members, blocks};
+ghost use Rattle.ready_set.specs.Flags.{Kept, put, on, above, putAbove, flagWords, members, blocks};
 
 // The numbers that may be members, where the words above the blocks of blocks begin, and all words.
 pub const MEMBERS: usize = 32768;
@@ -44,19 +44,12 @@ fn any_in(l: &[u32], from: usize) -> bool
     first_in(l, from) < 32
 }
 
-// A truth as a word.
-fn flag(b: bool) -> u32
-    ensures { λ r. ⌜ r ≡ flag b ⌝ }
-{
-    if b { 1 } else { 0 }
-}
-
 // The word above those words, one of which has become b.
 fn above(l: &[u32], from: usize, b: bool) -> u32
     requires { ⌜ from + 32 ≤ length (now l) ⌝ }
     ensures { λ r. ⌜ r ≡ above (now (l .entry)) from b ⌝ }
 {
-    if b { 1 } else { flag(any_in(l, from)) }
+    if b { 1 } else { words::flag(any_in(l, from)) }
 }
 
 // The words above block k, in which a flag has become b; the upper one stays if the lower does.
@@ -77,7 +70,7 @@ pub fn put(l: &mut [u32], r: usize, b: bool)
     requires { ⌜ (length (now l) ≡ flagWords) × (r < members) ⌝ }
     ensures { λ _. ⌜ (length (now (l .exit)) ≡ flagWords) × ((f : ℕ → Bool) → Kept f (now (l .entry)) → Kept (put f r b) (now (l .exit))) ⌝ }
 {
-    let w = flag(b);
+    let w = words::flag(b);
     if l[r] != w {
         l[r] = w;
         put_above(l, r / 32, b);

@@ -8,6 +8,8 @@ use native.Mathlib.Omega.{arith}
 use Rattle.meaning.specs.Lists.{any, numbers}
 use Rattle.meaning.specs.Array.{Array, streamCount}
 use Rattle.meaning.specs.Rules.{sound, Take, Fire, Give, Memory, ready, stepsOf}
+use Rattle.lists.specs.Rows.{same-any}
+use Rattle.lists.specs.Tests.{any-append, any-map, any-either}
 use Rattle.take_give.specs.Moves.{canTake, canGive}
 use Rattle.fire.specs.Firing.{canFire}
 use Rattle.port_table.specs.declared.Size.{Size}
@@ -15,7 +17,6 @@ use Rattle.port_table.specs.PortsOf.{portAt, portsAt}
 use Rattle.step_rules.specs.Steps.{canBy}
 use Rattle.step_rules.specs.Fits.{Inside}
 use Rattle.step_rules.specs.Meaning.{Stands, can-is}
-use Rattle.ready_words.specs.Any.{any-same, any-append, any-map, any-either}
 use Rattle.ready_words.specs.Moves.{passesBy, movesBy}
 
 -- a take, a fire or a give has a process and a stream
@@ -70,7 +71,7 @@ module _ {A : Array} {b : List ℕ} {z : Size} (s : Stands A b z) (M : Memory) (
   unfolding movesBy passesBy
   moves-is =
       ap₂ _||_
-      (any-same (passesBy b st p) (λ i. ready A st (Take p i) || ready A st (Give p i)) 0 (z .streams)
+      (same-any (passesBy b st p) (λ i. ready A st (Take p i) || ready A st (Give p i)) 0 (z .streams)
       (λ i a l. ap₂ _||_ (take-is i (omega arith)) (give-is i (omega arith)))
       ∙ ap (λ (m : ℕ). any (λ i. ready A st (Take p i) || ready A st (Give p i)) (numbers m)) (s .size .streams))
       fire-is

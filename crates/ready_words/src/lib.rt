@@ -2,7 +2,6 @@
 //
 // specs/, by file:
 //
-//   Any       a test for some number below one, as a loop makes it
 //   Moves     whether a process can move, by the rows of a port table, as the code has it
 //   Meaning   by the port table of an array it is document 01's: `moves-is`
 ghost use mathlib.Core.Path.{_≡_};

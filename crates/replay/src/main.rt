@@ -14,27 +14,23 @@ use script::Rest;
 
 // ---- answers
 
-fn print_refusal(number: u32) {
-    lines::print_number(b"refused", number);
-}
-
 fn print_answer(name: &[u8], answer: Answer) {
     match answer {
-        Answer::Done => lines::print_text(name),
-        Answer::Refused(number) => print_refusal(number),
+        Answer::Done => text::print_text(name),
+        Answer::Refused(number) => text::print_refusal(number),
     }
 }
 
 // As many words as there are, at most so many.
 fn print_part(name: &[u8], list: &[u32], words: u32) {
     let n = script::part_of(list, words);
-    lines::print_words(name, &list[..n]);
+    text::print_words(name, &list[..n]);
 }
 
 fn print_list(name: &[u8], answer: Answer, list: &[u32], words: u32) {
     match answer {
         Answer::Done => print_part(name, list, words),
-        Answer::Refused(number) => print_refusal(number),
+        Answer::Refused(number) => text::print_refusal(number),
     }
 }
 
@@ -62,17 +58,13 @@ fn print_figures(f: Figures, g: Divisors, streams: u32) {
     print_part(b"accept", &words, shown(streams));
 }
 
-fn flag(b: bool) -> u32 {
-    if b { 1 } else { 0 }
-}
-
 fn print_ran(answer: Ran) {
     match answer {
         Ran::Ran { steps, ready } => {
-            let words = [steps, flag(ready)];
-            lines::print_words(b"run", &words);
+            let words = [steps, words::flag(ready)];
+            text::print_words(b"run", &words);
         }
-        Ran::Refused(number) => print_refusal(number),
+        Ran::Refused(number) => text::print_refusal(number),
     }
 }
 
@@ -81,9 +73,9 @@ fn print_readiness(answer: Readiness, words: &[u64]) {
     match answer {
         Readiness::Ready { count, lowest } => {
             let n = script::part_of_masks(words, 16);
-            lines::print_masks(b"ready", count, lowest, &words[..n]);
+            text::print_masks(b"ready", count, lowest, &words[..n]);
         }
-        Readiness::Refused(number) => print_refusal(number),
+        Readiness::Refused(number) => text::print_refusal(number),
     }
 }
 
@@ -98,7 +90,7 @@ fn accept_line(board: u32, s: &[u8]) -> Lent {
             script::lent_by(f.elements, f.words)
         }
         Acceptance::Refused(number) => {
-            print_refusal(number);
+            text::print_refusal(number);
             script::lent_by(0, 0)
         }
     }
@@ -226,9 +218,9 @@ fn window_line<'a>(
         &mut number,
     );
     if number == 0 {
-        lines::print_words(b"window", part);
+        text::print_words(b"window", part);
     } else {
-        print_refusal(number);
+        text::print_refusal(number);
     }
 }
 
@@ -289,7 +281,7 @@ fn ask<'a>(
         4 => result_line(board, s, l, waiting, received, state),
         5 => print_part(b"state", state, l.state),
         6 => print_part(b"received", received, l.received),
-        8 => lines::print_text(b"lend"),
+        8 => text::print_text(b"lend"),
         _ => {}
     }
 }
@@ -314,7 +306,7 @@ fn play_call(
     }
     if number == 7 {
         poke(l, c.a, c.b, state);
-        lines::print_text(b"poke");
+        text::print_text(b"poke");
         return;
     }
     ask(board, s, c, l, waiting, received, state);
@@ -378,7 +370,7 @@ fn play_script(length: u32, r: Rest) -> u64 {
         let m = script::part_of(&values, count.value);
         return play_whole(board.value, &bytes[..n], &values[..m], calls.left);
     }
-    lines::print_text(b"short script");
+    text::print_text(b"short script");
     calls.left
 }
 
@@ -389,7 +381,7 @@ fn next_script(number: u32) -> bool {
     let head = script::read_word(script::endless());
     let r = head.rest;
     if r.whole {
-        lines::print_number(b"script", number);
+        text::print_number(b"script", number);
         let first = script::read_word(script::script_of(head.value));
         let left = play_script(first.value, first.rest);
         return script::skipped(left);

@@ -22,8 +22,8 @@ use Rattle.meaning.specs.Operations.{lastOperation}
 use Rattle.meaning.specs.Guards.{lastComparison}
 use Rattle.meaning.specs.Description.{sizesOf, lineAt, nestOf, streamOf, bodyLine, noStream, noLine, descriptionOf, streamsOf, linesOf}
 use Rattle.meaning.specs.Conditions.{SizesFit, WordsFit}
-use Rattle.geometry.specs.Members.{map-in, in-numbers, numbers-in}
-use Rattle.network.specs.Lists.{length-numbers, getD-first}
+use Rattle.lists.specs.Members.{map-in, in-numbers, numbers-in}
+use Rattle.lists.specs.Rows.{length-numbers, getD-first}
 
 -- ---- what bytes and sizes decode to
 

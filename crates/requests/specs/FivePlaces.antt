@@ -19,7 +19,7 @@ use Rattle.meaning.specs.Description.{sizesOf, descriptionOf}
 use Rattle.meaning.specs.Accept.{accept}
 use Rattle.meaning.specs.Conditions.{Condition, Condition.Board, Condition.Begins, Condition.Sizes-fit, Condition.Long, Condition.Words-fit, Condition.Bounds-fit, Condition.Instances, Condition.Place-rank, Condition.Increment, Condition.Processes, Condition.Rank, Condition.Line, Condition.Move, Condition.Hop, Condition.Order, Condition.Loading, Condition.Touched, Asks, numberOf, ofStream, conditions}
 use Rattle.meaning.specs.FivePlaces.{LongHop, RefusedByThen, FivePlacesAreEnough}
-use Rattle.geometry.specs.Members.{in-each, each-in, in-numbers, numbers-in}
+use Rattle.lists.specs.Members.{in-each, each-in, in-numbers, numbers-in}
 use Rattle.guarantee.specs.Acceptance.{refused-exactly}
 use Rattle.requests.specs.Answered.{Answered, Answered.meets, Answered.fails, answered, Listed, both-accept, both-refuse, same-answer, alike}
 

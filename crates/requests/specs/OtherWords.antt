@@ -27,8 +27,8 @@ use Rattle.meaning.specs.Lists.{any, numbersFrom}
 use Rattle.meaning.specs.Description.{sizesOf, matrixWords, leftAt, rightAt, directionAt, stepAt, placeAt, mapAt, loadingAt, lineAt, wordsOf, inRange, vectorAt, unit3, matrixAt, nestOf, loadingOf, streamOf, bodyLine, noStream, descriptionOf, streamsOf, written, refused1, refused2, refused3, refused4}
 use Rattle.meaning.specs.Accept.{refused33, nestTests, testsFrom, refusalOf, figures, divisors, accept}
 use Rattle.meaning.specs.Conditions.{SizesFit}
+use Rattle.lists.specs.Rows.{same-numbers, same-every}
 use Rattle.network.specs.Cases.{Order, less, atLeast, order}
-use Rattle.network.specs.Lists.{same-numbers, same-every}
 use Rattle.network.specs.Decide.{Says, says-true}
 use Rattle.guarantee.specs.Refusals.{Refuses, Refuses.met, Refuses.broken}
 use Rattle.guarantee.specs.WordConditions.{refuses2}

@@ -5,7 +5,7 @@ use mathlib.Core.Bool.{Bool, cond}
 use mathlib.Core.List.{List, [], _∷_, _++_, List·Memᴰ as In, List·Memᴰ·head as here, List·Memᴰ·tail as there, List·Memᴰ·append-cases}
 use Prim.Native.Nat.{ℕ, zero, suc, _<_}
 use native.Mathlib.Omega.{arith}
-use lib.ListN.{length, getD, set, take, length-map}
+use lib.ListN.{getD, set, take, length-map}
 use Rattle.integers.specs.declared.V3.{V3}
 use Rattle.meaning.specs.declared.Line.{Line}
 use Rattle.meaning.specs.declared.Description.{Description}
@@ -15,7 +15,8 @@ use Rattle.meaning.specs.Description.{linesOf}
 use Rattle.meaning.specs.Body.{resultOf, runLine, runLines, touchedBy, gather, scatter, execute, executeAll}
 use Rattle.meaning.specs.Lines.{line-leaves}
 use Rattle.meaning.specs.Leaves.{Runs, LinesLeave, LinesLeave.none as lines-end, LinesLeave.runs, LinesLeave.stays, LoopsLeave, LoopsLeave.none as loops-end, LoopsLeave.next as instance, Words}
-use Rattle.geometry.specs.Members.{map-in}
+use Rattle.lists.specs.Members.{map-in}
+use Rattle.lists.specs.Stores.{scatter-first}
 use Rattle.network.specs.Decide.{Says, Says.holds, Says.fails, says-true}
 use Rattle.requests.specs.BodyLines.{Allowed}
 use Rattle.requests.specs.Operations.{word-result, puts-exactly}
@@ -113,13 +114,6 @@ module _ (x : V3) where
 
 -- ---- instances
 
--- values past the places of a store are not put
-scatter-take : (store es vs : List ℕ) → scatter store es (take (length es) vs) ≡ scatter store es vs
-unfolding scatter
-scatter-take store [] vs = refl
-scatter-take store (e ∷ es) [] = refl
-scatter-take store (e ∷ es) (v ∷ vs) = scatter-take (set store e v) es vs
-
 module _ (d : Description) (a : AllAllowed (linesOf d)) where
   -- the registers as instance x ends
   abbrev ended : V3 → List ℕ → List ℕ
@@ -129,7 +123,7 @@ module _ (d : Description) (a : AllAllowed (linesOf d)) where
   unfolding execute
   execute-is x store =
       ap (λ (n : ℕ). scatter store (touchedBy d x) (take n (ended x store))) (length-map (touchedBy d x) (λ e. getD store e 0))
-      ∙ scatter-take store (touchedBy d x) (ended x store)
+      ∙ scatter-first store (touchedBy d x) (ended x store)
 
   words-execute : (x : V3) (store : List ℕ) → Words store → Words (execute d x store)
   words-execute x store w =

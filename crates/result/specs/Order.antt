@@ -10,7 +10,7 @@ use Rattle.integers.specs.Fill.{fillBy, fill-length, fill-at}
 use Rattle.meaning.specs.declared.Description.{Description}
 use Rattle.meaning.specs.Lists.{numbers}
 use Rattle.meaning.specs.Calls.{lengthOf}
-use Rattle.geometry.specs.Members.{map-at, numbers-length, numbers-at}
+use Rattle.lists.specs.Members.{map-at, numbers-length, numbers-at}
 use Rattle.geometry.specs.Places.{found}
 use Rattle.geometry.specs.PipeOrder.{numbers-all, list-length}
 use Rattle.addresses.specs.Orders.{found-at}

@@ -1,15 +1,16 @@
 -- All values are out: of every pipe as many values are received as it has elements. Assumes nothing.
-use mathlib.Core.Path.{_≡_, refl, sym, _∙_, ap, ap₂}
-use mathlib.Core.Bool.{Bool, false, cond}
+use mathlib.Core.Path.{_≡_, sym, _∙_, ap}
+use mathlib.Core.Bool.{Bool}
 use mathlib.Core.List.{List}
-use Prim.Native.Nat.{ℕ, zero, suc, _+_, _≤_, _<_}
+use Prim.Native.Nat.{ℕ, _≤_, _<_}
 use native.Mathlib.Omega.{arith}
 use lib.Dec.{eqb}
 use lib.ListN.{length}
 use Rattle.meaning.specs.declared.Limits.{Limits}
-use Rattle.meaning.specs.Lists.{every, numbers, numbersFrom}
+use Rattle.meaning.specs.Lists.{every, numbers}
 use Rattle.meaning.specs.Array.{pipeNumber}
 use Rattle.meaning.specs.Calls.{A, isOut, allOut}
+use Rattle.lists.specs.Rows.{same-every}
 use Rattle.ports.specs.declared.End.{End}
 use Rattle.ports.specs.Links.{word}
 use Rattle.port_table.specs.declared.Size.{Size}
@@ -35,16 +36,9 @@ asked f = record { words = f .words; most = f .pipes; received = λ q h. f .ends
 pub out-read : (b st : List ℕ) (q : ℕ) {e : End} {w : ℕ} → e ≡ endAt b q → w ≡ word st (e .received) → outBy b st q ≡ eqb w (e .total)
 out-read b st q {e} h g = ap (outOf st) (sym h) ∙ ap (λ (w : ℕ). eqb w (e .total)) (sym g)
 
--- tests that agree on some numbers
-every-same : (f g : ℕ → Bool) (i n : ℕ) → ((q : ℕ) → q < i + n → f q ≡ g q) → every f (numbersFrom i n) ≡ every g (numbersFrom i n)
-unfolding every numbersFrom
-every-same f g i zero h = refl
-every-same f g i (suc n) h =
-    ap₂ (λ (a b : Bool). cond a b false) (h i (omega arith)) (every-same f g (suc i) n (λ q l. h q (omega arith)))
-
 -- by the port table of an array they are those of document 01
 pub all-out : (l : Limits) (s : List ℕ) {b : List ℕ} {z : Size} → PortsOf (A l s) b → SizeOf (A l s) z → (st : List ℕ)
     → every (outBy b st) (numbers (z .pipes)) ≡ allOut l s st
 all-out l s {b} planned size st =
     ap (λ (n : ℕ). every (outBy b st) (numbers n)) (size .pipes)
-    ∙ every-same (outBy b st) (isOut l s st) 0 (pipeNumber (A l s)) (λ q h. ap (outOf st) (planned .ends q (omega arith)))
+    ∙ same-every (outBy b st) (isOut l s st) 0 (pipeNumber (A l s)) (λ q _ h. ap (outOf st) (planned .ends q (omega arith)))

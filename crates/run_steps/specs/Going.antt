@@ -19,7 +19,7 @@ use Rattle.network.specs.States.{says-sound, sound-kept}
 use Rattle.network.specs.Wiring.{Wired}
 use Rattle.guarantee.specs.Wired.{wired}
 use Rattle.addresses.specs.Indices.{word-count}
-use Rattle.ports.specs.Links.{both}
+use Rattle.lists.specs.Tests.{both-true}
 use Rattle.port_table.specs.declared.Size.{Size}
 use Rattle.port_table.specs.PortsOf.{SizeOf}
 use Rattle.step_rules.specs.Steps.{by-last}
@@ -34,9 +34,9 @@ there-named A {z} size st kind number stream = go (kind-of kind)
   where
     go : {k : ℕ} → Kind k → Inside z k number stream → ready A st (stepNamed k number stream) ≡ true → There A (stepNamed k number stream)
     go is-send i r = omega (arith, i .pipe (inl refl), size .pipes)
-    go is-take i r = both _ _ r .0
+    go is-take i r = both-true _ _ r .0
     go is-fire i r = omega (arith, i .process (omega arith) (omega arith), size .processes)
-    go is-give i r = both _ _ r .0
+    go is-give i r = both-true _ _ r .0
     go (is-receive k l) i r =
         let h : number < pipeNumber A = omega (arith, i .pipe (inr l), size .pipes) in
         subst (There A) (sym (by-last k l (Send number) (Take number stream) (Fire number) (Give number stream) (Receive number))) h

@@ -6,6 +6,7 @@ use native.Mathlib.Omega.{arith}
 use lib.Dec.{ltb}
 use borrow.Author.Tests.{lt-ltb, ltb-true, ltb-false}
 use Rattle.meaning.specs.Lists.{position, numbers, numbersFrom}
+use Rattle.lists.specs.Rows.{position-le as le-from}
 
 -- of the n numbers from i on
 module _ (f : ℕ → Bool) where
@@ -34,15 +35,6 @@ module _ (f : ℕ → Bool) where
       go false e zero h ih = let z : i + 0 ≡ i = omega arith in rw z e
       go false e (suc j) h ih = let z : i + suc j ≡ suc i + j = omega arith in rw z (ih j (omega arith))
 
-  le-from : (n i : ℕ) → position f (numbersFrom i n) ≤ n
-  unfolding position numbersFrom
-  le-from zero i = omega arith
-  le-from (suc n) i = go (f i) (le-from n (suc i))
-    where
-      go : (b : Bool) → position f (numbersFrom (suc i) n) ≤ n → cond b 0 (suc (position f (numbersFrom (suc i) n))) ≤ suc n
-      go true h = omega arith
-      go false h = omega arith
-
   pub position-hit : (n : ℕ) → position f (numbers n) < n → f (position f (numbers n)) ≡ true
   position-hit n h = let p = position f (numbers n) in let z : 0 + p ≡ p = omega arith in rw z at (hit-from n 0 h)
 
@@ -50,7 +42,7 @@ module _ (f : ℕ → Bool) where
   position-before n j h = let z : 0 + j ≡ j = omega arith in rw z at (before-from n 0 j h)
 
   pub position-le : (n : ℕ) → position f (numbers n) ≤ n
-  position-le n = le-from n 0
+  position-le n = le-from f 0 n
 
 -- the first of f is p, where f passes at p and nowhere before
 pub position-is : (f : ℕ → Bool) (n p : ℕ) → p < n → f p ≡ true → ((j : ℕ) → j < p → f j ≡ false) → position f (numbers n) ≡ p

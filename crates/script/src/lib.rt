@@ -1,18 +1,11 @@
 // A replay script on standard input: the number of bytes of a description; its bytes, padded to a whole word; the board word; the number of
 // values; the values; then calls of four words. And the lengths at which a replay lends its lists.
-ghost use mathlib.Core.Path.{_≡_};
 ghost use Prim.Native.Nat.{_≤_, _<_};
 ghost use lib.ListN.{length};
 ghost use Rattle.io.specs.Counts.{Counts};
 use libc::STDIN_FILENO;
 
 // ---- numbers
-
-fn wide(x: u32) -> u64
-    ensures { λ r. ⌜ (r ≡ x) × (r < 4294967296) ⌝ }
-{
-    x as u64
-}
 
 fn least(a: u64, b: u64) -> u64
     ensures { λ r. ⌜ (r ≤ a) × (r ≤ b) ⌝ }
@@ -24,7 +17,7 @@ fn least(a: u64, b: u64) -> u64
 fn padded(bytes: u32) -> u64
     ensures { λ r. ⌜ r < 4294967300 ⌝ }
 {
-    (wide(bytes) + 3) / 4 * 4
+    (words::wide(bytes) + 3) / 4 * 4
 }
 
 // ---- what was read
@@ -53,7 +46,7 @@ pub struct Call {
 // A script of so many bytes.
 pub fn script_of(bytes: u32) -> Rest {
     Rest {
-        left: wide(bytes),
+        left: words::wide(bytes),
         whole: true,
     }
 }
@@ -194,7 +187,7 @@ fn words_filled(words: &mut [u32], count: usize) -> bool
 
 // Reads so many values. Of more than there is space for the first are kept.
 pub fn read_values(r: Rest, count: u32, values: &mut [u32]) -> Rest {
-    let all = 4 * wide(count);
+    let all = 4 * words::wide(count);
     let kept = part_of(values, count);
     let next = behind(r, all);
     if next.whole {
@@ -245,12 +238,12 @@ pub fn part_of(list: &[u32], words: u32) -> usize
     ensures { λ r. ⌜ Counts r (now (list .entry)) ⌝ }
     ensures { λ r. ⌜ r ≤ words ⌝ }
 {
-    least(wide(words), list.len() as u64) as usize
+    least(words::wide(words), list.len() as u64) as usize
 }
 
 // The same for words of 64 bits.
 pub fn part_of_masks(list: &[u64], words: u32) -> usize
     ensures { λ r. ⌜ Counts r (now (list .entry)) ⌝ }
 {
-    least(wide(words), list.len() as u64) as usize
+    least(words::wide(words), list.len() as u64) as usize
 }

@@ -8,7 +8,8 @@ use lib.Dec.{ltb}
 use lib.ListN.{set}
 use borrow.Author.Tests.{ltb-true}
 use Rattle.ports.specs.declared.End.{End}
-use Rattle.ports.specs.Links.{word, fillAt, movedDown, both}
+use Rattle.lists.specs.Tests.{both-true}
+use Rattle.ports.specs.Links.{word, fillAt, movedDown}
 
 abbrev pub below : ℕ → ℕ → ℕ → ℕ → Bool
 below x total n hop = ltb x total && ltb n hop
@@ -38,7 +39,7 @@ receivedList out l e = set out (e .offset + word l (e .received)) (word l (e .la
 -- ---- what a ready rule says of the counts
 
 below-facts : (x total n hop : ℕ) → below x total n hop ≡ true → (x < total) × (n < hop)
-below-facts x total n hop h = let z = both _ _ h in (ltb-true _ _ (z .0), ltb-true _ _ (z .1))
+below-facts x total n hop h = let z = both-true _ _ h in (ltb-true _ _ (z .0), ltb-true _ _ (z .1))
 
 pub send-facts : (l : List ℕ) (e : End) → canSend l e ≡ true → (word l (e .sent) < e .total) × (fillFirst l e < e .hop)
 send-facts l e = below-facts _ _ _ _

@@ -5,22 +5,18 @@ use integers::V3;
 use libc::STDIN_FILENO;
 use libc::STDOUT_FILENO;
 
-fn wide(x: u32) -> u64 {
-    x as u64
-}
-
 fn show(z: i32) {
     if z < 0 {
         io::write_all(STDOUT_FILENO, b" -");
     } else {
         io::write_all(STDOUT_FILENO, b" ");
     }
-    io::print_decimal(STDOUT_FILENO, wide(integers::magnitude(z)));
+    io::print_decimal(STDOUT_FILENO, words::wide(integers::magnitude(z)));
 }
 
 fn line(v: V3) {
     let s = lattice::shorten(v);
-    io::print_decimal(STDOUT_FILENO, wide(s.divisor));
+    io::print_decimal(STDOUT_FILENO, words::wide(s.divisor));
     let u = s.vector;
     show(u.x);
     show(u.y);

@@ -1,4 +1,3 @@
 -- Sound states by a port table of rows; src/lib.rt has the list.
-pub mod Loops
 pub mod States
 pub mod Meaning

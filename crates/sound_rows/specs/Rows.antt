@@ -2,16 +2,17 @@
 use mathlib.Core.Path.{_≡_, refl, sym, _∙_, ap}
 use mathlib.Core.Bool.{Bool, true, false, cond}
 use mathlib.Core.List.{List}
-use Prim.Native.Nat.{ℕ, _+_, _≤_, _<_}
+use Prim.Native.Nat.{ℕ, _≤_, _<_}
 use native.Mathlib.Omega.{arith}
 use lib.Dec.{leb}
 use lib.ListN.{length, getD, List·getD-eq-default}
 use borrow.Author.Tests.{ltb-false, leb-true, lt-ltb}
-use Rattle.meaning.specs.Array.{Array, Pipe, processCount, streamCount, pipeNumber, noPipe, noStop, pipeAt, stopsOn, stopAt, pipeThrough, onPipe, placeOn}
-use Rattle.meaning.specs.State.{Taken, Given, index, read}
+use Rattle.meaning.specs.Array.{Array, Pipe, processCount, streamCount, pipeNumber, noPipe, noStop, pipeAt, stopsOn, pipeThrough, onPipe, placeOn}
+use Rattle.meaning.specs.State.{Taken, Given, read}
 use Rattle.meaning.specs.Rules.{sound, Take, Give, Memory, ready, processOn, streamOn}
+use Rattle.lists.specs.Tests.{both-true}
 use Rattle.ports.specs.declared.Port.{Port}
-use Rattle.ports.specs.Links.{word, both}
+use Rattle.ports.specs.Links.{word}
 use Rattle.ports.specs.Ports.{portOf}
 use Rattle.ports.specs.Ends.{endOf}
 use Rattle.ports.specs.Layout.{Regular}
@@ -21,7 +22,7 @@ use Rattle.take_give.specs.Moves.{takes, fillInto, canTake, gives, fillOutOf, c
 use Rattle.fire.specs.Firing.{noPort}
 use Rattle.fire.specs.FiringMeaning.{UsesOf, port-uses, ProcessIs}
 use Rattle.sound_rows.specs.Sound.{linkHolds, handHolds, portHolds, portSound, endSound}
-use Rattle.sound_rows.specs.SoundMeaning.{RowsSound, sound-rows, rows-sound}
+use Rattle.sound_rows.specs.SoundMeaning.{sound-rows, rows-sound}
 use Rattle.sound_rows.specs.Steps.{take-tested, give-tested}
 
 -- ---- a port off every pipe
@@ -42,7 +43,7 @@ module _ (A : Array) (st : List ℕ) (p i : ℕ) where
   off-empty : portSound st (offPort A p i) ≡ true → (read A st (Taken p i) ≡ 0) × (read A st (Given p i) ≡ 0)
   unfolding portHolds
   off-empty h =
-      let c = both _ _ (both _ _ (both _ _ h .0) .0) in
+      let c = both-true _ _ (both-true _ _ (both-true _ _ h .0) .0) in
       (omega (arith, leb-true (read A st (Taken p i)) 0 (c .0)), omega (arith, leb-true (read A st (Given p i)) 0 (c .1)))
 
 off-uses : (A : Array) (p i : ℕ) → onPipe A p i ≡ false → UsesOf A p i (offPort A p i)

@@ -11,43 +11,19 @@ use native.Mathlib.Omega.{arith}
 use lib.Dec.{eqb, leb}
 use lib.ListN.{length, List·getD-eq-default}
 use borrow.Author.Tests.{eqb-true, leb-true, leb-false, ltb-false, lt-ltb, le-ltb, le-leb, lt-leb}
-use Rattle.meaning.specs.Lists.{every, numbers, numbersFrom}
+use Rattle.meaning.specs.Lists.{every, numbers}
 use Rattle.meaning.specs.Array.{Array, Pipe, noPipe, stopsOn, stopAt, elementsOn, processCount, streamCount, pipeNumber, pipeThrough, onPipe}
 use Rattle.meaning.specs.State.{Firings, Taken, Given, Sent, Received, read}
 use Rattle.meaning.specs.Rules.{processOn, streamOn, putIn, takenOut, soundCount, soundHand, soundLink, soundStop, soundPipe, soundPort, soundProcess, sound}
 use Rattle.ports.specs.Ports.{portOf}
 use Rattle.ports.specs.Ends.{endOf}
-use Rattle.ports.specs.Links.{both}
+use Rattle.lists.specs.Tests.{both-true, true-both}
+use Rattle.lists.specs.Rows.{every-number, all-numbers}
 use Rattle.sound_rows.specs.Sound.{linkHolds, handHolds, portHolds, portSound, endHolds, endSound}
 use Rattle.ports.specs.Places.{pipe, place, pipe-on, place-on, stream-is, process-is}
 use Rattle.ports.specs.LinksMeaning.{Bounded}
 
 -- ---- tests
-
-every-from : (f : ℕ → Bool) (n i : ℕ) → every f (numbersFrom i n) ≡ true → (j : ℕ) → j < n → f (i + j) ≡ true
-unfolding every numbersFrom
-every-from f zero i h j l = absurd (omega arith)
-every-from f (suc n) i h j l = go (f i) refl h (every-from f n (suc i)) j l
-  where
-    go : (b : Bool) → f i ≡ b → cond b (every f (numbersFrom (suc i) n)) false ≡ true
-        → (every f (numbersFrom (suc i) n) ≡ true → (j : ℕ) → j < n → f (suc i + j) ≡ true) → (j : ℕ) → j < suc n → f (i + j) ≡ true
-    go true e h ih zero l = let z : i + 0 ≡ i = omega arith in rw z e
-    go true e h ih (suc j) l = let z : i + suc j ≡ suc i + j = omega arith in rw z (ih h j (omega arith))
-    go false e h ih j l = absurd (true≢false (sym h))
-
-pub every-number : (f : ℕ → Bool) (n : ℕ) → every f (numbers n) ≡ true → (j : ℕ) → j < n → f j ≡ true
-every-number f n h j l = let z : 0 + j ≡ j = omega arith in rw z at (every-from f n 0 h j l)
-
-all-from : (f : ℕ → Bool) (n i : ℕ) → ((j : ℕ) → j < n → f (i + j) ≡ true) → every f (numbersFrom i n) ≡ true
-unfolding every numbersFrom
-all-from f zero i h = refl
-all-from f (suc n) i h =
-    let z : i + 0 ≡ i = omega arith in
-    let e : f i ≡ true = rw z at (h 0 (omega arith)) in
-    rw e (all-from f n (suc i) (λ j l. let z : i + suc j ≡ suc i + j = omega arith in rw z at (h (suc j) (omega arith))))
-
-pub all-numbers : (f : ℕ → Bool) (n : ℕ) → ((j : ℕ) → j < n → f j ≡ true) → every f (numbers n) ≡ true
-all-numbers f n h = all-from f n 0 (λ j l. let z : 0 + j ≡ j = omega arith in rw z (h j l))
 
 -- no more is given than was taken
 module _ (A : Array) (n x y : ℕ) where
@@ -70,9 +46,6 @@ module _ (A : Array) (n x y : ℕ) where
       go false false true d e f g i h = omega (arith, eqb-true x (suc y) g)
       go false false false true e f g i h = omega (arith, eqb-true x (suc (suc y)) i)
       go false false false false e f g i h = absurd (true≢false (sym h))
-
-and : {a b : Bool} → a ≡ true → b ≡ true → (a && b) ≡ true
-and {a} {b} e f = ap (λ (t : Bool). t && b) e ∙ f
 
 -- ---- the tests of the code
 
@@ -131,15 +104,15 @@ module _ (A : Array) (st : List ℕ) (s : sound A st ≡ true) where
     pipe-sound : ((counts A st q && stops A st q) ≡ true) × (soundLink A st q (stopsOn A q) ≡ true)
     unfolding sound
     pipe-sound =
-        both (counts A st q && stops A st q) (soundLink A st q (stopsOn A q))
-        (every-number (soundPipe A st) (pipeNumber A) (both processes pipes s .1) q on)
+        both-true (counts A st q && stops A st q) (soundLink A st q (stopsOn A q))
+        (every-number (soundPipe A st) (pipeNumber A) (both-true processes pipes s .1) q on)
 
     counts-sound : (counts A st q ≡ true) × (stops A st q ≡ true)
-    counts-sound = both (counts A st q) (stops A st q) (pipe-sound .0)
+    counts-sound = both-true (counts A st q) (stops A st q) (pipe-sound .0)
 
     stop-sound : (k : ℕ) → k < stopsOn A q → (handAt A st q k ≡ true) × (soundLink A st q k ≡ true)
     stop-sound k h =
-        both (handAt A st q k) (soundLink A st q k) (every-number (soundStop A st q) (stopsOn A q) (counts-sound .1) k h)
+        both-true (handAt A st q k) (soundLink A st q k) (every-number (soundStop A st q) (stopsOn A q) (counts-sound .1) k h)
 
     link-sound : (k : ℕ) → k ≤ stopsOn A q → soundLink A st q k ≡ true
     link-sound k h = go (eq-or-lt-of-le h)
@@ -149,17 +122,17 @@ module _ (A : Array) (st : List ℕ) (s : sound A st ≡ true) where
         go (inr l) = stop-sound k l .1
 
     pub sound-bounded : (k : ℕ) → k ≤ stopsOn A q → Bounded A st q k
-    sound-bounded k h = leb-true _ _ (both (leb (read A st (takenOut A q k)) (read A st (putIn A q k))) _ (link-sound k h) .1)
+    sound-bounded k h = leb-true _ _ (both-true (leb (read A st (takenOut A q k)) (read A st (putIn A q k))) _ (link-sound k h) .1)
 
     -- no more is given than was taken, and no more taken than was put in
     hand-most : (k : ℕ) → k < stopsOn A q → (givenAt A st q k ≤ takenAt A st q k) × (takenAt A st q k ≤ read A st (putIn A q k))
     hand-most k h =
         let e = lt-ltb k (stopsOn A q) h in
-        let link : leb (read A st (takenOut A q k)) (read A st (putIn A q k)) ≡ true = both _ _ (link-sound k (omega arith)) .0 in
+        let link : leb (read A st (takenOut A q k)) (read A st (putIn A q k)) ≡ true = both-true _ _ (link-sound k (omega arith)) .0 in
         (hand-le A (elementsOn A q) _ _ (stopAt A q k .keeps) (stop-sound k h .0), leb-true _ _ (rw e at link))
 
     pub sound-put : (k : ℕ) → k ≤ stopsOn A q → read A st (putIn A q k) ≤ elementsOn A q
-    sound-put zero h = leb-true _ _ (both (soundCount A st (Sent q)) _ (counts-sound .0) .0)
+    sound-put zero h = leb-true _ _ (both-true (soundCount A st (Sent q)) _ (counts-sound .0) .0)
     sound-put (suc k) h = omega (arith, hand-most k h, sound-put k (omega arith))
 
 -- ---- row by row
@@ -176,14 +149,14 @@ module _ (A : Array) (st : List ℕ) (s : sound A st ≡ true) where
   process-sound : (p : ℕ) → p < processCount A → (soundCount A st (Firings p) ≡ true) × (every (soundPort A st p) (numbers (streamCount A)) ≡ true)
   unfolding sound
   process-sound p h =
-      both (soundCount A st (Firings p)) (every (soundPort A st p) (numbers (streamCount A)))
-      (every-number (soundProcess A st) (processCount A) (both (processes A st s) (pipes A st s) s .0) p h)
+      both-true (soundCount A st (Firings p)) (every (soundPort A st p) (numbers (streamCount A)))
+      (every-number (soundProcess A st) (processCount A) (both-true (processes A st s) (pipes A st s) s .0) p h)
 
   -- off the pipes there are no elements
   off-sound : (p i : ℕ) → p < processCount A → i < streamCount A → onPipe A p i ≡ false
       → (read A st (Taken p i) ≡ 0) × (read A st (Given p i) ≡ 0)
   off-sound p i h l o =
-      let w = both (soundCount A st (Taken p i)) (soundCount A st (Given p i)) (every-number (soundPort A st p) (streamCount A) (process-sound p h .1) i l) in
+      let w = both-true (soundCount A st (Taken p i)) (soundCount A st (Given p i)) (every-number (soundPort A st p) (streamCount A) (process-sound p h .1) i l) in
       let n = elementsOn A (pipeThrough A p i) in
       let e : n ≡ 0 = ap (λ (r : Pipe). length (r .elements)) (List·getD-eq-default (A .pipes) noPipe (ltb-false _ _ o)) in
       (omega (arith, leb-true (read A st (Taken p i)) n (w .0)), omega (arith, leb-true (read A st (Given p i)) n (w .1)))
@@ -195,14 +168,14 @@ module _ (A : Array) (st : List ℕ) (s : sound A st ≡ true) where
       let w = stop-sound A st s q on k h in
       let x = le-leb (takenAt A st q k) (elementsOn A q) (omega arith) in
       let y = le-leb (givenAt A st q k) (elementsOn A q) (omega arith) in
-      port-is A st q k h ∙ and (and (and x y) (w .0)) (w .1)
+      port-is A st q k h ∙ true-both (true-both (true-both x y) (w .0)) (w .1)
 
   pub sound-rows : RowsSound A st
   sound-rows =
       record {
         firings = λ p h. process-sound p h .0;
         ports = port-sound;
-        ends = λ q on. end-is A st q ∙ and (counts-sound A st s q on .0) (pipe-sound A st s q on .1);
+        ends = λ q on. end-is A st q ∙ true-both (counts-sound A st s q on .0) (pipe-sound A st s q on .1);
         off = off-sound;
       }
 
@@ -210,10 +183,10 @@ module _ (A : Array) (st : List ℕ) (r : RowsSound A st) where
   row-tests : (q k : ℕ) → q < pipeNumber A → k < stopsOn A q
       → ((countsAt A st q k && handAt A st q k) ≡ true) × (soundLink A st q k ≡ true)
   row-tests q k on h =
-      both (countsAt A st q k && handAt A st q k) (soundLink A st q k) (sym (port-is A st q k h) ∙ r .ports q k on h)
+      both-true (countsAt A st q k && handAt A st q k) (soundLink A st q k) (sym (port-is A st q k h) ∙ r .ports q k on h)
 
   hand-tests : (q k : ℕ) → q < pipeNumber A → k < stopsOn A q → (countsAt A st q k ≡ true) × (handAt A st q k ≡ true)
-  hand-tests q k on h = both (countsAt A st q k) (handAt A st q k) (row-tests q k on h .0)
+  hand-tests q k on h = both-true (countsAt A st q k) (handAt A st q k) (row-tests q k on h .0)
 
   port-tested : (p i : ℕ) → p < processCount A → i < streamCount A → (b : Bool) → onPipe A p i ≡ b → soundPort A st p i ≡ true
   port-tested p i h l true e =
@@ -221,20 +194,20 @@ module _ (A : Array) (st : List ℕ) (r : RowsSound A st) where
   port-tested p i h l false e =
       let z = r .off p i h l e in
       let n = elementsOn A (pipeThrough A p i) in
-      and (le-leb (read A st (Taken p i)) n (omega (arith, z .0))) (le-leb (read A st (Given p i)) n (omega (arith, z .1)))
+      true-both (le-leb (read A st (Taken p i)) n (omega (arith, z .0))) (le-leb (read A st (Given p i)) n (omega (arith, z .1)))
 
   stop-tested : (q : ℕ) → q < pipeNumber A → (k : ℕ) → k < stopsOn A q → soundStop A st q k ≡ true
-  stop-tested q on k h = and (hand-tests q k on h .1) (row-tests q k on h .1)
+  stop-tested q on k h = true-both (hand-tests q k on h .1) (row-tests q k on h .1)
 
   pipe-tested : (q : ℕ) → q < pipeNumber A → soundPipe A st q ≡ true
   pipe-tested q on =
-      let w = both (counts A st q) (soundLink A st q (stopsOn A q)) (sym (end-is A st q) ∙ r .ends q on) in
-      and (and (w .0) (all-numbers (soundStop A st q) (stopsOn A q) (stop-tested q on))) (w .1)
+      let w = both-true (counts A st q) (soundLink A st q (stopsOn A q)) (sym (end-is A st q) ∙ r .ends q on) in
+      true-both (true-both (w .0) (all-numbers (soundStop A st q) (stopsOn A q) (stop-tested q on))) (w .1)
 
   process-tested : (p : ℕ) → p < processCount A → soundProcess A st p ≡ true
   process-tested p h =
-      and (r .firings p h) (all-numbers (soundPort A st p) (streamCount A) (λ i l. port-tested p i h l (onPipe A p i) refl))
+      true-both (r .firings p h) (all-numbers (soundPort A st p) (streamCount A) (λ i l. port-tested p i h l (onPipe A p i) refl))
 
   pub rows-sound : sound A st ≡ true
   unfolding sound
-  rows-sound = and (all-numbers (soundProcess A st) (processCount A) process-tested) (all-numbers (soundPipe A st) (pipeNumber A) pipe-tested)
+  rows-sound = true-both (all-numbers (soundProcess A st) (processCount A) process-tested) (all-numbers (soundPipe A st) (pipeNumber A) pipe-tested)

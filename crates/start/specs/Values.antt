@@ -11,7 +11,7 @@ use Rattle.meaning.specs.declared.Description.{Description}
 use Rattle.meaning.specs.Body.{gather}
 use Rattle.meaning.specs.Array.{arrayOf, pipeOrder}
 use Rattle.meaning.specs.Calls.{lengthOf}
-use Rattle.geometry.specs.Members.{map-at}
+use Rattle.lists.specs.Members.{map-at}
 use Rattle.geometry.specs.Places.{getD-in, Found, found}
 use Rattle.geometry.specs.Descriptions.{Laid}
 use Rattle.geometry.specs.PipeOrder.{numbers-lt, numbers-all, list-length}

@@ -12,7 +12,7 @@ use Rattle.meaning.specs.declared.Limits.{Limits}
 use Rattle.meaning.specs.Array.{Array, processCount, streamCount, pipeNumber, onPipe}
 use Rattle.meaning.specs.Rules.{Take, Give, Receive, at, nothing}
 use Rattle.meaning.specs.Calls.{A, hasPort, ifThere, stepOf}
-use Rattle.ports.specs.Links.{both}
+use Rattle.lists.specs.Tests.{both-true}
 use Rattle.ports.specs.Rows.{rowOf}
 use Rattle.ports.specs.declared.Port.{Port}
 use Rattle.port_table.specs.declared.Size.{Size}
@@ -79,7 +79,7 @@ module _ (l : Limits) (s : List ℕ) {b : List ℕ} {z : Size} (t : Stands (A l 
 -- the number of a step that has a name is in range
 module _ (b : List ℕ) (z : Size) where
   port-inside : (p i : ℕ) → hasPortBy b z p i ≡ true → (p < z .processes) × (i < z .streams)
-  port-inside p i e = let q = both _ _ (both _ _ e .0) in (ltb-true p _ (q .0), ltb-true i _ (q .1))
+  port-inside p i e = let q = both-true _ _ (both-true _ _ e .0) in (ltb-true p _ (q .0), ltb-true i _ (q .1))
 
   pub named-inside : (kind number stream : ℕ) → namedBy b z kind number stream ≡ true → Inside z kind number stream
   named-inside kind number stream = go (kind-of kind)

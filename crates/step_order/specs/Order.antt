@@ -12,7 +12,8 @@ use borrow.Author.Tests.{lt-ltb}
 use Rattle.meaning.specs.Lists.{any, each, position, numbers}
 use Rattle.meaning.specs.Array.{Array, processCount, streamCount}
 use Rattle.meaning.specs.Rules.{Step, Send, Take, Fire, Give, Receive, at, nothing, firstReady, inOrder, ready, anyReady, lowest}
-use Rattle.geometry.specs.Members.{map-at, each-length, each-at, total-same, numbers-length, numbers-at}
+use Rattle.lists.specs.Members.{map-at, each-length, each-at, numbers-length, numbers-at}
+use Rattle.lists.specs.Sums.{total-same}
 use Rattle.port_table.specs.declared.Size.{Size}
 use Rattle.port_table.specs.PortsOf.{SizeOf}
 use Rattle.step_order.specs.Ranks.{width, rankCount, stepAt, takeRank, fireRank, giveRank, receiveRank, steps-inside}

@@ -10,9 +10,10 @@ use borrow.Author.Tests.{ltb-true}
 use Rattle.meaning.specs.Array.{Array, processCount, pipeNumber, countAt, instanceAt, onPipe}
 use Rattle.meaning.specs.State.{Firings, index, read}
 use Rattle.meaning.specs.Rules.{sound, Step, Send, Take, Fire, Give, Receive, Memory, ready, apply}
+use Rattle.lists.specs.Tests.{both-true}
 use Rattle.geometry.specs.Processes.{runAt}
 use Rattle.layout.specs.Spans.{processOf}
-use Rattle.ports.specs.Links.{word, both}
+use Rattle.ports.specs.Links.{word}
 use Rattle.ports.specs.Layout.{Regular}
 use Rattle.ports.specs.Rows.{rowOf, row-on}
 use Rattle.take_give.specs.Moves.{canTake, canGive}
@@ -94,7 +95,7 @@ module _ {A : Array} {b : List ℕ} {z : Size} (s : Stands A b z) where
     next-is g o p h r =
         let e : portAt b p 0 .fired ≡ index A (Firings p) = process-is p h .ports 0 (s .size .some) .fired in
         ap (λ (i : ℕ). runAt (g .nest) (processOf (g .nest) p) (word st i)) e
-        ∙ o .instances p (read A st (Firings p)) (omega (arith, h, s .size .processes)) (ltb-true _ _ (both _ _ r .0))
+        ∙ o .instances p (read A st (Firings p)) (omega (arith, h, s .size .processes)) (ltb-true _ _ (both-true _ _ r .0))
 
     pub act-is : (g : Program) → Performs A g → (kind number stream : ℕ) → Inside z kind number stream
         → ready A st (stepNamed kind number stream) ≡ true
@@ -108,14 +109,14 @@ module _ {A : Array} {b : List ℕ} {z : Size} (s : Stands A b z) where
             let h : number < pipeNumber A = omega (arith, i .pipe (inl refl), s .size .pipes) in
             send-applied A M t number h (endAt b number) (s .planned .ends number h) (s .regular) r
         go is-take i r =
-            let on : onPipe A number stream ≡ true = both _ _ r .0 in
+            let on : onPipe A number stream ≡ true = both-true _ _ r .0 in
             take-applied A M t number stream on (portAt b number stream)
             (port-row number stream (i .process (omega arith) (omega arith)) (i .port (inl refl)) ∙ row-on A number stream on)
         go is-fire i r =
             let h = i .process (omega arith) (omega arith) in
             fire-applied A M number (portsAt b number) (z .streams) (process-is number h) _ _ (o .lines) (next-is g o number h r)
         go is-give i r =
-            let on : onPipe A number stream ≡ true = both _ _ r .0 in
+            let on : onPipe A number stream ≡ true = both-true _ _ r .0 in
             give-applied A M t number stream on (portAt b number stream)
             (port-row number stream (i .process (omega arith) (omega arith)) (i .port (inr refl)) ∙ row-on A number stream on) (s .regular) r
         go (is-receive k l) i r =

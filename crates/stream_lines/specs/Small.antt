@@ -1,23 +1,20 @@
 -- Tests on small words as the code makes them: of zero by the bits, of −1 to 1 by the magnitude; the step of a line. Assumes nothing.
-use mathlib.Core.Path.{_≡_, refl, sym, _∙_, ap, subst}
-use mathlib.Core.Bool.{Bool, true, false, not, cond, _&&_}
+use mathlib.Core.Path.{_≡_, refl, sym, _∙_, ap}
+use mathlib.Core.Bool.{Bool, true, false, _&&_}
 use Prim.Native.Nat.{ℕ, suc, _^_}
 use native.Mathlib.Omega.{arith}
 use lib.Dec.{T, eqb, leb, ltb}
 use borrow.Author.Tests.{leb-true, leb-false, le-leb, lt-leb}
-use lib.IntN.{ℤ, pos, negsuc, natAbs, negℤ}
-use lib.Signed.{_≤ℤ_, _<ℤ_, ltZ, ltZ-no}
+use lib.IntN.{ℤ, pos, negsuc, natAbs}
 use mir.Syntax.{w32}
 use mir.Val.{ofZ}
-use Rattle.integers.specs.Differences.{Abs, gaps, up}
-use Rattle.integers.specs.Variables.{linear}
+use Rattle.integers.specs.Differences.{Abs, up}
 use Rattle.integers.specs.Words.{eqZ, eq-test, leaf, lit}
-use Rattle.integers.specs.Vectors.{dot, neg3, dot-neg}
-use Rattle.integers.specs.declared.V3.{V3}
 use Rattle.integers.specs.declared.Matrix.{Matrix}
 use Rattle.meaning.specs.declared.Nest.{Nest}
-use Rattle.meaning.specs.Loops.{stepOf, turn, lineOf}
+use Rattle.meaning.specs.Loops.{stepOf, lineOf}
 use Rattle.meaning.specs.Accept.{small}
+use Rattle.geometry.specs.Lines.{turn-ahead}
 use Rattle.numbering.specs.Ranges.{up-abs}
 
 -- ---- chains of `&&`, from what a call ensures of its flag f: a test that holds, and one that fails
@@ -43,16 +40,6 @@ small-is (negsuc a) = go (leb a 0) refl
 
 -- ---- the step of a line is not negative, and so its own magnitude
 
-turned : (s u : V3) → pos 0 ≤ℤ dot s (turn s u)
-turned s u = go (ltZ (dot s u) (pos 0)) (λ t. record { lt = t }) (λ t. ltZ-no t)
-  where
-    flip : (t : ℤ) → t <ℤ pos 0 → pos 0 ≤ℤ negℤ t
-    flip = linear 0 1 _ λ p m. simp gaps (omega arith)
-
-    go : (b : Bool) → (T b → dot s u <ℤ pos 0) → (T (not b) → pos 0 ≤ℤ dot s u) → pos 0 ≤ℤ dot s (cond b (neg3 u) u)
-    go true f g = subst (λ (t : ℤ). pos 0 ≤ℤ t) (sym (dot-neg s u)) (flip (dot s u) (f tt))
-    go false f g = g tt
-
 pub step-up : (n : Nest) (m : Matrix) → natAbs (stepOf n (lineOf n m)) ≡ up (stepOf n (lineOf n m))
 unfolding lineOf
-step-up n m = up-abs (stepOf n (lineOf n m)) (turned (n .step) _)
+step-up n m = up-abs (stepOf n (lineOf n m)) (turn-ahead (n .step) _)

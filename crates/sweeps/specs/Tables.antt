@@ -20,7 +20,7 @@ use Rattle.meaning.specs.Lists.{filter, best, bestOr}
 use Rattle.meaning.specs.Loops.{instances, stepOf}
 use Rattle.meaning.specs.Space.{eq2, points, rowIndex, boxOf, sentTo, countOf, sooner, later, firstOf, lastOf}
 use Rattle.meaning.specs.Points.{Directed, Inside}
-use Rattle.geometry.specs.Members.{map-at}
+use Rattle.lists.specs.Members.{map-at}
 use Rattle.geometry.specs.Numbers.{eq2-eq, eq-eq2}
 use Rattle.geometry.specs.Places.{getD-in}
 use Rattle.geometry.specs.Instances.{in-within}

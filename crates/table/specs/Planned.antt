@@ -22,7 +22,7 @@ use Rattle.meaning.specs.Space.{Box, points, space, processes, count, first, la
 use Rattle.meaning.specs.Description.{descriptionOf, streamsOf, noStream}
 use Rattle.meaning.specs.Array.{rowSoak}
 use Rattle.meaning.specs.Calls.{refusedBy, answer, rowOf, table}
-use Rattle.geometry.specs.Members.{map-at}
+use Rattle.lists.specs.Members.{map-at}
 use Rattle.numbering.specs.Ranges.{Bounded}
 use Rattle.numbering.specs.Extents.{Spanning, boxed, box-spanning}
 use Rattle.numbering.specs.Numbers.{filled}

@@ -5,9 +5,8 @@
 //   Words     rows of the table as words
 //   Lent      what Table leaves in lent words
 ghost use mathlib.Core.Path.{_≡_};
-ghost use Prim.Native.Nat.{_+_, _*_, _≤_};
+ghost use Prim.Native.Nat.{_*_, _≤_};
 ghost use lib.ListN.{length};
-ghost use lib.Seq.{paste};
 ghost use mir.Syntax.{w32};
 ghost use mir.Val.{ofZ};
 ghost use Rattle.meaning.specs.Limits.{limitsOf, gaugeLimits};
@@ -79,18 +78,6 @@ fn row_words(r: Row) -> [u32; ROW_WORDS]
     ]
 }
 
-// The values go into the words from word `at` on.
-fn put(values: &[u32], at: usize, words: &mut [u32])
-    requires { ⌜ at + length (now values) ≤ length (now words) ⌝ }
-    ensures { λ r. ⌜ now (words .exit) ≡ paste (now (words .entry)) at (now (values .entry)) (length (now (values .entry))) ⌝ }
-{
-    let mut i: usize = 0;
-    while i < values.len() {
-        words[at + i] = values[i];
-        i += 1;
-    }
-}
-
 // The first rows go into the words.
 fn put_rows(rows: [Row; PROCESSES], count: usize, words: &mut [u32])
     requires { ⌜ (count ≤ gaugeLimits .processes) × (21 * count ≤ length (now words)) ⌝ }
@@ -99,7 +86,7 @@ fn put_rows(rows: [Row; PROCESSES], count: usize, words: &mut [u32])
     let mut p: usize = 0;
     while p < count {
         let row = row_words(rows[p]);
-        put(&row, ROW_WORDS * p, words);
+        words::store(words, ROW_WORDS * p, &row);
         p += 1;
     }
 }

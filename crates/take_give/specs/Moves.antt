@@ -8,7 +8,8 @@ use lib.Dec.{eqb, leb, ltb}
 use lib.ListN.{set}
 use borrow.Author.Tests.{ltb-true, eqb-true}
 use Rattle.ports.specs.declared.Port.{Port}
-use Rattle.ports.specs.Links.{word, fillAt, movedDown, both}
+use Rattle.lists.specs.Tests.{both-true}
+use Rattle.ports.specs.Links.{word, fillAt, movedDown}
 
 -- ---- take: n elements stand in the link into the port, x were taken and y given
 
@@ -66,11 +67,11 @@ given l k =
 pub take-facts : (l : List ℕ) (k : Port) → canTake l k ≡ true
     → (0 < fillInto l k) × (fillInto l k ≤ k .hop) × (word l (k .at) < word l (k .before))
 unfolding takes
-take-facts l k h = let z : 0 < fillInto l k = ltb-true _ _ (both _ _ h .0) in omega arith
+take-facts l k h = let z : 0 < fillInto l k = ltb-true _ _ (both-true _ _ h .0) in omega arith
 
 passes-facts : (soak count x y f : ℕ) → passes soak count x y f ≡ true → y < x
 unfolding passes
-passes-facts soak count x y f h = omega (arith, eqb-true x (y + 1) (both _ _ h .0))
+passes-facts soak count x y f h = omega (arith, eqb-true x (y + 1) (both-true _ _ h .0))
 
 releases-facts : (total count x y f : ℕ) → releases total count x y f ≡ true → y < x
 unfolding releases
@@ -78,12 +79,12 @@ releases-facts total count x y f = go (eqb x (y + 2)) _ refl refl
   where
     go : (a b : Bool) → eqb x (y + 2) ≡ a → (eqb x (y + 1) && eqb x total && eqb f count) ≡ b → (a || b) ≡ true → y < x
     go true b e d h = omega (arith, eqb-true x (y + 2) e)
-    go false true e d h = omega (arith, eqb-true x (y + 1) (both _ _ (both _ _ d .0) .0))
+    go false true e d h = omega (arith, eqb-true x (y + 1) (both-true _ _ (both-true _ _ d .0) .0))
     go false false e d h = absurd (let z : _≡_ {A = ℕ} 0 1 = cc in omega arith)
 
 gives-facts : (k : Port) (n x y f : ℕ) → gives k n x y f ≡ true → (n < k .hop) × (y < x)
 unfolding gives
-gives-facts k n x y f h = let z = both _ _ h in (ltb-true _ _ (z .0), go (k .keeps) (z .1))
+gives-facts k n x y f h = let z = both-true _ _ h in (ltb-true _ _ (z .0), go (k .keeps) (z .1))
   where
     go : (b : Bool) → cond b (releases (k .total) (k .count) x y f) (passes (k .soak) (k .count) x y f) ≡ true → y < x
     go true h = releases-facts _ _ x y f h

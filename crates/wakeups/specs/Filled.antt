@@ -4,11 +4,12 @@ use mathlib.Core.Bool.{Bool, true, false}
 use mathlib.Core.List.{List}
 use Prim.Native.Nat.{ℕ, suc, _+_, _≤_, _<_}
 use native.Mathlib.Omega.{arith}
-use lib.Dec.{eqb, ltb}
-use lib.ListN.{length, getD, set, replicate, length-set, length-replicate, getD-replicate, List·getD-eq-default}
+use lib.Dec.{eqb}
+use lib.ListN.{length, getD, set, replicate, length-set, length-replicate}
 use lib.Seq.{getD-set-same, getD-set-other}
-use borrow.Author.Tests.{eqb-true, eqb-false, ltb-true, ltb-false}
+use borrow.Author.Tests.{eqb-true, eqb-false}
 use Rattle.meaning.specs.Limits.{stateWordsMost}
+use Rattle.lists.specs.Stores.{replicated}
 use Rattle.port_table.specs.declared.Size.{Size}
 use Rattle.step_order.specs.Ranks.{rankCount}
 use Rattle.wakeups.specs.Wakeups.{none, foreignBy, Apart, WakeupsOf}
@@ -19,17 +20,10 @@ pub record Filled (b : List ℕ) (z : Size) (k : ℕ) (w : List ℕ) : Type 0 wh
   pub ranks : (i : ℕ) → getD w i 0 ≤ k
   pub wakes : (r : ℕ) → r < k → foreignBy b z r < none → getD w (foreignBy b z r) 0 ≡ suc r
 
-zeros : (n i : ℕ) → _≡_ {A = ℕ} (getD (replicate n 0) i 0) 0
-zeros n i = go (ltb i n) refl
-  where
-    go : (t : Bool) → ltb i n ≡ t → _≡_ {A = ℕ} (getD (replicate n 0) i 0) 0
-    go true e = getD-replicate n i 0 0 (ltb-true i n e)
-    go false e = List·getD-eq-default (replicate n 0) 0 (omega (arith, length-replicate {A = ℕ} n 0, ltb-false i n e))
-
 module _ (b : List ℕ) (z : Size) where
   pub filled-none : {w : List ℕ} → w ≡ replicate (1 + stateWordsMost) 0 → Filled b z 0 w
   filled-none e =
-      rw e (record { words = length-replicate {A = ℕ} (1 + stateWordsMost) 0; ranks = λ i. omega (arith, zeros (1 + stateWordsMost) i); wakes = λ r h l. absurd (omega arith) })
+      rw e (record { words = length-replicate {A = ℕ} (1 + stateWordsMost) 0; ranks = λ i. omega (arith, replicated 0 (1 + stateWordsMost) i); wakes = λ r h l. absurd (omega arith) })
 
   pub filled-next : {k : ℕ} {w : List ℕ} (i v : ℕ) → Apart b z → k < rankCount z → i ≡ foreignBy b z k → i ≤ none → v ≡ k + 1
       → Filled b z k w → Filled b z (k + 1) (set w i v)

@@ -19,7 +19,7 @@ use Rattle.meaning.specs.Points.{Directed, Inside}
 use Rattle.meaning.specs.Streams.{elements, touches, touched}
 use Rattle.meaning.specs.Accept.{refused17}
 use Rattle.meaning.specs.Walk.{walk}
-use Rattle.geometry.specs.Members.{any-yes, yes-any}
+use Rattle.lists.specs.Members.{any-yes, yes-any}
 use Rattle.geometry.specs.Numbers.{eq2-eq, eq-eq2}
 use Rattle.geometry.specs.Places.{getD-in, found}
 use Rattle.geometry.specs.Instances.{within-in}

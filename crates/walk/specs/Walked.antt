@@ -17,7 +17,8 @@ use Rattle.meaning.specs.Loops.{instances, increment}
 use Rattle.meaning.specs.Space.{processes, count, first}
 use Rattle.meaning.specs.Points.{Within as InBounds}
 use Rattle.meaning.specs.Walk.{ownLine, walk}
-use Rattle.geometry.specs.Members.{total-none, total-next, map-at, each-part, each-length, numbers-length, numbers-at}
+use Rattle.lists.specs.Members.{map-at, each-part, each-length, numbers-length, numbers-at}
+use Rattle.lists.specs.Sums.{total-none, total-next}
 use Rattle.geometry.specs.Processes.{Layout, runAt}
 use Rattle.geometry.specs.Places.{getD-in}
 use Rattle.geometry.specs.Walk.{walk-length, nothing-else}

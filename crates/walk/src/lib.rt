@@ -7,7 +7,7 @@
 //   Walked    what the words of a walk say: `Walked`; the walk stored process by process
 //   Touched   the search for a number that is not among those passed, with marks
 //   Search    `refusal-is`: the search along the walk is refusal 17; `too-many`: more elements than instances
-ghost use Prim.Native.Nat.{_+_, _*_, _≤_, _<_};
+ghost use Prim.Native.Nat.{_+_, _*_, _<_};
 ghost use mathlib.Core.Path.{_≡_};
 ghost use lib.ListN.{length};
 ghost use lib.IntN.{pos};

@@ -12,8 +12,8 @@ run-requires c κs = search needs
 enum-known-ran : tie.Need-enum-known-ran
 enum-known-ran c = search needs
 
-digit-requires : tie.Need-digit-requires
-digit-requires c κs = search needs
+flag-requires : tie.Need-flag-requires
+flag-requires c κs = search needs
 
 enum-known-ran-2 : tie.Need-enum-known-ran-2
 enum-known-ran-2 c = search needs
@@ -29,7 +29,7 @@ returns c =
     let m = c .before .before .before in
     let p = m .before .before .before .before .before .before in
     let a = p .before .before .before .before .before .before .before .args in
-    let l = ran-left (now (a .answer)) (sym (p .run .ensures .0) ∙ m .ran .given .1) (c .before .digit .ensures) in
+    let l = ran-left (now (a .answer)) (sym (p .run .ensures .0) ∙ m .ran .given .1) (c .before .flag .ensures) in
     (l .0, p .run .ensures .1, l .1)
 
 same-length-3 : tie.Need-same-length-3
@@ -52,7 +52,7 @@ beqlanosh-run-spec =
     (tie.spec
     run-requires
     enum-known-ran
-    digit-requires
+    flag-requires
     enum-known-ran-2
     same-length
     same-length-2

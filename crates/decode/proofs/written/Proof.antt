@@ -11,7 +11,7 @@ use Rattle.meaning.specs.declared.Line.{Line}
 use Rattle.meaning.specs.declared.Description.{Description}
 use Rattle.meaning.specs.Lists.{any}
 use Rattle.meaning.specs.Description.{linesOf, noLine, written}
-use Rattle.decode.specs.Scans.{any-goes, any-stops, any-ends}
+use Rattle.lists.specs.Loops.{member-turn, member-stop, member-end}
 use borrow.Author.Needs.{needs}
 use Rattle.decode.proofs.written.Statement.{statement}
 use Rattle.decode.proofs.written.Tie as tie
@@ -32,13 +32,13 @@ module _ (d : Description) (i : ℕ) (few : d .sizes .lines ≤ 8) (all : length
     at = getD-take (d .sizes .lines) (d .lines) j noLine h ∙ sym e
 
     stops : test l ≡ true → true ≡ any test (drop j (linesOf d))
-    stops t = any-stops test (linesOf d) noLine j (omega (arith, in-use)) (ap test at ∙ t)
+    stops t = sym (member-stop test (linesOf d) noLine j (omega (arith, in-use)) (ap test at ∙ t))
 
     goes : test l ≡ false → any test (drop (j + 1) (linesOf d)) ≡ any test (drop j (linesOf d))
-    goes t = any-goes test (linesOf d) noLine j (omega (arith, in-use)) (ap test at ∙ t)
+    goes t = sym (member-turn test (linesOf d) noLine j (omega (arith, in-use)) (ap test at ∙ t))
 
   ends : (j : ℕ) → d .sizes .lines ≤ j → false ≡ any test (drop j (linesOf d))
-  ends j h = any-ends test (linesOf d) noLine j (omega (arith, in-use))
+  ends j h = sym (member-end test (linesOf d) noLine j (omega (arith, in-use)))
 
 abbrev Inv-loop : tie.InvT-loop
 Inv-loop d i n j₀ j = any (λ l. eqb (l .target) i) (drop j (linesOf d)) ≡ written d i

@@ -1,8 +1,10 @@
--- `plain::run_accepted` meets its contract. Assumes nothing.
-use mathlib.Core.Path.{sym, _∙_, ap}
+-- `plain::run_accepted` meets its contract: where the lengths are right the output is the values, and then what the loops leave. Assumes nothing.
+use mathlib.Core.Path.{sym, _∙_}
+use native.Mathlib.Omega.{arith}
 use lib.ListN.{length}
 use denote.Ref.{now}
 use borrow.Author.Needs.{needs}
+use Rattle.words.specs.Stored.{stored-all}
 use Rattle.plain.specs.Run.{own-is, lengths-are, run-done, run-refused}
 use Rattle.plain.proofs.run_accepted.Statement.{statement}
 use Rattle.plain.proofs.run_accepted.Tie as tie
@@ -13,13 +15,14 @@ element-count-requires c κs = c .before .pre .few
 of-plain-requires : tie.Need-of-plain-requires
 of-plain-requires c κs = search needs
 
-copy-requires : tie.Need-copy-requires
-copy-requires c κs =
+store-requires : tie.Need-store-requires
+store-requires c κs =
     let r = c .before .before in
     let k = r .before .before .before in
     let a = k .before .args in
     let n = own-is (a .d) (length (now (a .values))) (length (now (a .output))) (k .element-count .ensures .0) (r .of-plain .ensures) in
-    let l = lengths-are (a .d) (length (now (a .values))) (length (now (a .output))) n (c .before .if1 .taken) in l .1 ∙ sym (l .0)
+    let l = lengths-are (a .d) (length (now (a .values))) (length (now (a .output))) n (c .before .if1 .taken) in
+    omega (arith, l .0, l .1)
 
 run-loops-requires : tie.Need-run-loops-requires
 run-loops-requires c κs =
@@ -30,7 +33,7 @@ run-loops-requires c κs =
     let a = s .args in
     let n = own-is (a .d) (length (now (a .values))) (length (now (a .output))) (k .element-count .ensures .0) (r .of-plain .ensures) in
     let l = lengths-are (a .d) (length (now (a .values))) (length (now (a .output))) n (i .if1 .taken) in
-    (s .pre, ap length (c .before .before .before .copy .ensures) ∙ l .0)
+    (s .pre, c .before .before .before .store .kept .0 ∙ l .1)
 
 same-length : tie.Need-same-length
 same-length c = search needs
@@ -43,7 +46,9 @@ returns c =
     let k = i .before .before .before .before in
     let a = k .before .args in
     let n = own-is (a .d) (length (now (a .values))) (length (now (a .output))) (k .element-count .ensures .0) (i .before .of-plain .ensures) in
-    run-done (a .d) (now (a .values)) (now (a .output)) n (i .if1 .taken) (f .copy .ensures) (l .run-loops .ensures)
+    let e = lengths-are (a .d) (length (now (a .values))) (length (now (a .output))) n (i .if1 .taken) in
+    run-done (a .d) (now (a .values)) (now (a .output)) n (i .if1 .taken)
+    (f .store .ensures ∙ stored-all (now (a .values)) (now (a .output)) (e .1 ∙ sym (e .0))) (l .run-loops .ensures)
 
 returns-2 : tie.Need-returns-2
 returns-2 c =
@@ -55,4 +60,4 @@ returns-2 c =
 pub run-accepted-spec : {M : Type 1} → statement M
 run-accepted-spec =
     tie.close
-    (tie.spec element-count-requires of-plain-requires copy-requires run-loops-requires same-length returns returns-2)
+    (tie.spec element-count-requires of-plain-requires store-requires run-loops-requires same-length returns returns-2)

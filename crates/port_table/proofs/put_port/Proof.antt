@@ -5,7 +5,7 @@ use mathlib.Core.List.{List}
 use Prim.Native.Nat.{ℕ}
 use lib.ListN.{length}
 use denote.Ref.{now}
-use Rattle.port_table.specs.Stored.{stored}
+use Rattle.words.specs.Stored.{stored}
 use Rattle.port_table.proofs.put_port.Statement.{statement}
 use Rattle.port_table.proofs.put_port.Tie as tie
 

@@ -7,10 +7,10 @@ use Rattle.print_table.proofs.put_streams.Statement.{statement}
 use Rattle.print_table.proofs.put_streams.Tie as tie
 
 abbrev Inv-loop : tie.InvT-loop
-Inv-loop line₀ at streams words next₀ i₀ t8 line next i = (i ≤ 6) × (6 ≡ length words)
+Inv-loop page₀ at streams words next₀ i₀ t8 page next i = (i ≤ 6) × (6 ≡ length words)
 
 abbrev μ-loop : tie.MeasureT-loop
-μ-loop line₀ at streams words next₀ i₀ t8 line next i = 6 - i
+μ-loop page₀ at streams words next₀ i₀ t8 page next i = 6 - i
 
 loop-holds : tie.Need-loop-holds Inv-loop μ-loop
 loop-holds c = search needs

@@ -4,19 +4,19 @@ use Prim.Native.Nat.{_≤_, _-_}
 use native.Mathlib.Omega.{arith}
 use borrow.Author.Needs.{needs}
 use Rattle.meaning.specs.Lists.{any, numbers}
-use Rattle.ready_words.specs.Any.{left, any-start, any-turn, any-stop, any-end}
+use Rattle.lists.specs.Loops.{anyLeft, any-start, any-turn, any-stop, any-end}
 use Rattle.ready_words.specs.Moves.{passesBy, moves-passing, moves-firing}
 use Rattle.ready_words.proofs.can_move.Statement.{statement}
 use Rattle.ready_words.proofs.can_move.Tie as tie
 
 abbrev Inv-loop : tie.InvT-loop
-Inv-loop ports state z p m i₀ i = (i ≤ z .streams) × (left (passesBy ports state p) (z .streams) i ≡ any (passesBy ports state p) (numbers (z .streams)))
+Inv-loop ports state z p m i₀ i = (i ≤ z .streams) × (anyLeft (passesBy ports state p) (z .streams) i ≡ any (passesBy ports state p) (numbers (z .streams)))
 
 abbrev μ-loop : tie.MeasureT-loop
 μ-loop ports state z p m i₀ i = z .streams - i
 
 loop-holds : tie.Need-loop-holds Inv-loop μ-loop
-loop-holds c = (omega arith, any-start _ _)
+loop-holds c = (omega arith, sym (any-start _ _))
 
 can-pass-requires : tie.Need-can-pass-requires Inv-loop μ-loop
 can-pass-requires c κs = let p = c .before .before .before .before .pre in (p .0, p .1, c .loop-test .taken)

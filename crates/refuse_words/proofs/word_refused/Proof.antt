@@ -9,7 +9,7 @@ use Rattle.integers.specs.Bytes.{wordAt}
 use Rattle.meaning.specs.declared.Sizes.{Sizes}
 use Rattle.meaning.specs.Lists.{every, numbersFrom}
 use Rattle.meaning.specs.Description.{wordsOf, inRange, refused4}
-use Rattle.decode.specs.Scans.{every-goes, every-stops, every-ends}
+use Rattle.lists.specs.Loops.{every-turn, every-stop, every-end}
 use borrow.Author.Needs.{needs}
 use Rattle.refuse_words.proofs.word_refused.Statement.{statement}
 use Rattle.refuse_words.proofs.word_refused.Tie as tie
@@ -41,7 +41,7 @@ returns : tie.Need-returns Inv-loop μ-loop
 returns c =
     let b = c .before .before .before in
     answer _ _ (b .before .line-at .ensures .0)
-    (sym (every-stops _ _ _ (omega arith) (sym (c .before .in-range .ensures) ∙ not-true _ (c .if1 .taken))) ∙ b .loop .inv)
+    (sym (every-stop _ _ _ (omega arith) (sym (c .before .in-range .ensures) ∙ not-true _ (c .if1 .taken))) ∙ b .loop .inv)
 
 add-k : tie.Need-add-k Inv-loop μ-loop
 add-k c = omega arith
@@ -51,10 +51,10 @@ loop-less c = omega arith
 
 loop-again : tie.Need-loop-again Inv-loop μ-loop
 loop-again c =
-    every-goes _ _ _ (omega arith) (sym (c .before .in-range .ensures) ∙ not-false _ (c .if1 .left)) ∙ c .before .before .before .loop .inv
+    sym (every-turn _ _ _ (omega arith) (sym (c .before .in-range .ensures) ∙ not-false _ (c .if1 .left))) ∙ c .before .before .before .loop .inv
 
 returns-2 : tie.Need-returns-2 Inv-loop μ-loop
-returns-2 c = answer _ _ (c .before .before .line-at .ensures .0) (sym (every-ends _ _ _ (omega arith)) ∙ c .before .loop .inv)
+returns-2 c = answer _ _ (c .before .before .line-at .ensures .0) (sym (every-end _ _ _ (omega arith)) ∙ c .before .loop .inv)
 
 pub word-refused-spec : {M : Type 1} → statement M
 word-refused-spec =

@@ -5,7 +5,7 @@ use native.Mathlib.Omega.{arith}
 use borrow.Author.Needs.{needs}
 use borrow.Author.Tests.{eq-eqb, ne-eqb}
 use Rattle.meaning.specs.Lists.{every, numbers, numbersFrom}
-use Rattle.decode.specs.Scans.{every-goes, every-stops, every-ends}
+use Rattle.lists.specs.Loops.{every-turn, every-stop, every-end}
 use Rattle.result.specs.Out.{outBy, out-read}
 use Rattle.result.proofs.all_out.Statement.{statement}
 use Rattle.result.proofs.all_out.Tie as tie
@@ -33,7 +33,7 @@ returns c =
     let l = c .before .before .before .before .before in
     let a = l .before .before .before .args in
     let e = out-read (a .ports .now) (a .state .now) (l .loop .q) (c .before .before .before .end .ensures) (c .before .before .word .ensures .0) in
-    sym (every-stops _ (l .loop .q) (a .pipes) (omega arith) (e ∙ ne-eqb _ _ (c .if1 .taken))) ∙ l .loop .inv .1
+    sym (every-stop _ (a .pipes) (l .loop .q) (omega arith) (e ∙ ne-eqb _ _ (c .if1 .taken))) ∙ l .loop .inv .1
 
 add-q : tie.Need-add-q Inv-loop μ-loop
 add-q c = search needs
@@ -46,13 +46,13 @@ loop-again c =
     let l = c .before .before .before .before .before in
     let a = l .before .before .before .args in
     let e = out-read (a .ports .now) (a .state .now) (l .loop .q) (c .before .before .before .end .ensures) (c .before .before .word .ensures .0) in
-    (omega arith, every-goes _ (l .loop .q) (a .pipes) (omega arith) (e ∙ eq-eqb _ _ (c .if1 .left)) ∙ l .loop .inv .1)
+    (omega arith, sym (every-turn _ (a .pipes) (l .loop .q) (omega arith) (e ∙ eq-eqb _ _ (c .if1 .left))) ∙ l .loop .inv .1)
 
 returns-2 : tie.Need-returns-2 Inv-loop μ-loop
 returns-2 c =
     let l = c .before in
     let a = l .before .before .before .args in
-    sym (every-ends (outBy (a .ports .now) (a .state .now)) (l .loop .q) (a .pipes) (omega arith)) ∙ l .loop .inv .1
+    sym (every-end (outBy (a .ports .now) (a .state .now)) (a .pipes) (l .loop .q) (omega arith)) ∙ l .loop .inv .1
 
 pub all-out-spec : {M : Type 1} → statement M
 all-out-spec =

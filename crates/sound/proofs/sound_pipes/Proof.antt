@@ -4,15 +4,15 @@ use Prim.Native.Nat.{_≤_, _<_, _-_}
 use native.Mathlib.Omega.{arith}
 use borrow.Author.Needs.{needs}
 use Rattle.meaning.specs.Lists.{every, numbers}
+use Rattle.lists.specs.Loops.{everyLeft, every-start, every-turn, every-stop, every-end}
 use Rattle.sound_rows.specs.Sound.{endSound}
-use Rattle.sound.specs.Loops.{left, every-start, every-turn, every-stop, every-end}
 use Rattle.sound.specs.States.{pipeSound}
 use Rattle.sound.proofs.sound_pipes.Statement.{statement}
 use Rattle.sound.proofs.sound_pipes.Tie as tie
 
 abbrev Inv-loop : tie.InvT-loop
 Inv-loop ports state z q₀ q =
-    (q ≤ z .pipes) × (every (pipeSound ports state) (numbers (z .pipes)) ≡ left (pipeSound ports state) (z .pipes) q)
+    (q ≤ z .pipes) × (every (pipeSound ports state) (numbers (z .pipes)) ≡ everyLeft (pipeSound ports state) (z .pipes) q)
 
 abbrev μ-loop : tie.MeasureT-loop
 μ-loop ports state z q₀ q = z .pipes - q

@@ -7,7 +7,7 @@ use native.Mathlib.Omega.{arith}
 use borrow.Author.Needs.{needs}
 use Rattle.sound_rows.specs.Sound.{portSound}
 use Rattle.port_table.specs.PortsOf.{portAt}
-use Rattle.sound.specs.Loops.{left, every-start, every-turn, every-stop, every-end}
+use Rattle.lists.specs.Loops.{everyLeft, every-start, every-turn, every-stop, every-end}
 use Rattle.sound.specs.States.{portsSound}
 use Rattle.sound.proofs.sound_ports.Statement.{statement}
 use Rattle.sound.proofs.sound_ports.Tie as tie
@@ -17,7 +17,7 @@ abbrev one : List ℕ → List ℕ → ℕ → ℕ → Bool
 one b st p i = portSound st (portAt b p i)
 
 abbrev Inv-loop : tie.InvT-loop
-Inv-loop ports state z p i₀ i = (i ≤ z .streams) × (portsSound ports state (z .streams) p ≡ left (one ports state p) (z .streams) i)
+Inv-loop ports state z p i₀ i = (i ≤ z .streams) × (portsSound ports state (z .streams) p ≡ everyLeft (one ports state p) (z .streams) i)
 
 abbrev μ-loop : tie.MeasureT-loop
 μ-loop ports state z p i₀ i = z .streams - i

@@ -4,7 +4,7 @@ use Prim.Native.Nat.{_≤_, _-_}
 use native.Mathlib.Omega.{arith}
 use borrow.Author.Needs.{needs}
 use Rattle.meaning.specs.Lists.{every, numbers}
-use Rattle.sound.specs.Loops.{left, every-start, every-turn, every-stop, every-end}
+use Rattle.lists.specs.Loops.{everyLeft, every-start, every-turn, every-stop, every-end}
 use Rattle.sound.specs.States.{processSound}
 use Rattle.sound.proofs.sound_processes.Statement.{statement}
 use Rattle.sound.proofs.sound_processes.Tie as tie
@@ -12,7 +12,7 @@ use Rattle.sound.proofs.sound_processes.Tie as tie
 abbrev Inv-loop : tie.InvT-loop
 Inv-loop ports state z p₀ p =
     (p ≤ z .processes)
-    × (every (processSound ports state (z .streams)) (numbers (z .processes)) ≡ left (processSound ports state (z .streams)) (z .processes) p)
+    × (every (processSound ports state (z .streams)) (numbers (z .processes)) ≡ everyLeft (processSound ports state (z .streams)) (z .processes) p)
 
 abbrev μ-loop : tie.MeasureT-loop
 μ-loop ports state z p₀ p = z .processes - p

@@ -6,6 +6,7 @@ use native.Mathlib.Omega.{arith}
 use lib.ListN.{length}
 use denote.Ref.{now}
 use borrow.Author.Needs.{needs}
+use Rattle.words.specs.Stored.{stored-paste}
 use Rattle.table_words.specs.Words.{laid, wordsOf, words-none, rows-next}
 use Rattle.table_words.proofs.put_rows.Statement.{statement}
 use Rattle.table_words.proofs.put_rows.Tie as tie
@@ -30,14 +31,14 @@ array-copy-out-row-words c = search needs
 row-words-requires : tie.Need-row-words-requires Inv-loop μ-loop
 row-words-requires c κs = search needs
 
-slice-aggregate-put : tie.Need-slice-aggregate-put Inv-loop μ-loop
-slice-aggregate-put c = sym (ap length (c .before .row-words .ensures))
+slice-aggregate-store : tie.Need-slice-aggregate-store Inv-loop μ-loop
+slice-aggregate-store c = sym (ap length (c .before .row-words .ensures))
 
-mul-put : tie.Need-mul-put Inv-loop μ-loop
-mul-put c = search needs
+mul-store : tie.Need-mul-store Inv-loop μ-loop
+mul-store c = search needs
 
-put-requires : tie.Need-put-requires Inv-loop μ-loop
-put-requires c κs =
+store-requires : tie.Need-store-requires Inv-loop μ-loop
+store-requires c κs =
     let e : length (c .before .before .row-words .result) ≡ 21 = ap length (c .before .before .row-words .ensures) in omega (arith, e)
 
 add-p : tie.Need-add-p Inv-loop μ-loop
@@ -54,8 +55,9 @@ loop-again c =
     let s = l .before .before in (
       omega arith,
       l .loop .inv .1,
-      f .put .kept .1 .1 .0 ∙ l .loop .inv .2,
-      rows-next (s .args .t1) (l .loop .p) (now (s .args .words)) (l .loop .inv .3) (r .row-words .ensures) (f .put .ensures),
+      f .store .kept .0 ∙ l .loop .inv .2,
+      rows-next (s .args .t1) (l .loop .p) (now (s .args .words)) (l .loop .inv .3) (r .row-words .ensures)
+          (f .store .ensures ∙ stored-paste _ _ _ _ (omega arith) (omega arith)),
     )
 
 same-length : tie.Need-same-length Inv-loop μ-loop
@@ -77,9 +79,9 @@ put-rows-spec =
     mul-row-words
     array-copy-out-row-words
     row-words-requires
-    slice-aggregate-put
-    mul-put
-    put-requires
+    slice-aggregate-store
+    mul-store
+    store-requires
     add-p
     loop-less
     loop-again

@@ -6,10 +6,10 @@ use Rattle.text.proofs.put_text.Statement.{statement}
 use Rattle.text.proofs.put_text.Tie as tie
 
 abbrev Inv-loop : tie.InvT-loop
-Inv-loop line₀ at text next₀ i₀ line next i = i ≤ length text
+Inv-loop page₀ at text next₀ i₀ page next i = i ≤ length text
 
 abbrev μ-loop : tie.MeasureT-loop
-μ-loop line₀ at text next₀ i₀ line next i = length text - i
+μ-loop page₀ at text next₀ i₀ page next i = length text - i
 
 loop-holds : tie.Need-loop-holds Inv-loop μ-loop
 loop-holds c = search needs

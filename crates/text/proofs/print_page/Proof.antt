@@ -1,9 +1,9 @@
--- `lines::print_page` is safe and ends. Assumes nothing.
+-- `text::print_page` is safe and ends. Assumes nothing.
 use mathlib.Core.Path.{sym}
 use lib.Seq.{length-take-le}
 use borrow.Author.Needs.{needs}
-use Rattle.lines.proofs.print_page.Statement.{statement}
-use Rattle.lines.proofs.print_page.Tie as tie
+use Rattle.text.proofs.print_page.Statement.{statement}
+use Rattle.text.proofs.print_page.Tie as tie
 
 written-requires : tie.Need-written-requires
 written-requires c κs = search needs

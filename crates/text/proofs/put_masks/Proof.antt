@@ -1,9 +1,9 @@
--- `lines::put_words` is safe and ends. Assumes nothing.
+-- `text::put_masks` is safe and ends. Assumes nothing.
 use Prim.Native.Nat.{_-_, _≤_}
 use lib.ListN.{length}
 use borrow.Author.Needs.{needs}
-use Rattle.lines.proofs.put_words.Statement.{statement}
-use Rattle.lines.proofs.put_words.Tie as tie
+use Rattle.text.proofs.put_masks.Statement.{statement}
+use Rattle.text.proofs.put_masks.Tie as tie
 
 abbrev Inv-loop : tie.InvT-loop
 Inv-loop page₀ at words next₀ i₀ page next i = i ≤ length words
@@ -14,17 +14,14 @@ abbrev μ-loop : tie.MeasureT-loop
 loop-holds : tie.Need-loop-holds Inv-loop μ-loop
 loop-holds c = search needs
 
-mul-wide : tie.Need-mul-wide Inv-loop μ-loop
-mul-wide c = search needs
+mul-put-next : tie.Need-mul-put-next Inv-loop μ-loop
+mul-put-next c = search needs
 
-shared-slice-read-wide : tie.Need-shared-slice-read-wide Inv-loop μ-loop
-shared-slice-read-wide c = search needs
+shared-slice-read-put-next : tie.Need-shared-slice-read-put-next Inv-loop μ-loop
+shared-slice-read-put-next c = search needs
 
-wide-requires : tie.Need-wide-requires Inv-loop μ-loop
-wide-requires c κs = search needs
-
-put-number-requires : tie.Need-put-number-requires Inv-loop μ-loop
-put-number-requires c κs = search needs
+put-next-requires : tie.Need-put-next-requires Inv-loop μ-loop
+put-next-requires c κs = search needs
 
 add-i : tie.Need-add-i Inv-loop μ-loop
 add-i c = search needs
@@ -38,17 +35,16 @@ loop-again c = search needs
 returns : tie.Need-returns Inv-loop μ-loop
 returns c = search needs
 
-pub put-words-spec : {M : Type 1} → statement M
-put-words-spec =
+pub put-masks-spec : {M : Type 1} → statement M
+put-masks-spec =
     tie.close
     (tie.spec
     Inv-loop
     μ-loop
     loop-holds
-    mul-wide
-    shared-slice-read-wide
-    wide-requires
-    put-number-requires
+    mul-put-next
+    shared-slice-read-put-next
+    put-next-requires
     add-i
     loop-less
     loop-again

@@ -1,5 +1,5 @@
 -- What is in a list: of members that pass a test, of lists mapped, joined and reversed, and of numbers in a row. Assumes nothing.
-use mathlib.Core.Path.{_≡_, refl, sym, _∙_, ap, ap₂, subst}
+use mathlib.Core.Path.{_≡_, refl, sym, _∙_, ap, subst}
 use mathlib.Core.Logic.{_⊎_, inl, inr}
 use mathlib.Core.Bool.{Bool, true, false, cond}
 use mathlib.Core.List.{List, [], _∷_, _++_, map, reverse, reverseAux, List·Memᴰ as In, List·Memᴰ·head as here, List·Memᴰ·tail as there, Memᴰ·append-left, Memᴰ·append-right, List·Memᴰ·append-cases}
@@ -185,26 +185,6 @@ module _ {A B : Type 0} where
   each-part f (x ∷ l) (suc q) i d e h k =
       ap (λ (c : ℕ). getD (f x ++ each f l) c e) (add-assoc (length (f x)) (total (λ x. length (f x)) (take q l)) i)
       ∙ getD-append-add (f x) (each f l) (total (λ x. length (f x)) (take q l) + i) e ∙ each-part f l q i d e (omega arith) k
-
--- no member summed, and one more
-pub total-none : {A : Type 0} (f : A → ℕ) (l : List A) → total f (take 0 l) ≡ 0
-unfolding total
-total-none f [] = refl
-total-none f (x ∷ l) = refl
-
-pub total-next : {A : Type 0} (f : A → ℕ) (l : List A) (i : ℕ) (d : A) → i < length l → total f (take (suc i) l) ≡ total f (take i l) + f (getD l i d)
-unfolding total
-total-next f [] i d h = absurd (omega arith)
-total-next f (x ∷ l) zero d h = omega arith
-total-next f (x ∷ l) (suc i) d h = omega (arith, total-next f l i d (omega arith))
-
-pub total-same : {A : Type 0} (f : A → ℕ) (w : ℕ) → ((x : A) → f x ≡ w) → (l : List A) → total f l ≡ length l * w
-unfolding total
-total-same f w g [] = omega arith
-total-same f w g (x ∷ l) = ap₂ _+_ (g x) (total-same f w g l) ∙ one (length l)
-  where
-    one : (c : ℕ) → w + c * w ≡ suc c * w
-    one c = omega arith
 
 -- ---- c numbers from i on
 

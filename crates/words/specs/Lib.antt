@@ -1,0 +1,2 @@
+-- Words written into a list.
+pub mod Stored
