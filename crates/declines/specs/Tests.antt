@@ -6,7 +6,7 @@ use mathlib.Core.List.{List, [], _∷_}
 use Prim.Native.Nat.{ℕ, _≤_, _<_}
 use native.Mathlib.Omega.{arith}
 use lib.Dec.{eqb, ltb}
-use borrow.Author.Tests.{eqb-true, not-false, ltb-false, ltb-true}
+use borrow.Author.Tests.{eq-eqb, eqb-true, not-false, ltb-false, ltb-true}
 use Rattle.meaning.specs.Tests.{Test, _if_, refusal}
 use Rattle.decode.specs.Refusals.{passed, neither}
 
@@ -33,6 +33,11 @@ readyLengths words = (27 if ltb words 16) ∷ []
 
 abbrev pub resultTests : Bool → Bool → List Test
 resultTests out fits = (25 if not out) ∷ (28 if not fits) ∷ []
+
+-- with as many values as elements, Start's tests are those of the memory
+pub start-memory : (elements words values waiting received state : ℕ) → values ≡ elements
+    → refusal (memoryLengths elements words waiting received state) ≡ refusal (startLengths elements words values waiting received state)
+start-memory elements words values waiting received state e = rw (eq-eqb values elements e) refl
 
 -- ---- none of them applies
 

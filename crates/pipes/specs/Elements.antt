@@ -102,8 +102,8 @@ module _ {f : Flow} {spans : List ℕ} {p : ℕ} (a : At f spans p) where
     on-way : T (not (stationary n s))
     on-way = subst T (a .flows .moving-is) moves
 
-    spans : Spanning (boxed (f .elements))
-    spans = subst Spanning (sym (a .flows .elements-is)) (box-spanning (a .flows .laid .in-range .nest) (a .flows .laid .in-range .map))
+    box-spans : Spanning (boxed (f .elements))
+    box-spans = subst Spanning (sym (a .flows .elements-is)) (box-spanning (a .flows .laid .in-range .nest) (a .flows .laid .in-range .map))
 
     within : {x : V3} → RunAt n y x → {e : V2} → e ≡ image (s .map) x → Inside (boxed (f .elements)) e
     within {x} r e = subst (Inside (boxed (f .elements))) (sym e)
@@ -112,7 +112,7 @@ module _ {f : Flow} {spans : List ℕ} {p : ℕ} (a : At f spans p) where
     pub going-back : {x : V3} → RunAt n y x → {e : V2} → e ≡ image (s .map) x → Going (boxed (f .elements)) (f .against) e
     going-back r e =
         record {
-          box = spans;
+          box = box-spans;
           inside = within r e;
           by = a .flows .against-small;
           on = subst (λ (d : V2). d ≡ zero2 → ⊥) (sym (a .flows .against-is)) (neg-not (passes accepted on-way));
@@ -124,7 +124,7 @@ module _ {f : Flow} {spans : List ℕ} {p : ℕ} (a : At f spans p) where
     going-on : {x : V3} → RunAt n y x → {e : V2} → e ≡ image (s .map) x → Going (boxed (f .elements)) (f .pass) e
     going-on r e =
         record {
-          box = spans;
+          box = box-spans;
           inside = within r e;
           by = a .flows .pass-small;
           on = subst (λ (d : V2). d ≡ zero2 → ⊥) (sym (a .flows .pass-is)) (passes accepted on-way);

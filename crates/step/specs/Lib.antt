@@ -1,3 +1,2 @@
--- Names of steps, and the call Step; src/lib.rt has the list.
-pub mod Named
+-- What the call Step answers and leaves.
 pub mod Call

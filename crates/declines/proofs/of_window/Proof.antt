@@ -1,14 +1,10 @@
 -- `declines::of_window` meets its contract. Assumes nothing.
 use mathlib.Core.Path.{ap}
 use mathlib.Core.Bool.{not}
-use borrow.Author.Needs.{needs}
 use borrow.Author.Tests.{eq-eqb, ne-eqb, lt-ltb, le-ltb}
 use Rattle.decode.specs.Refusals.{refuses, passes, accepts}
 use Rattle.declines.proofs.of_window.Statement.{statement}
 use Rattle.declines.proofs.of_window.Tie as tie
-
-cast-e : tie.Need-cast-e
-cast-e c = search needs
 
 returns : tie.Need-returns
 returns c = refuses 20 _ (ap not (ne-eqb _ _ (c .if1 .taken)))
@@ -27,4 +23,4 @@ returns-4 c =
     (passes 26 _ (ap not (eq-eqb _ _ (c .before .if2 .left))) (refuses 19 _ (ap not (le-ltb _ _ (c .if3 .left)))))
 
 pub of-window-spec : {M : Type 1} → statement M
-of-window-spec = tie.close (tie.spec cast-e returns returns-2 returns-3 returns-4)
+of-window-spec = tie.close (tie.spec returns returns-2 returns-3 returns-4)

@@ -1,9 +1,9 @@
--- `step::has_port` meets its contract. Assumes nothing.
+-- `named_step::has_port` meets its contract. Assumes nothing.
 use mathlib.Core.Path.{refl}
 use borrow.Author.Needs.{needs}
 use borrow.Author.Tests.{lt-ltb, le-ltb}
-use Rattle.step.proofs.has_port.Statement.{statement}
-use Rattle.step.proofs.has_port.Tie as tie
+use Rattle.named_step.proofs.has_port.Statement.{statement}
+use Rattle.named_step.proofs.has_port.Tie as tie
 
 port-requires : tie.Need-port-requires
 port-requires c κs = search needs

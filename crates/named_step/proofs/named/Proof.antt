@@ -1,10 +1,10 @@
--- `step::named` meets its contract. Assumes nothing.
+-- `named_step::named` meets its contract. Assumes nothing.
 use mathlib.Core.Path.{refl}
 use native.Mathlib.Omega.{arith}
 use borrow.Author.Needs.{needs}
 use borrow.Author.Tests.{ne-eqb}
-use Rattle.step.proofs.named.Statement.{statement}
-use Rattle.step.proofs.named.Tie as tie
+use Rattle.named_step.proofs.named.Statement.{statement}
+use Rattle.named_step.proofs.named.Tie as tie
 
 has-port-requires : tie.Need-has-port-requires
 has-port-requires c κs = search needs

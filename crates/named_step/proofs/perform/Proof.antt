@@ -1,12 +1,12 @@
--- `step::perform` meets its contract. Assumes nothing.
+-- `named_step::perform` meets its contract. Assumes nothing.
 use mathlib.Core.Path.{_∙_}
 use borrow.Author.Needs.{needs}
 use Rattle.meaning.specs.Loops.{increment}
 use Rattle.vectors.specs.Within.{Within}
 use Rattle.opening.specs.Opened.{fits, waiting-fits, received-fits, programmed}
-use Rattle.step.specs.Call.{performed}
-use Rattle.step.proofs.perform.Statement.{statement}
-use Rattle.step.proofs.perform.Tie as tie
+use Rattle.named_step.specs.Stepped.{performed}
+use Rattle.named_step.proofs.perform.Statement.{statement}
+use Rattle.named_step.proofs.perform.Tie as tie
 
 program-of-requires : tie.Need-program-of-requires
 program-of-requires c κs = search needs

@@ -1,14 +1,14 @@
--- `step::step_opened` meets its contract. Assumes nothing.
+-- `named_step::step_opened` meets its contract. Assumes nothing.
 use mathlib.Core.Path.{sym, _∙_}
 use borrow.Author.Needs.{needs}
 use Rattle.meaning.specs.Limits.{gaugeLimits}
 use Rattle.stream_lines.specs.Accepted.{accepted-within}
 use Rattle.opening.specs.Opening.{grounds}
 use Rattle.opening.specs.Opened.{fits}
-use Rattle.step.specs.Named.{rows-of, named-inside}
-use Rattle.step.specs.Call.{steppable, unnamed, unready, done}
-use Rattle.step.proofs.step_opened.Statement.{statement}
-use Rattle.step.proofs.step_opened.Tie as tie
+use Rattle.named_step.specs.Named.{rows-of, named-inside}
+use Rattle.named_step.specs.Stepped.{steppable, unnamed, unready, done}
+use Rattle.named_step.proofs.step_opened.Statement.{statement}
+use Rattle.named_step.proofs.step_opened.Tie as tie
 
 named-requires : tie.Need-named-requires
 named-requires c κs = let o = c .before .before .before .before .before .before .pre .0 in rows-of (fits (grounds _ (o .accepted)) (o .stood))
