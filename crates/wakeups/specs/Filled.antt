@@ -23,7 +23,7 @@ pub record Filled (b : List ℕ) (z : Size) (k : ℕ) (w : List ℕ) : Type 0 wh
 module _ (b : List ℕ) (z : Size) where
   pub filled-none : {w : List ℕ} → w ≡ replicate (1 + stateWordsMost) 0 → Filled b z 0 w
   filled-none e =
-      rw e (record { words = length-replicate {A = ℕ} (1 + stateWordsMost) 0; ranks = λ i. omega (arith, replicated 0 (1 + stateWordsMost) i); wakes = λ r h l. absurd (omega arith) })
+      rw e (record { words = length-replicate {A = ℕ} (1 + stateWordsMost) 0; ranks = λ i. omega (arith, replicated {X = ℕ} 0 (1 + stateWordsMost) i); wakes = λ r h l. absurd (omega arith) })
 
   pub filled-next : {k : ℕ} {w : List ℕ} (i v : ℕ) → Apart b z → k < rankCount z → i ≡ foreignBy b z k → i ≤ none → v ≡ k + 1
       → Filled b z k w → Filled b z (k + 1) (set w i v)
