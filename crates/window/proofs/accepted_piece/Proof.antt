@@ -22,7 +22,7 @@ returns : tie.Need-returns
 returns c =
     let k = c .before .before in
     let e = k .before .element-count .ensures .0 in
-    let s = k .before .before in
+    let s = k .before .before .before in
     let a = s .args in
     let l = lists-fit (a .d) (a .pipe) (a .side) (a .waiting) (a .received) e (k .of-window .ensures) (c .before .if1 .taken) in
     let h = c .located .ensures in (
@@ -35,7 +35,7 @@ returns-2 : tie.Need-returns-2
 returns-2 c =
     let k = c .before .before in
     let e = k .before .element-count .ensures .0 in
-    let a = k .before .before .args in
+    let a = k .before .before .before .args in
     let z = c .before .if1 .left in
     refused-piece (a .d) (a .pipe) (c .refused .ensures) z
     (by-lists (a .d) (a .pipe) (a .side) (a .waiting) (a .received) e (k .of-window .ensures) z)
