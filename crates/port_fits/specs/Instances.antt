@@ -12,6 +12,7 @@ use Rattle.meaning.specs.Space.{eq2, sentTo, processes, count}
 use Rattle.meaning.specs.Description.{descriptionOf}
 use Rattle.meaning.specs.Array.{Array, arrayOf, processCount, countAt, instanceAt}
 use Rattle.meaning.specs.Accept.{refusalOf}
+use Rattle.lists.specs.Tests.{filter-fewer}
 use Rattle.geometry.specs.Processes.{runAt}
 use Rattle.geometry.specs.Descriptions.{Laid, laid}
 use Rattle.addresses.specs.Through.{pointOf}

@@ -10,7 +10,7 @@ use Rattle.plain.proofs.run_accepted.Statement.{statement}
 use Rattle.plain.proofs.run_accepted.Tie as tie
 
 element-count-requires : tie.Need-element-count-requires
-element-count-requires c κs = c .before .pre .few
+element-count-requires c κs = c .before .before .pre .few
 
 of-plain-requires : tie.Need-of-plain-requires
 of-plain-requires c κs = search needs
@@ -18,8 +18,8 @@ of-plain-requires c κs = search needs
 store-requires : tie.Need-store-requires
 store-requires c κs =
     let r = c .before .before in
-    let k = r .before .before .before in
-    let a = k .before .args in
+    let k = r .before in
+    let a = k .before .before .before .args in
     let n = own-is (a .d) (length (now (a .values))) (length (now (a .output))) (k .element-count .ensures .0) (r .of-plain .ensures) in
     let l = lengths-are (a .d) (length (now (a .values))) (length (now (a .output))) n (c .before .if1 .taken) in
     omega (arith, l .0, l .1)
@@ -28,8 +28,8 @@ run-loops-requires : tie.Need-run-loops-requires
 run-loops-requires c κs =
     let i = c .before .before .before .before .before in
     let r = i .before in
-    let k = r .before .before .before in
-    let s = k .before in
+    let k = r .before in
+    let s = k .before .before .before in
     let a = s .args in
     let n = own-is (a .d) (length (now (a .values))) (length (now (a .output))) (k .element-count .ensures .0) (r .of-plain .ensures) in
     let l = lengths-are (a .d) (length (now (a .values))) (length (now (a .output))) n (i .if1 .taken) in
@@ -43,8 +43,8 @@ returns c =
     let l = c .before .before in
     let f = l .before .before .before .before in
     let i = f .before .before in
-    let k = i .before .before .before .before in
-    let a = k .before .args in
+    let k = i .before .before in
+    let a = k .before .before .before .args in
     let n = own-is (a .d) (length (now (a .values))) (length (now (a .output))) (k .element-count .ensures .0) (i .before .of-plain .ensures) in
     let e = lengths-are (a .d) (length (now (a .values))) (length (now (a .output))) n (i .if1 .taken) in
     run-done (a .d) (now (a .values)) (now (a .output)) n (i .if1 .taken)
@@ -52,8 +52,8 @@ returns c =
 
 returns-2 : tie.Need-returns-2
 returns-2 c =
-    let k = c .before .before .before .before in
-    let a = k .before .args in
+    let k = c .before .before in
+    let a = k .before .before .before .args in
     let n = own-is (a .d) (length (now (a .values))) (length (now (a .output))) (k .element-count .ensures .0) (c .before .of-plain .ensures) in
     run-refused (a .d) (now (a .values)) (now (a .output)) n (c .if1 .left)
 

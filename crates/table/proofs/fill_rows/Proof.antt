@@ -54,14 +54,14 @@ use Rattle.meaning.proofs.Row as T
 use Rattle.meaning.proofs.Row.Laws as T′
 use Rattle.process_row.specs.declared.Shape.{Shape}
 use Rattle.process_row.specs.Rows.{rowFrom, Readable}
-use Rattle.table.proofs.Shape as D
-use Rattle.table.proofs.Shape.Laws as D′
+use Rattle.process_row.proofs.Shape as D
+use Rattle.process_row.proofs.Shape.Laws as D′
 use Rattle.table.proofs.Counted.{counted}
 use Rattle.table.proofs.Sizes.{fits-size}
-use Rattle.table.proofs.row_at as row-at
-use Rattle.table.proofs.row_at.Symbol as row-at-def
-use Rattle.table.proofs.row_at.Symbol.{name as #table·row-at}
-use Rattle.table.proofs.row_at.Met as row-at-thm
+use Rattle.process_row.proofs.row_at as row-at
+use Rattle.process_row.proofs.row_at.Symbol as row-at-def
+use Rattle.process_row.proofs.row_at.Symbol.{name as #table·row-at}
+use Rattle.process_row.proofs.row_at.Met as row-at-thm
 use Rattle.table.proofs.fill_rows.Key.{name as #table·fill-rows}
 use Rattle.table.proofs.fill_rows as f
 use Rattle.table.proofs.fill_rows.Statement as stated
@@ -349,4 +349,4 @@ fill-rows-spec 𝓤 H 𝓜 𝓖 𝓡 =
     entered 𝓤 H (tripleOf 𝓤 H (𝓖 .A) f.signature (f.spec 𝓤 H (𝓖 .A) (𝓜 .mem) (𝓡 .run)))
     (tables 𝓤 H 𝓜 𝓡 code.env .C) (tables 𝓤 H 𝓜 𝓡 code.env .Λ) #table·fill-rows code.function (code.unfolded 𝓤 H 𝓜 𝓡)
     (meets 𝓤 H (𝓖 .A) (givenOf 𝓤 H 𝓜 𝓖) (𝓜 .mem) (𝓡 .run) (tablesOf 𝓤 H 𝓜 (tables 𝓤 H 𝓜 𝓡 code.env))
-    (cited 𝓤 H (RowAt 𝓤 H (𝓖 .A) (𝓜 .mem) (𝓡 .run)) 𝓜 𝓡 code.env #table·row-at row-at-def.routine code.calls-table·row-at (row-at-thm.met 𝓤 H 𝓜 𝓖 𝓡)))
+    (cited 𝓤 H (RowAt 𝓤 H (𝓖 .A) (𝓜 .mem) (𝓡 .run)) 𝓜 𝓡 code.env #table·row-at row-at-def.routine code.calls-process-row·row-at (row-at-thm.met 𝓤 H 𝓜 𝓖 𝓡)))

@@ -26,7 +26,7 @@ of-table-requires c κs = search needs
 
 returns : tie.Need-returns
 returns c =
-    let b = c .before .before in
+    let b = c .before .before .before in
     let t = b .before in
     let r = t .before .refusal-within .ensures in
     let n = c .before .process-count .ensures ∙ ap (λ (d : Description). length (processes (d .nest))) (b .description .ensures) in

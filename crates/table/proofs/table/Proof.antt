@@ -54,8 +54,8 @@ use Rattle.meaning.proofs.Answer.Laws as E′
 use Rattle.process_row.specs.declared.Shape.{Shape}
 use Rattle.process_row.specs.Rows.{rowFrom}
 use Rattle.table.specs.Planned.{Planned, planned-ready, planned-answer, planned-rows}
-use Rattle.table.proofs.Shape as D
-use Rattle.table.proofs.Shape.Laws as D′
+use Rattle.process_row.proofs.Shape as D
+use Rattle.process_row.proofs.Shape.Laws as D′
 use Rattle.table.proofs.LocalLent.{lend-local, local-back, share-local, shared-back}
 use Rattle.table.proofs.plan as plan
 use Rattle.table.proofs.plan.Symbol as plan-def
