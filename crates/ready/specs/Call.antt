@@ -33,6 +33,10 @@ use Rattle.ready_words.specs.Meaning.{moves-is}
 abbrev pub answerOf : ℕ → List ℕ → Readiness
 answerOf n words = Ready (onesOf (take 16 words)) (lowestFrom n 0 (take 16 words))
 
+-- nothing is refused: there are sixteen words
+pub many-words : (words : List ℕ) {n : ℕ} → n ≡ refusal (readyLengths (length words)) → n ≡ 0 → 16 ≤ length words
+many-words words e h = ltb-false (length words) 16 (passed 27 _ [] (λ g. omega arith) (sym e ∙ h) .0)
+
 module _ (b st : List ℕ) (z : Size) (words : List ℕ) where
   -- the words of the processes that can move
   abbrev pub markedBy : List ℕ
@@ -53,9 +57,6 @@ module _ (b st : List ℕ) (z : Size) (words : List ℕ) where
         go : (b : Bool) → n ≡ refusal ((27 if b) ∷ []) → (Refused n ≡ cond b (Refused 27) (answerOf (z .processes) markedBy)) × (words ≡ cond b words markedBy)
         go true k = (ap Refused k, refl)
         go false k = absurd (f k)
-
-    pub many-words : n ≡ 0 → 16 ≤ length words
-    many-words h = ltb-false (length words) 16 (passed 27 _ [] (λ g. omega arith) (sym e ∙ h) .0)
 
   pub answer-marked : {left : List ℕ} → 16 ≤ length words → left ≡ markedBy → (answerOf (z .processes) left ≡ answerBy) × (left ≡ leftBy)
   unfolding answerBy leftBy

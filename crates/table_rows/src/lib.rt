@@ -57,15 +57,15 @@ fn lend<'s>(s: &'s [u8], n: usize, board: u32) -> Listed
 
 // As many rows as are asked for, up to as many as there are.
 fn room(n: usize) -> usize
-    ensures { λ r. ⌜ r ≡ min n gaugeLimits .processes ⌝ }
+    ensures { λ r. ⌜ r ≡ min n (gaugeLimits .processes) ⌝ }
 {
     if n < PROCESSES { n } else { PROCESSES }
 }
 
 // The call is lent n marked rows, or 1,024 if that is fewer: there are never more processes.
 pub fn table<'s>(s: &'s [u8], n: usize, board: u32) -> Listed
-    ensures { λ r. ⌜ (r .answer ≡ table (limitsOf board) (now (s .entry)) (replicate (min n gaugeLimits .processes) marked) .answer)
-        × (r .rows ≡ table (limitsOf board) (now (s .entry)) (replicate (min n gaugeLimits .processes) marked) .rows ++ replicate (gaugeLimits .processes - min n gaugeLimits .processes) marked) ⌝ }
+    ensures { λ r. ⌜ (r .answer ≡ table (limitsOf board) (now (s .entry)) (replicate (min n (gaugeLimits .processes)) marked) .answer)
+        × (r .rows ≡ table (limitsOf board) (now (s .entry)) (replicate (min n (gaugeLimits .processes)) marked) .rows ++ replicate (gaugeLimits .processes - min n (gaugeLimits .processes)) marked) ⌝ }
 {
     lend(s, room(n), board)
 }

@@ -11,20 +11,32 @@ of-ready-requires : tie.Need-of-ready-requires
 of-ready-requires c κs = search needs
 
 returns : tie.Need-returns
-returns c = answer-few _ _ _ _ (c .before .of-ready .ensures) (c .if1 .taken)
+returns c =
+    let k = c .before in
+    let a = k .before .before .before .before .args in
+    answer-few (a .ports .now) (a .state .now) (a .z) (a .words .now) (k .of-ready .ensures) (c .if1 .taken)
 
 mark-ready-requires : tie.Need-mark-ready-requires
 mark-ready-requires c κs =
-    let k = c .before .before in (k .before .before .pre, many-words _ _ _ _ (k .of-ready .ensures) (c .before .if1 .left))
+    let k = c .before .before in
+    let s = k .before .before .before .before in (s .pre, many-words (s .args .words .now) (k .of-ready .ensures) (c .before .if1 .left))
 
 cast-processes : tie.Need-cast-processes
 cast-processes c = search needs
 
 count-requires : tie.Need-count-requires
-count-requires c κs = search needs
+count-requires c κs =
+    let q = c .before .before .before .before in
+    let k = q .before .before .before in
+    let a = k .before .before .before .before .args in
+    omega (arith, q .mark-ready .kept .1 .1 .1 .0, many-words (a .words .now) (k .of-ready .ensures) (q .before .before .if1 .left))
 
 lowest-requires : tie.Need-lowest-requires
-lowest-requires c κs = search needs
+lowest-requires c κs =
+    let q = c .before .before .before .before .before .before in
+    let k = q .before .before .before in
+    let a = k .before .before .before .before .args in
+    omega (arith, q .mark-ready .kept .1 .1 .1 .0, many-words (a .words .now) (k .of-ready .ensures) (q .before .before .if1 .left))
 
 same-length : tie.Need-same-length
 same-length c = search needs
@@ -32,8 +44,8 @@ same-length c = search needs
 returns-2 : tie.Need-returns-2
 returns-2 c =
     let q = c .before .before .before .before .before .before .before in
-    let a = q .before .before .before .before .before .before .args in
-    let m = answer-marked _ _ _ (a .words .now) (many-words _ _ _ _ (q .before .before .before .of-ready .ensures) (q .before .before .if1 .left)) (q .mark-ready .ensures) in
+    let a = q .before .before .before .before .before .before .before .args in
+    let m = answer-marked _ _ _ (a .words .now) (many-words (a .words .now) (q .before .before .before .of-ready .ensures) (q .before .before .if1 .left)) (q .mark-ready .ensures) in
     (ap₂ Ready (c .before .before .count .ensures) (c .lowest .ensures) ∙ m .0, m .1)
 
 pub ready-opened-spec : {M : Type 1} → statement M
