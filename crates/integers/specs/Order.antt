@@ -1,34 +1,15 @@
--- Products and the order on ℤ: signs, monotony, cancelling; parts of equal length one behind the other. Assumes nothing.
+-- Products and the order on ℤ: monotony, cancelling; parts of equal length one behind the other. Assumes nothing.
 use mathlib.Core.Path.{_≡_, refl, sym, _∙_}
 use Prim.Native.Nat.{ℕ, zero, suc, _+_, _*_, _≤_, _<_}
-use native.Mathlib.Nat.{mul-le-mul-left, mul-le-mul-right, mul-lt-mul-of-pos-left, le-of-mul-le-mul-left, eq-of-mul-eq-mul-left}
+use native.Mathlib.Nat.{mul-le-mul-right, mul-lt-mul-of-pos-left, le-of-mul-le-mul-left, eq-of-mul-eq-mul-left}
 use native.Mathlib.Omega.{arith}
 use lib.IntN.{ℤ, pos, negsuc, negℤ, _*ℤ_}
 use lib.Signed.{_≤ℤ_, _<ℤ_}
-use Rattle.integers.specs.Differences.{gaps, le-out, lt-out, lt-in}
+use Rattle.integers.specs.Differences.{gaps, lt-out}
 use Rattle.integers.specs.Variables.{linear}
 use Rattle.integers.specs.Ring.{ring, quotes, solve-by, given, Ex.below}
 
--- ---- the three cases
-
-pub data Sign (z : ℤ) : Type 0 where
-  negative : z <ℤ pos 0 → Sign z
-  null : z ≡ pos 0 → Sign z
-  positive : pos 0 <ℤ z → Sign z
-
-pub sign : (z : ℤ) → Sign z
-sign (pos zero) = null refl
-sign (pos (suc n)) = positive (lt-in (omega arith))
-sign (negsuc n) = negative (lt-in (omega arith))
-
--- ---- a product with a factor c ≥ 0, or c > 0, keeps the order
-
-pub mul-mono : (c a b : ℤ) → pos 0 ≤ℤ c → a ≤ℤ b → (c *ℤ a) ≤ℤ (c *ℤ b)
-mul-mono (pos n) a b h k = go a b k
-  where
-    go : (a b : ℤ) → a ≤ℤ b → (pos n *ℤ a) ≤ℤ (pos n *ℤ b)
-    go = linear 0 2 _ λ p m. simp gaps (λ h. omega (arith, mul-le-mul-left n h))
-mul-mono (negsuc n) a b h k = absurd (omega (arith, le-out h))
+-- ---- a product with a factor c > 0 keeps the order
 
 pub mul-less : (c a b : ℤ) → pos 0 <ℤ c → a <ℤ b → (c *ℤ a) <ℤ (c *ℤ b)
 mul-less (pos n) a b h k = go a b k
