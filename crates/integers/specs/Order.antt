@@ -1,8 +1,9 @@
 -- Products and the order on ℤ: monotony, cancelling; parts of equal length one behind the other. Assumes nothing.
-use mathlib.Core.Path.{_≡_, refl, sym, _∙_}
+use mathlib.Core.Path.{_≡_, refl, sym, _∙_, ap}
 use Prim.Native.Nat.{ℕ, zero, suc, _+_, _*_, _≤_, _<_}
 use native.Mathlib.Nat.{mul-le-mul-right, mul-lt-mul-of-pos-left, le-of-mul-le-mul-left, eq-of-mul-eq-mul-left}
 use native.Mathlib.Omega.{arith}
+use native.Mathlib.Decide.{decLe}
 use lib.IntN.{ℤ, pos, negsuc, negℤ, _*ℤ_}
 use lib.Signed.{_≤ℤ_, _<ℤ_}
 use Rattle.integers.specs.Differences.{gaps, lt-out}
@@ -57,3 +58,12 @@ cancel-zero c a h e = cancel c a (pos 0) h (e ∙ sym (times-zero c))
 -- part i of m parts of w words ends with the last or before it
 pub part : {i m : ℕ} → i < m → (w : ℕ) → i * w + w ≤ m * w
 part {i} {m} h w = omega (arith, mul-le-mul-right w h)
+
+-- places in parts of w words are the same only in the same part
+pub parts-apart : (w p a r b : ℕ) → a < w → b < w → p * w + a ≡ r * w + b → (p ≡ r) × (a ≡ b)
+parts-apart w p a r b h k e = go (decLe (suc p) r) (decLe (suc r) p)
+  where
+    go : Dec (suc p ≤ r) → Dec (suc r ≤ p) → (p ≡ r) × (a ≡ b)
+    go (yes l) m = absurd (omega (arith, part l w))
+    go (no l) (yes m) = absurd (omega (arith, part m w))
+    go (no l) (no m) = let z : p ≡ r = omega arith in (z, omega (arith, ap (λ (p : ℕ). p * w) z))

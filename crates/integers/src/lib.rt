@@ -11,7 +11,7 @@
 //   in the middle of a proof      omega (arith, zrules, sum-is a b)                            reads ≤ℤ, <ℤ and ≡ among the hypotheses
 //   products in an inequality     mul-less, mul-reflects                                       Order
 //   cancelling                    cancel, cancel-zero                                          Order
-//   i w + w ≤ m w, where i < m    part                                                         Order
+//   i w + w ≤ m w, where i < m    part; parts-apart                                            Order
 //   |x y| ≤ m n, |x + y| ≤ m + n  Abs-mul, Abs-add, Abs-neg, Abs-sub, Abs-wider                Bounds
 //   an i32 operation fits         fits tt (mul (at tt h) (at tt k)), with h : Abs x 64, ..     Words
 //   what an i32 expression is     (box tt (mul (at tt h) (at tt k))) .eq                       Words
