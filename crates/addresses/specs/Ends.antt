@@ -145,21 +145,6 @@ module _ {d : Description} (laid : Laid d) where
     own : rowIndex (space n) (processAt n s (entryAt d i j) (before n s y)) ≡ p
     own = ap (rowIndex (space n)) (process-at laid p i hp hi on) ∙ point-number laid p hp
 
-    pub taken-own : takenOut A q k ≡ Taken p i
-    taken-own =
-        at-port laid p i hp hi on (λ q k. takenOut A q k ≡ Taken p i)
-        (taken-at d i j hi j-lt (before n s y) (place-lt laid p i hp hi on) ∙ ap (λ (r : ℕ). Taken r i) own)
-
-    pub link-own : (x : ℕ) → linkPlace A q k x ≡ Place p i x
-    link-own x =
-        at-port laid p i hp hi on (λ q k. linkPlace A q k x ≡ Place p i x)
-        (link-at d i j hi j-lt (before n s y) (place-lt laid p i hp hi on) x ∙ ap (λ (r : ℕ). Place r i x) own)
-
-    pub given-own : putIn A q (suc k) ≡ Given p i
-    given-own =
-        at-port laid p i hp hi on (λ q k. putIn A q (suc k) ≡ Given p i)
-        (given-at d i j hi j-lt (before n s y) (place-lt laid p i hp hi on) ∙ ap (λ (r : ℕ). Given r i) own)
-
     -- into the link before it puts the input end or the process before it
     pub put-first : before n s y ≡ 0 → putIn A q k ≡ Sent q
     put-first z = at-port laid p i hp hi on (λ q k. putIn A q k ≡ Sent q) (ap (putIn A (pipeIndex d p i)) z)
@@ -251,9 +236,6 @@ module _ {d : Description} (laid : Laid d) where
     put-end =
         ap (putIn A r) (stops-on d i j hi hj ∙ entry-length)
         ∙ given-at d i j hi hj (reach (space n) (move n lane) e) (omega (arith, entry-length)) ∙ ap (λ (v : V2). Given (rowIndex (space n) v) i) last-is
-
-    pub taken-end : takenOut A r (stopsOn A r) ≡ Received r
-    taken-end = taken-beyond d i j hi hj (stopsOn A r) (omega (arith, stops-on d i j hi hj))
 
     pub link-end : (x : ℕ) → linkPlace A r (stopsOn A r) x ≡ End r x
     link-end x = link-beyond d i j hi hj (stopsOn A r) (omega (arith, stops-on d i j hi hj)) x

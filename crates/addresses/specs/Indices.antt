@@ -17,7 +17,7 @@ use Rattle.meaning.specs.Pipes.{entries}
 use Rattle.meaning.specs.Description.{noStream, streamsOf}
 use Rattle.meaning.specs.Accept.{stateWords}
 use Rattle.meaning.specs.Array.{runs, Array, arrayOf, processCount, streamCount}
-use Rattle.meaning.specs.State.{Firings, Taken, Given, Hand, Keep, Place, Sent, Received, End, stride, processStart, index, wordCount}
+use Rattle.meaning.specs.State.{Firings, Taken, Sent, stride, processStart, index, wordCount}
 use Rattle.lists.specs.Sums.{total-same, total-map-first, total-like, total-times}
 use Rattle.geometry.specs.Arrays.{streamAt}
 use Rattle.addresses.specs.Pipes.{base, before-from, all-from}
@@ -76,18 +76,6 @@ module _ (d : Description) where
   unfolding arrayOf
   taken-index p i = ap₂ (λ (a b : ℕ). a + 1 + b) (firings-index p) (total-map-first (λ h. 4 + h) (hop n) (streamsOf d) i)
 
-  pub given-index : (p i : ℕ) → index A (Given p i) ≡ portAt d p i + 1
-  given-index p i = ap (λ (c : ℕ). c + 1) (taken-index p i)
-
-  pub hand-index : (p i : ℕ) → index A (Hand p i) ≡ portAt d p i + 2
-  hand-index p i = ap (λ (c : ℕ). c + 2) (taken-index p i)
-
-  pub keep-index : (p i : ℕ) → index A (Keep p i) ≡ portAt d p i + 3
-  keep-index p i = ap (λ (c : ℕ). c + 3) (taken-index p i)
-
-  pub place-index : (p i x : ℕ) → index A (Place p i x) ≡ portAt d p i + 4 + x
-  place-index p i x = ap (λ (c : ℕ). c + 4 + x) (taken-index p i)
-
   -- ---- the words of a pipe
 
   start-is : processStart A (processCount A) ≡ length (processes n) * strideOf d
@@ -105,13 +93,6 @@ module _ (d : Description) where
       ∙ ap₂ _+_ (total-like (λ s. total (λ y. endWords n s) (entries n s)) (endsWords n) (streamsOf d) i noStream (omega arith) (λ k m. ends-of (streamAt d k)))
       (total-times (endWords n (streamAt d i)) (entries n (streamAt d i)) j hj))
       ∙ sym (add-assoc (length (processes n) * strideOf d) (total (endsWords n) (take i (streamsOf d))) (j * endWords n (streamAt d i)))
-
-  module _ (i j : ℕ) (hi : i < length (streamsOf d)) (hj : j ≤ length (entries n (streamAt d i))) where
-    pub received-index : index A (Received (base d i + j)) ≡ endAt d i j + 1
-    received-index = ap (λ (c : ℕ). c + 1) (sent-index i j hi hj)
-
-    pub end-index : (x : ℕ) → index A (End (base d i + j) x) ≡ endAt d i j + 2 + x
-    end-index x = ap (λ (c : ℕ). c + 2 + x) (sent-index i j hi hj)
 
   -- ---- all
 

@@ -21,7 +21,7 @@ use Rattle.meaning.specs.Body.{streamStart}
 use Rattle.meaning.specs.Array.{Pipe, stopOf, pipeOf, pipesFrom, Array, arrayOf, pipeNumber, noPipe, pipeAt, stopsOn, elementsOn, partStart}
 use Rattle.meaning.specs.Rules.{streamOn}
 use Rattle.lists.specs.Members.{map-at}
-use Rattle.lists.specs.Sums.{total-next, total-map-first, total-append, total-below, Part, part, total-first, total-second, total-like}
+use Rattle.lists.specs.Sums.{total-next, total-map-first, total-append, total-below, total-first, total-second, total-like}
 use Rattle.geometry.specs.Elements.{partOf, pipes-total}
 use Rattle.geometry.specs.Descriptions.{Laid}
 use Rattle.geometry.specs.Arrays.{streamAt, pipe-count}
@@ -112,10 +112,6 @@ module _ (d : Description) where
   -- where the next stream's begin
   pub base-next : (i : ℕ) → i < length (streamsOf d) → base d (suc i) ≡ base d i + length (entries (d .nest) (streamAt d i))
   base-next i h = total-next (entryCount (d .nest)) (streamsOf d) i noStream h
-
-  -- every pipe's number is that of a stream and an entry
-  pub pipe-part : (q : ℕ) → q < pipeNumber (arrayOf d) → Part (entryCount (d .nest)) (streamsOf d) noStream q
-  pipe-part q h = part (entryCount (d .nest)) (streamsOf d) noStream q (subst (λ (c : ℕ). q < c) (pipe-count d) h)
 
   module _ (i j : ℕ) (hi : i < length (streamsOf d)) (hj : j < length (entries (d .nest) (streamAt d i))) where
     abbrev n : Nest

@@ -15,7 +15,7 @@ use Rattle.meaning.specs.Space.{space, processes, count, computing}
 use Rattle.meaning.specs.Streams.{stationary, move, hop}
 use Rattle.meaning.specs.Pipes.{reach, pipe, before, isPipe, entries, pipeElements}
 use Rattle.meaning.specs.Description.{streamsOf}
-use Rattle.meaning.specs.Array.{runs, Stop, Pipe, rowSoak, stopOf, Array, arrayOf, runsOf, countAt, instanceAt, noStop, pipeAt, stopsOn, elementsOn, stopAt, pipeThrough, placeOn}
+use Rattle.meaning.specs.Array.{runs, Stop, Pipe, rowSoak, stopOf, Array, arrayOf, runsOf, countAt, instanceAt, noStop, pipeAt, elementsOn, stopAt, pipeThrough, placeOn}
 use Rattle.meaning.specs.Rules.{processOn, streamOn}
 use Rattle.lists.specs.Members.{map-at}
 use Rattle.geometry.specs.Processes.{runAt}
@@ -26,7 +26,7 @@ use Rattle.geometry.specs.Elements.{entry-pipe, entry-is, entry-same}
 use Rattle.geometry.specs.Descriptions.{Laid}
 use Rattle.geometry.specs.Wiring.{processAt}
 use Rattle.geometry.specs.Arrays.{streamAt}
-use Rattle.addresses.specs.Pipes.{base, entryAt, pipe-at, stream-on, hop-on, stops-on, elements-on}
+use Rattle.addresses.specs.Pipes.{base, entryAt, pipe-at, stream-on, hop-on, elements-on}
 use Rattle.addresses.specs.Through.{pointOf, entryNumber, pipeIndex, point-inside, point-number, entry-lt, entry-is-at, place-lt, process-at, through-is, place-through}
 
 -- the stop at place k of pipe base i + j
@@ -113,8 +113,3 @@ module _ {d : Description} (laid : Laid d) where
     length-is =
         let h = laid .stream i hi in
         ap (λ (e : V2). length (pipe n s e)) (entry-is-at laid p i hp hi on) ∙ ap length (entry-same h (point-inside laid p hp)) ∙ pipe-length h y
-
-    pub stops-is : stopsOn A q ≡ before n s y + suc (reach (space n) (move n s) y)
-    stops-is =
-        at-port (λ q k. stopsOn A q ≡ before n s y + suc (reach (space n) (move n s) y))
-        (stops-on d i (entryNumber d p i) hi (entry-lt laid p i hp hi on) ∙ length-is)

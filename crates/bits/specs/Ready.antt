@@ -8,7 +8,7 @@ use native.Mathlib.Numerals.{add-one}
 use native.Mathlib.Omega.{arith}
 use lib.Bits.{bitOr}
 use lib.Dec.{eqb, ltb}
-use lib.ListN.{length, getD, take, drop, replicate, length-drop, length-set}
+use lib.ListN.{length, getD, take, drop, replicate, length-set}
 use lib.Seq.{take-at}
 use borrow.Author.Tests.{eq-eqb, eqb-true, eqb-false, ltb-true, ltb-false}
 use Rattle.meaning.specs.Lists.{filter, position, numbers}
@@ -52,9 +52,6 @@ marked-length f (suc k) words = go (f k) ∙ marked-length f k words
     go : (b : Bool) → length (cond b (marked before k) before) ≡ length before
     go true = length-set before (k / 64) (bitOr (getD before (k / 64) 0) (2 ^ (k % 64)))
     go false = refl
-
-pub cleared-length : (words : List ℕ) → 16 ≤ length words → length (cleared words) ≡ length words
-cleared-length words h = simp length-drop (omega arith)
 
 -- ---- what the loop leaves
 

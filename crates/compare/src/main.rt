@@ -7,7 +7,6 @@
 ghost use Prim.Native.Nat.{_≤_, _<_, _+_};
 ghost use lib.ListN.{length};
 ghost use Rattle.meaning.specs.Limits.{gaugeLimits, elementsMost};
-use integers::V2;
 use integers::V3;
 use layout::SPANS;
 use libc::STDIN_FILENO;

@@ -4,7 +4,6 @@
 //
 //   Offsets     where the parts begin, of sizes in range
 //   Filled      lists with a part in use and a pad behind it
-//   Scans       searches as loops run them that stop at the first answer
 //   Ranges      the range of each word, part by part
 //   Refusals    the refusals 1 to 5 in stages, which the crate `refuse_words` tests
 //   Ranged      what a refusal of 0 says of a description, as one record of ranges

@@ -6,15 +6,14 @@ use Prim.Native.Nat.{ℕ, _+_, _≤_, _<_}
 use native.Mathlib.Omega.{arith}
 use lib.ListN.{length, getD}
 use Rattle.integers.specs.Fill.{fillBy, fill-length, fill-at}
-use Rattle.integers.specs.Vectors.{zero2, zero3, image}
+use Rattle.integers.specs.Vectors.{zero2, zero3}
 use Rattle.integers.specs.declared.V3.{V3}
 use Rattle.integers.specs.declared.V2.{V2}
-use Rattle.integers.specs.declared.Matrix.{Matrix}
 use Rattle.meaning.specs.declared.Nest.{Nest}
 use Rattle.meaning.specs.declared.Stream.{Stream}
 use Rattle.meaning.specs.declared.Description.{Description}
 use Rattle.meaning.specs.Loops.{instances, placeOf}
-use Rattle.meaning.specs.Space.{points, rowIndex, boxOf, space, processes, first}
+use Rattle.meaning.specs.Space.{space, processes, first}
 use Rattle.meaning.specs.Streams.{elements}
 use Rattle.meaning.specs.Pipes.{pipeElements, soak}
 use Rattle.geometry.specs.Places.{ahead, getD-in, ahead-lt}
@@ -25,8 +24,7 @@ use Rattle.geometry.specs.Segments.{first-at}
 use Rattle.geometry.specs.Processes.{RunAt, is-computing}
 use Rattle.geometry.specs.Pipes.{Accepted, still-element, touched-in}
 use Rattle.geometry.specs.Soaks.{soak-first}
-use Rattle.numbering.specs.declared.Extent.{Extent}
-use Rattle.numbering.specs.Extents.{boxed, Numbered, Spanning, box-spanning, image-inside}
+use Rattle.numbering.specs.Extents.{Numbered, image-inside}
 use Rattle.layout.specs.Spans.{processOf, Spans}
 use Rattle.lanes.specs.declared.Flow.{Flow}
 use Rattle.lanes.specs.Held.{entryNumber}
@@ -34,22 +32,10 @@ use Rattle.lanes.specs.Flow.{Laid, Flows, Seen}
 use Rattle.pipes.specs.Elements.{At, Near, good, entry-lt, held-le, total-still, still-of}
 use Rattle.meaning.specs.Description.{streamsOf, noStream}
 use Rattle.meaning.specs.Body.{streamStart}
-use Rattle.meaning.specs.Points.{Inside}
 use Rattle.figures.specs.Shares.{Described}
 use Rattle.pipe_parts.specs.Starts.{startAt, start-most}
 use Rattle.element_places.specs.Spread.{spread, spread-like}
 use Rattle.element_places.specs.Order.{instanceOf, processNumber, touchedBy, elementNumber, indexOf, placeFor, stream-of, stream-fits}
-
--- the image p of instance k lies in its box, and has its number there
-module _ (n : Nest) (m : Matrix) (e : Extent) (k : ℕ) {p : V2} (h : Numbered n m k) (b : boxed e ≡ boxOf n m) (i : p ≡ image m (getD (instances n) k zero3)) where
-  pub image-lies : Spanning (boxed e) × Inside (boxed e) p
-  image-lies = rw (b, i) (box-spanning (h .bounded) (h .rows), image-inside h)
-
-  pub image-number : {r : ℕ} → r ≡ rowIndex (boxed e) p
-      → (r ≡ rowIndex (boxOf n m) (image m (getD (instances n) k zero3))) × (r < length (points (boxOf n m)))
-  image-number g =
-      let q = g ∙ ap₂ rowIndex b i in
-      (q, subst (λ (r : ℕ). r < length (points (boxOf n m))) (sym q) (row-lt (boxOf n m) (image m (getD (instances n) k zero3)) (image-inside h)))
 
 -- ---- an instance and its process
 

@@ -8,34 +8,21 @@
 //   Fired     what the functions are lent, and what they find of an instance
 ghost use mathlib.Core.Path.{_≡_};
 ghost use Prim.Native.Nat.{_≤_, _<_};
-ghost use lib.ListN.{length, getD};
+ghost use lib.ListN.{length};
 ghost use Rattle.meaning.specs.Limits.{elementsMost};
-ghost use Rattle.integers.specs.Vectors.{zero3, image};
 ghost use Rattle.meaning.specs.Loops.{instances};
-ghost use Rattle.meaning.specs.Space.{points, rowIndex, boxOf};
 ghost use Rattle.layout.specs.Spans.{Spans, spanWords};
-ghost use Rattle.numbering.specs.Extents.{Numbered, boxed};
 ghost use Rattle.element_places.specs.Spread.{spread};
 ghost use Rattle.element_places.specs.Order.{elementNumber, indexOf, placeFor, PlacesOf, Placeable};
 ghost use Rattle.element_places.specs.Fired.{Fired, Placing, Putting, Streaming, placeBy};
-use integers::Matrix;
 use lanes::Flow;
 use lanes::LANES;
 use meaning::Description;
 use meaning::Nest;
 use meaning::PROCESSES;
 use meaning::Stream;
-use numbering::Extent;
 
 // ---- one instance
-
-// The number in its box of the image of instance k.
-fn number_of(n: Nest, m: Matrix, e: Extent, k: u32) -> u32
-    requires { ⌜ (Numbered n m k) × (boxed e ≡ boxOf n m) ⌝ }
-    ensures { λ r. ⌜ (r ≡ rowIndex (boxOf n m) (image m (getD (instances n) k zero3))) × (r < length (points (boxOf n m))) ⌝ }
-{
-    numbering::row_number(e, vectors::image_of(m, numbering::instance(n, k)))
-}
 
 // The index of its element on the pipe through its process p.
 fn index_of(f: Flow, spans: &[u32], lanes: &[u32], k: u32, p: usize) -> u32
@@ -65,7 +52,7 @@ fn place_of(f: Flow, spans: &[u32], lanes: &[u32], starts: &[u32], k: u32) -> u3
     let n = f.nest;
     let place = n.place;
     let space = f.space;
-    let p = number_of(n, place, space, k) as usize;
+    let p = numbering::number_of(n, place, space, k) as usize;
     let e = pipes::entry_at(f, spans, lanes, p);
     starts[e] + index_of(f, spans, lanes, k, p)
 }
@@ -85,7 +72,7 @@ fn put_places(f: Flow, spans: &[u32], lanes: &[u32], starts: &[u32], first: u32,
     let mut k: u32 = 0;
     while k < count {
         let place = place_of(f, spans, lanes, starts, k);
-        places[(first + number_of(n, map, elements, k)) as usize] = place;
+        places[(first + numbering::number_of(n, map, elements, k)) as usize] = place;
         k += 1;
     }
 }

@@ -10,7 +10,6 @@ use Rattle.meaning.specs.declared.Nest.{Nest}
 use Rattle.meaning.specs.declared.Stream.{Stream}
 use Rattle.meaning.specs.declared.Description.{Description}
 use Rattle.meaning.specs.declared.Figures.{Figures}
-use Rattle.meaning.specs.declared.Limits.{Limits}
 use Rattle.meaning.specs.Limits.{gaugeLimits, processWordsMost, endWordsMost}
 use Rattle.meaning.specs.Lists.{total}
 use Rattle.meaning.specs.Loops.{instances}

@@ -22,12 +22,12 @@ use Rattle.meaning.specs.Streams.{stationary, move, elements, pass}
 use Rattle.meaning.specs.Pipes.{pipe, before, isPipe, isEntry, entries, uses, usedOn, backward, pipeElements}
 use Rattle.meaning.specs.Points.{Inside, RowOrder as Row}
 use Rattle.meaning.specs.Sorted.{Sorted, Distinct}
-use Rattle.lists.specs.Members.{in-filter, filter-in, yes-any, in-each, each-in, each-length, each-part}
+use Rattle.lists.specs.Members.{in-filter, filter-in, yes-any, in-each, each-in, each-length}
 use Rattle.geometry.specs.Sorting.{sorted-with, sorted-filter, sorted-each, distinct-map, sorted-reverse, fewer}
 use Rattle.geometry.specs.Numbers.{and-left, both, zero-shift, shift-neg, neg-not}
 use Rattle.geometry.specs.Places.{ahead, getD-in, getD-ahead, ahead-lt, ahead-getD}
 use Rattle.geometry.specs.Boxes.{row-distinct, row-distinct', inside-yes, inside-in, inside-points, points-inside, points-sorted}
-use Rattle.geometry.specs.RowOrder.{row-at, row-lt, row-number}
+use Rattle.geometry.specs.RowOrder.{row-at, row-number}
 use Rattle.geometry.specs.Segments.{at-box, first-at}
 use Rattle.geometry.specs.Processes.{RunAt, is-computing}
 use Rattle.geometry.specs.Reach.{reach-in, reach-le, back-shift}
@@ -212,13 +212,6 @@ module _ {n : Nest} {s : Stream} (h : Accepted n s) where
 
   -- ---- pipe order is a rearrangement of element order: from numbers to numbers and back
 
-  pub number-lt : (k : ℕ) → k < length (elements n s) → elementNumber n s k < length (elements n s)
-  number-lt k l = row-lt (boxOf n (s .map)) _ (points-inside (boxOf n (s .map)) _
-      (in-elements _ (getD-in (byPipe n s) k zero2 (omega (arith, pipes-length)))))
-
-  pub waiting-lt : (j : ℕ) → j < length (elements n s) → waitingPlace n s j < length (elements n s)
-  waiting-lt j l = omega (arith, pipes-length, ahead-lt _ (elements-in _ (getD-in (elements n s) j zero2 l)))
-
   pub waiting-number : (k : ℕ) → k < length (elements n s) → waitingPlace n s (elementNumber n s k) ≡ k
   waiting-number k l =
       let e = getD (byPipe n s) k zero2 in
@@ -232,8 +225,3 @@ module _ {n : Nest} {s : Stream} (h : Accepted n s) where
       let e = getD (elements n s) j zero2 in
       ap (rowIndex (boxOf n (s .map))) (getD-ahead e zero2 (elements-in e (getD-in (elements n s) j zero2 l)))
       ∙ row-number (boxOf n (s .map)) j zero2 l
-
-  -- element i of pipe q waits at place i of its part
-  pub part-at : (q i : ℕ) → q < length (entries n s) → i < length (pipeElements n s (getD (entries n s) q zero2))
-      → getD (byPipe n s) (partOf n s q + i) zero2 ≡ getD (pipeElements n s (getD (entries n s) q zero2)) i zero2
-  part-at q i k l = each-part (pipeElements n s) (entries n s) q i zero2 zero2 k l

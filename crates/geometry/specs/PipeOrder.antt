@@ -7,14 +7,13 @@ use Prim.Native.Nat.{ℕ, suc, _+_, _-_, _≤_, _<_}
 use native.Mathlib.Nat.{add-left-cancel}
 use native.Mathlib.Omega.{arith}
 use native.Mathlib.Decide.{decLe}
-use lib.Dec.{eqb, eqb→eq, eqb-refl}
 use lib.ListN.{length, getD}
 use Rattle.integers.specs.Vectors.{zero2}
 use Rattle.integers.specs.declared.V2.{V2}
 use Rattle.meaning.specs.declared.Nest.{Nest}
 use Rattle.meaning.specs.declared.Description.{Description}
 use Rattle.meaning.specs.declared.Stream.{Stream}
-use Rattle.meaning.specs.Lists.{position, total, each, numbers}
+use Rattle.meaning.specs.Lists.{total, each, numbers}
 use Rattle.meaning.specs.Space.{rowIndex, boxOf}
 use Rattle.meaning.specs.Streams.{elements}
 use Rattle.meaning.specs.Pipes.{entries, pipeElements}
@@ -25,7 +24,7 @@ use Rattle.meaning.specs.Points.{Inside}
 use Rattle.meaning.specs.Sorted.{Sorted.none, Distinct}
 use Rattle.lists.specs.Members.{map-in, numbers-in, in-numbers, numbers-length}
 use Rattle.geometry.specs.Sorting.{sorted-map, sorted-append, distinct-map, numbers-sorted, fewer}
-use Rattle.geometry.specs.Places.{getD-in, found, distinct-at, position-is}
+use Rattle.geometry.specs.Places.{getD-in}
 use Rattle.geometry.specs.Boxes.{points-inside}
 use Rattle.geometry.specs.RowOrder.{row-lt, row-number}
 use Rattle.geometry.specs.Pipes.{Accepted}
@@ -161,22 +160,3 @@ module _ {d : Description} (laid : Laid d) where
     where
       less : (i j : ℕ) → i < j → i ≡ j → ⊥
       less i j h e = omega arith
-
-  -- from a place in it to an element's number and back
-  pub place-number : (k : ℕ) → k < elementCount (d .nest) (streamsOf d)
-      → position (λ j. eqb j (getD (pipeOrder (arrayOf d)) k 0)) (pipeOrder (arrayOf d)) ≡ k
-  place-number k h =
-      let l : k < length (pipeOrder (arrayOf d)) = omega (arith, list-length) in
-      position-is (λ j. eqb j (getD (pipeOrder (arrayOf d)) k 0)) (pipeOrder (arrayOf d)) k 0 l (eqb-refl (getD (pipeOrder (arrayOf d)) k 0))
-      (λ j c t. not-same j c (distinct-at numbers-once j k 0 (omega arith) l
-      (eqb→eq (getD (pipeOrder (arrayOf d)) j 0) (getD (pipeOrder (arrayOf d)) k 0) t)))
-    where
-      not-same : (j : ℕ) → j < k → j ≡ k → ⊥
-      not-same j c e = omega arith
-
-  pub number-place : (e : ℕ) → e < elementCount (d .nest) (streamsOf d)
-      → getD (pipeOrder (arrayOf d)) (position (λ j. eqb j e) (pipeOrder (arrayOf d))) 0 ≡ e
-  number-place e h =
-      let r = found 0 (numbers-all e h) in
-      ap (λ (i : ℕ). getD (pipeOrder (arrayOf d)) i 0)
-      (ap (λ (e : ℕ). position (λ j. eqb j e) (pipeOrder (arrayOf d))) (sym (r .is)) ∙ place-number (r .at) (omega (arith, r .lt, list-length))) ∙ r .is

@@ -1,9 +1,5 @@
 // The instance that a process runs as its f-th: its first one, and f times the increment on from there. In specs/, Runs says when the numbers fit.
 ghost use mathlib.Core.Path.{_≡_};
-ghost use Prim.Native.Nat.{_≤_};
-ghost use lib.IntN.{pos};
-ghost use Rattle.meaning.specs.Limits.{gaugeLimits};
-ghost use Rattle.integers.specs.Vectors.{shift3};
 ghost use Rattle.meaning.specs.Space.{first};
 ghost use Rattle.geometry.specs.Processes.{runAt};
 ghost use Rattle.vectors.specs.Within.{Within};
@@ -12,18 +8,6 @@ ghost use Rattle.instances.specs.Runs.{Computes, Runs};
 use integers::V3;
 use layout::FIRSTS;
 use meaning::Nest;
-
-// The point that lies k times d on from x.
-pub fn later(x: V3, d: V3, k: u32) -> V3
-    requires { ⌜ (Within 64 x) × (Within 200 d) × (k ≤ gaugeLimits .instances) ⌝ }
-    ensures { λ r. ⌜ r ≡ shift3 x (pos k) d ⌝ }
-{
-    V3 {
-        x: x.x + k as i32 * d.x,
-        y: x.y + k as i32 * d.y,
-        z: x.z + k as i32 * d.z,
-    }
-}
 
 // The first instance of process p.
 pub fn first_of(n: Nest, spans: &[u32], p: usize) -> V3
@@ -38,5 +22,5 @@ pub fn instance_of(n: Nest, increment: V3, spans: &[u32], p: usize, f: usize) ->
     requires { ⌜ Runs n increment (now spans) p f ⌝ }
     ensures { λ r. ⌜ r ≡ runAt n (processOf n p) f ⌝ }
 {
-    later(first_of(n, spans, p), increment, f as u32)
+    vectors::later(first_of(n, spans, p), increment, f as u32)
 }

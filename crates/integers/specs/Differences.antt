@@ -6,7 +6,7 @@ use mathlib.Core.Bool.{Bool, true, false, not, cond}
 use Prim.Native.Nat.{ℕ, zero, suc, _+_, _*_, _-_, _≤_, _<_}
 use native.Mathlib.Omega.{arith}
 use lib.Dec.{T, ltb, ltb→lt, nltb→le, leb→le, le→leb, lt→ltb}
-use lib.IntN.{ℤ, pos, negsuc, negℤ, natAbs, _+ℤ_, _-ℤ_, _*ℤ_, subℕ}
+use lib.IntN.{ℤ, pos, negsuc, negℤ, natAbs, _+ℤ_, _*ℤ_, subℕ}
 use lib.Signed.{_≤ℤ_, _<ℤ_, leZ, ltZ}
 
 pub gap : ℕ → ℕ → ℤ
@@ -199,6 +199,3 @@ pub ruleset parts = (up-gap, dn-gap, abs-gap, Abs-iff)
 -- what a sum and a difference are: a fact for `omega`'s list, beside `zrules`, for each compound term of a hypothesis
 pub sum-is : (a b : ℤ) → Is (a +ℤ b) (up a + up b) (dn a + dn b)
 sum-is a b = Is-add (Is-self a) (Is-self b)
-
-pub difference-is : (a b : ℤ) → Is (a -ℤ b) (up a + dn b) (dn a + up b)
-difference-is a b = Is-add (Is-self a) (Is-neg (Is-self b))

@@ -8,5 +8,4 @@ pub mod Bounds
 pub mod Words
 pub mod Bytes
 pub mod Fill
-pub mod Search
 pub mod Examples

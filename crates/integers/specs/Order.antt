@@ -1,34 +1,16 @@
--- Products and the order on ℤ: signs, monotony, cancelling; parts of equal length one behind the other. Assumes nothing.
-use mathlib.Core.Path.{_≡_, refl, sym, _∙_}
+-- Products and the order on ℤ: monotony, cancelling; parts of equal length one behind the other. Assumes nothing.
+use mathlib.Core.Path.{_≡_, refl, sym, _∙_, ap}
 use Prim.Native.Nat.{ℕ, zero, suc, _+_, _*_, _≤_, _<_}
-use native.Mathlib.Nat.{mul-le-mul-left, mul-le-mul-right, mul-lt-mul-of-pos-left, le-of-mul-le-mul-left, eq-of-mul-eq-mul-left}
+use native.Mathlib.Nat.{mul-le-mul-right, mul-lt-mul-of-pos-left, le-of-mul-le-mul-left, eq-of-mul-eq-mul-left}
 use native.Mathlib.Omega.{arith}
+use native.Mathlib.Decide.{decLe}
 use lib.IntN.{ℤ, pos, negsuc, negℤ, _*ℤ_}
 use lib.Signed.{_≤ℤ_, _<ℤ_}
-use Rattle.integers.specs.Differences.{gaps, le-out, lt-out, lt-in}
+use Rattle.integers.specs.Differences.{gaps, lt-out}
 use Rattle.integers.specs.Variables.{linear}
 use Rattle.integers.specs.Ring.{ring, quotes, solve-by, given, Ex.below}
 
--- ---- the three cases
-
-pub data Sign (z : ℤ) : Type 0 where
-  negative : z <ℤ pos 0 → Sign z
-  null : z ≡ pos 0 → Sign z
-  positive : pos 0 <ℤ z → Sign z
-
-pub sign : (z : ℤ) → Sign z
-sign (pos zero) = null refl
-sign (pos (suc n)) = positive (lt-in (omega arith))
-sign (negsuc n) = negative (lt-in (omega arith))
-
--- ---- a product with a factor c ≥ 0, or c > 0, keeps the order
-
-pub mul-mono : (c a b : ℤ) → pos 0 ≤ℤ c → a ≤ℤ b → (c *ℤ a) ≤ℤ (c *ℤ b)
-mul-mono (pos n) a b h k = go a b k
-  where
-    go : (a b : ℤ) → a ≤ℤ b → (pos n *ℤ a) ≤ℤ (pos n *ℤ b)
-    go = linear 0 2 _ λ p m. simp gaps (λ h. omega (arith, mul-le-mul-left n h))
-mul-mono (negsuc n) a b h k = absurd (omega (arith, le-out h))
+-- ---- a product with a factor c > 0 keeps the order
 
 pub mul-less : (c a b : ℤ) → pos 0 <ℤ c → a <ℤ b → (c *ℤ a) <ℤ (c *ℤ b)
 mul-less (pos n) a b h k = go a b k
@@ -76,3 +58,12 @@ cancel-zero c a h e = cancel c a (pos 0) h (e ∙ sym (times-zero c))
 -- part i of m parts of w words ends with the last or before it
 pub part : {i m : ℕ} → i < m → (w : ℕ) → i * w + w ≤ m * w
 part {i} {m} h w = omega (arith, mul-le-mul-right w h)
+
+-- places in parts of w words are the same only in the same part
+pub parts-apart : (w p a r b : ℕ) → a < w → b < w → p * w + a ≡ r * w + b → (p ≡ r) × (a ≡ b)
+parts-apart w p a r b h k e = go (decLe (suc p) r) (decLe (suc r) p)
+  where
+    go : Dec (suc p ≤ r) → Dec (suc r ≤ p) → (p ≡ r) × (a ≡ b)
+    go (yes l) m = absurd (omega (arith, part l w))
+    go (no l) (yes m) = absurd (omega (arith, part m w))
+    go (no l) (no m) = let z : p ≡ r = omega arith in (z, omega (arith, ap (λ (p : ℕ). p * w) z))

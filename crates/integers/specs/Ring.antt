@@ -284,10 +284,6 @@ pub literal : (ρ : ℕ → ℤ) (n : ℕ) → pos n ≡ value ρ (plain n)
 unfolding value
 literal ρ n = refl
 
-pub negative : (ρ : ℕ → ℤ) (n : ℕ) → negsuc n ≡ value ρ (below n)
-unfolding value
-negative ρ n = refl
-
 -- a claim about vectors and numbers, at variables
 pub ring : (n k : ℕ) (P : Claim n k) → ((ρ : ℕ → ℤ) → At n k P (λ i. value ρ (var i))) → Always n k P
 unfolding value

@@ -1,7 +1,7 @@
 -- Signed machine words of 32 bits. The code's sums and products are towers of `toZ w32 (ofZ w32 ..)`: `Holds t z n` says that the tower t is
 -- the number z, and that |z| ≤ n. It is built along the code, `box` takes a tower off, and `tt` checks each bound below 2^31. Assumes nothing.
 use mathlib.Core.Path.{_≡_, refl, sym, _∙_, ap, ap₂, subst}
-use mathlib.Core.Bool.{Bool, true, false, not, cond, true≢false}
+use mathlib.Core.Bool.{Bool, true, false, not, true≢false}
 use Prim.Native.Nat.{ℕ, suc, _+_, _*_, _-_, _^_, _≤_, _<_}
 use native.Mathlib.Nat.{le-refl}
 use native.Mathlib.Decide.{ℕ-discrete}
@@ -9,13 +9,13 @@ use native.Mathlib.Omega.{arith}
 use lib.Dec.{T, ltb, ltb→lt, eqb}
 use borrow.Author.Tests.{eq-eqb, ne-eqb, eqb-true}
 use lib.IntN.{ℤ, pos, negsuc, negℤ, natAbs, +ℤ-idl, _+ℤ_, _-ℤ_, _*ℤ_}
-use lib.Signed.{mag, _≤ℤ_, _<ℤ_, ltZ, ltZ-no, nonNeg, yes-nonNeg, quotZ}
+use lib.Signed.{mag, _≤ℤ_, _<ℤ_, ltZ, ltZ-no, nonNeg, yes-nonNeg}
 use mir.Syntax.{w32}
 use mir.Val.{SFits, Fits, toZ, ofZ}
 use mir.ValLaws.{toZ-pos}
 use mir.Facts.{toZ-ofZ}
 use Rattle.integers.specs.Differences.{Abs, Is-add, Is-neg, Is-self, Is-pos, Is-eq, lt-out}
-use Rattle.integers.specs.Bounds.{abs-neg, Abs-neg, Abs-add, Abs-sub, Abs-mul, Abs-quot}
+use Rattle.integers.specs.Bounds.{abs-neg, Abs-neg, Abs-add, Abs-sub, Abs-mul}
 
 pub record Holds (t z : ℤ) (n : ℕ) : Type 0 where
   pub eq : t ≡ z
@@ -61,9 +61,6 @@ sub h k = record { eq = ap₂ _-ℤ_ (h .eq) (k .eq); le = Abs-sub (h .le) (k .l
 -- −x, as the code has it
 pub minus : {t z : ℤ} {m : ℕ} → Holds t z m → Holds (pos 0 -ℤ t) (negℤ z) m
 minus {t} h = record { eq = +ℤ-idl (negℤ t) ∙ ap negℤ (h .eq); le = Abs-neg (h .le) }
-
-pub quotient : {t z u : ℤ} {d m k : ℕ} → Holds t z m → Holds u (pos d) k → Holds (quotZ t u) (quotZ z (pos d)) m
-quotient {d} h k = record { eq = ap₂ quotZ (h .eq) (k .eq); le = Abs-quot d (h .le) }
 
 -- bits below half, as a signed number
 pub bits : {m n : ℕ} → T (ltb n (2 ^ 31)) → m ≤ n → Holds (toZ w32 m) (pos m) n
@@ -146,10 +143,3 @@ eqZ→eq (pos m) (pos n) e = ap pos (eqb-true m n e)
 eqZ→eq (pos m) (negsuc n) e = absurd (true≢false (sym e))
 eqZ→eq (negsuc m) (pos n) e = absurd (true≢false (sym e))
 eqZ→eq (negsuc m) (negsuc n) e = ap negsuc (eqb-true m n e)
-
--- the tests of a chain of `&&`, each from what a call ensures of its flag f: one that holds, and one that fails
-pub and-then : {f a r b : Bool} → f ≡ a → f ≡ true → r ≡ b → r ≡ cond a b false
-and-then {b} e t h = h ∙ ap (λ (x : Bool). cond x b false) (sym (sym e ∙ t))
-
-pub and-fails : {f a : Bool} (b : Bool) → f ≡ a → f ≡ false → false ≡ cond a b false
-and-fails b e t = ap (λ (x : Bool). cond x b false) (sym (sym e ∙ t))

@@ -9,16 +9,15 @@
 //   a linear fact                 f = linear 0 3 _ λ p m. simp gaps (omega arith)              hypotheses left of → included; Variables
 //   with |z| or a size            simp (gaps, parts) (omega arith)                             Differences
 //   in the middle of a proof      omega (arith, zrules, sum-is a b)                            reads ≤ℤ, <ℤ and ≡ among the hypotheses
-//   products in an inequality     mul-mono, mul-less, mul-reflects; sign z for three cases     Order
+//   products in an inequality     mul-less, mul-reflects                                       Order
 //   cancelling                    cancel, cancel-zero                                          Order
-//   i w + w ≤ m w, where i < m    part                                                         Order
+//   i w + w ≤ m w, where i < m    part; parts-apart                                            Order
 //   |x y| ≤ m n, |x + y| ≤ m + n  Abs-mul, Abs-add, Abs-neg, Abs-sub, Abs-wider                Bounds
 //   an i32 operation fits         fits tt (mul (at tt h) (at tt k)), with h : Abs x 64, ..     Words
 //   what an i32 expression is     (box tt (mul (at tt h) (at tt k))) .eq                       Words
 //   what a comparison said        less-of, not-less-of, eq-test                                Words
 //   a call's i32 result           held (c .f .ok) (c .f .ensures)                              Words
 //   a loop that stores            fillBy; fill-step in the invariant, fill-done at the end     Fill
-//   a loop that searches          search; search-step in the invariant, search-is at the end   Search
 //
 // In `ring n k` and `linear n k` the first n variables are vectors, the next k numbers; n and k are literals. A ring identity has any size;
 // a linear fact has at most 64 terms once multiplied out. Examples has one of each.

@@ -12,7 +12,6 @@
 ghost use mathlib.Core.Path.{_≡_};
 ghost use Prim.Native.Nat.{_<_};
 ghost use lib.ListN.{length};
-ghost use Rattle.integers.specs.Vectors.{neg2};
 ghost use Rattle.meaning.specs.Space.{processes};
 ghost use Rattle.meaning.specs.Pipes.{backward};
 ghost use Rattle.vectors.specs.Within.{Within2};
@@ -51,13 +50,6 @@ pub struct Flow {
     pub turned: bool,
 }
 
-fn negated(v: V2) -> V2
-    requires { ⌜ Within2 4800 v ⌝ }
-    ensures { λ r. ⌜ (r ≡ neg2 v) × (Within2 4800 r) ⌝ }
-{
-    V2 { a: -v.a, b: -v.b }
-}
-
 // Whether a vector leads back in row order.
 fn backward(v: V2) -> bool
     requires { ⌜ Within2 4800 v ⌝ }
@@ -80,9 +72,9 @@ pub fn flow_of(n: Nest, s: Stream) -> Flow
         space: numbering::extent_of(n, place),
         elements: numbering::extent_of(n, map),
         way: way,
-        back: negated(way),
+        back: vectors::opposite(way),
         pass: pass,
-        against: negated(pass),
+        against: vectors::opposite(pass),
         moving: stream_lines::moves(n, s),
         turned: backward(way),
     }
@@ -97,7 +89,7 @@ fn entry_number(f: Flow, p: u32) -> u32
     let back = f.back;
     let y = layout::point_at(space, p);
     let k = layout::reach_of(space, back, y);
-    numbering::row_number(space, layout::moved(y, back, k))
+    numbering::row_number(space, vectors::moved(y, back, k))
 }
 
 // Process p, whose line enters at e, joins its lane.

@@ -9,14 +9,12 @@
 //   Spans     what the words say of the processes: `Spans`
 ghost use mathlib.Core.Path.{_≡_};
 ghost use Prim.Native.Nat.{_≤_, _<_};
-ghost use lib.IntN.{pos};
 ghost use lib.ListN.{length, getD};
 ghost use Rattle.meaning.specs.Limits.{gaugeLimits};
-ghost use Rattle.integers.specs.Vectors.{zero2, shift2};
+ghost use Rattle.integers.specs.Vectors.{zero2};
 ghost use Rattle.meaning.specs.Loops.{instances};
 ghost use Rattle.meaning.specs.Space.{points, processes};
 ghost use Rattle.meaning.specs.Pipes.{reach};
-ghost use Rattle.vectors.specs.Within.{Within2};
 ghost use Rattle.numbering.specs.Ranges.{Bounded};
 ghost use Rattle.numbering.specs.Extents.{Spanning, boxed};
 ghost use Rattle.layout.specs.Rays.{roomOf, Along, firstRay, secondRay, Going};
@@ -94,17 +92,6 @@ pub fn reach_of(e: Extent, d: V2, p: V2) -> u32
     let a = room(first_ray(e, d, p));
     let b = room(second_ray(e, d, p));
     if a < b { a } else { b }
-}
-
-// The point that lies k times d on from p.
-pub fn moved(p: V2, d: V2, k: u32) -> V2
-    requires { ⌜ (Within2 768 p) × (Within2 1 d) × (k ≤ 1536) ⌝ }
-    ensures { λ r. ⌜ r ≡ shift2 p (pos k) d ⌝ }
-{
-    V2 {
-        a: p.a + k as i32 * d.a,
-        b: p.b + k as i32 * d.b,
-    }
 }
 
 // The point of a row number.

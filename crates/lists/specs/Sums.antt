@@ -1,12 +1,10 @@
--- Sums over lists: of their first members, joined, mapped, over numbers in a row, and a number as a member and a place in that member's part.
--- Assumes nothing.
+-- Sums over lists: of their first members, joined, mapped, and over numbers in a row. Assumes nothing.
 use mathlib.Core.Path.{_≡_, refl, sym, _∙_, ap, ap₂}
 use mathlib.Core.Logic.{_⊎_, inl, inr}
 use mathlib.Core.List.{List, [], _∷_, _++_, map, List·Memᴰ as In, List·Memᴰ·head as here, List·Memᴰ·tail as there}
 use Prim.Native.Nat.{ℕ, zero, suc, _+_, _*_, _-_, _≤_, _<_}
 use native.Mathlib.Nat.{le-refl, eq-or-lt-of-le}
 use native.Mathlib.Omega.{arith}
-use native.Mathlib.Decide.{decLe}
 use lib.ListN.{length, getD, take}
 use lib.Seq.{take-append-le, take-append-add}
 use Rattle.meaning.specs.Lists.{total, numbers, numbersFrom}
@@ -49,31 +47,6 @@ module _ {X : Type 0} (f : X → ℕ) where
   -- a place in member k's part is a place in the whole
   pub total-below : (l : List X) (k j : ℕ) (d : X) → k < length l → j < f (getD l k d) → total f (take k l) + j < total f l
   total-below l k j d h m = omega (arith, part-ends d l k h)
-
-  -- and the other way round
-  pub record Part (l : List X) (d : X) (q : ℕ) : Type 0 where
-    pub member : ℕ
-    pub member-lt : member < length l
-    pub place : ℕ
-    pub place-lt : place < f (getD l member d)
-    pub is : q ≡ total f (take member l) + place
-
-  pub part : (l : List X) (d : X) (q : ℕ) → q < total f l → Part l d q
-  unfolding total
-  part [] d q h = absurd (omega arith)
-  part (x ∷ l) d q h = go (decLe (f x) q) (λ k. part l d (q - f x) (omega arith))
-    where
-      go : Dec (f x ≤ q) → (f x ≤ q → Part l d (q - f x)) → Part (x ∷ l) d q
-      go (yes k) ih =
-          let r = ih k in
-          record {
-            member = suc (r .member);
-            member-lt = omega (arith, r .member-lt);
-            place = r .place;
-            place-lt = r .place-lt;
-            is = omega (arith, r .is);
-          }
-      go (no k) ih = record { member = 0; member-lt = omega arith; place = q; place-lt = omega arith; is = omega arith }
 
   -- two lists joined, and a first part of them
   pub total-append : (l l' : List X) → total f (l ++ l') ≡ total f l + total f l'

@@ -9,7 +9,7 @@ use Rattle.meaning.specs.Lists.{total}
 use Rattle.meaning.specs.Array.{Array, Pipe, processCount, streamCount, pipeNumber, noPipe, pipeAt}
 use Rattle.meaning.specs.State.{Word, Firings, Taken, Given, Hand, Keep, Place, Sent, Received, End, stride, index, wordCount, read, write}
 use Rattle.lists.specs.Sums.{part-ends}
-use Rattle.integers.specs.Order.{part}
+use Rattle.integers.specs.Order.{part, parts-apart}
 use Rattle.network.specs.Cases.{Order, less, atLeast, order}
 
 -- ---- blocks one after the other: block i of a list begins where those before it end
@@ -31,14 +31,6 @@ module _ {X : Type 0} (size : X → ℕ) (d : X) where
       go (less m) n = absurd (omega (arith, block-end xs i j m l))
       go (atLeast m) (less n) = absurd (omega (arith, block-end xs j i n l'))
       go (atLeast m) (atLeast n) = let z : i ≡ j = omega arith in (z, omega (arith, ap (λ (i : ℕ). total size (take i xs)) z))
-
-row-apart : (k p o p' o' : ℕ) → o < k → o' < k → p * k + o ≡ p' * k + o' → (p ≡ p') × (o ≡ o')
-row-apart k p o p' o' h h' e = go (order p p') (order p' p)
-  where
-    go : Order p p' → Order p' p → (p ≡ p') × (o ≡ o')
-    go (less m) n = absurd (omega (arith, part m k))
-    go (atLeast m) (less n) = absurd (omega (arith, part n k))
-    go (atLeast m) (atLeast n) = let z : p ≡ p' = omega arith in (z, omega (arith, ap (λ (p : ℕ). p * k) z))
 
 -- ---- live words
 
@@ -154,14 +146,14 @@ module _ (A : Array) where
 
   place-apart : (a b : Cell) → Valid a → Valid b → place a ≡ place b → a ≡ b
   unfolding Valid place portOffset endOffset
-  place-apart (ofProcess p) (ofProcess p') h h' e = ap ofProcess (row-apart (stride A) p 0 p' 0 (omega arith) (omega arith) e .0)
+  place-apart (ofProcess p) (ofProcess p') h h' e = ap ofProcess (parts-apart (stride A) p 0 p' 0 (omega arith) (omega arith) e .0)
   place-apart (ofProcess p) (ofPort p' s o) h (h', l, k) e =
-      absurd (omega (arith, row-apart (stride A) p 0 p' (suc (portOffset s + o)) (omega arith) (inside s o l k) e .1))
+      absurd (omega (arith, parts-apart (stride A) p 0 p' (suc (portOffset s + o)) (omega arith) (inside s o l k) e .1))
   place-apart (ofProcess p) (ofEnd q o) h l e = absurd (omega (arith, part h (stride A)))
   place-apart (ofPort p s o) (ofProcess p') (h, l, k) h' e =
-      absurd (omega (arith, row-apart (stride A) p (suc (portOffset s + o)) p' 0 (inside s o l k) (omega arith) e .1))
+      absurd (omega (arith, parts-apart (stride A) p (suc (portOffset s + o)) p' 0 (inside s o l k) (omega arith) e .1))
   place-apart (ofPort p s o) (ofPort p' s' o') (h, l, k) (h', l', k') e =
-      let r = row-apart (stride A) p (suc (portOffset s + o)) p' (suc (portOffset s' + o')) (inside s o l k) (inside s' o' l' k') e in
+      let r = parts-apart (stride A) p (suc (portOffset s + o)) p' (suc (portOffset s' + o')) (inside s o l k) (inside s' o' l' k') e in
       let z = block-apart (λ h. 4 + h) 0 (A .hops) s o s' o' l l' k k' (omega arith) in
       λ i. ofPort (r .0 i) (z .0 i) (z .1 i)
   place-apart (ofPort p s o) (ofEnd q o') (h, l, k) h' e = absurd (omega (arith, part h (stride A), inside s o l k))

@@ -38,7 +38,8 @@
 //   Results     `result-early`, `result-only-early`, `result-late`: what Result answers; `in-element-order`
 //   Beyond      `call-beyond`: no call changes what stands past the words, on any memory
 //   Demand      `after-start`: demand 3 after every list of calls, from `Wired` and `Described`; `guarantee`: for every accepted description, from what geometry owes
-
+//
+// Cases is what these use.
 pub fn one() -> usize {
     1
 }

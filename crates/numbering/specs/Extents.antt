@@ -1,5 +1,5 @@
 -- The box around the images of all instances, as a loop that widens it finds it, and its bounds. Assumes nothing.
-use mathlib.Core.Path.{_≡_, refl}
+use mathlib.Core.Path.{_≡_, refl, sym, _∙_, ap₂, subst}
 use mathlib.Core.List.{List, [], _∷_, map}
 use Prim.Native.Nat.{ℕ, suc, _+_, _≤_, _<_}
 use native.Mathlib.Omega.{arith}
@@ -15,8 +15,10 @@ use Rattle.integers.specs.declared.V3.{V3}
 use Rattle.integers.specs.declared.Matrix.{Matrix}
 use Rattle.meaning.specs.declared.Nest.{Nest}
 use Rattle.meaning.specs.Loops.{instances}
-use Rattle.meaning.specs.Space.{Box, widen, widenAll, around, boxOf}
+use Rattle.meaning.specs.Space.{Box, points, rowIndex, widen, widenAll, around, boxOf}
 use Rattle.meaning.specs.Points.{Between, Within as InBounds, Inside}
+use Rattle.integers.specs.declared.V2.{V2}
+use Rattle.geometry.specs.RowOrder.{row-lt}
 use Rattle.geometry.specs.Places.{getD-in}
 use Rattle.geometry.specs.Instances.{in-within}
 use Rattle.geometry.specs.Boxes.{box-has, box-least, le-trans}
@@ -109,3 +111,15 @@ box-spanning {n} {m} h r =
 -- the image of an instance is in it
 pub image-inside : {n : Nest} {m : Matrix} {k : ℕ} → Numbered n m k → Inside (boxOf n m) (image m (getD (instances n) k zero3))
 image-inside {n} {m} {k} h = box-has (h .bounded .directed) m (in-within (h .bounded .directed) (getD-in (instances n) k zero3 (h .lt)))
+
+-- the image p of instance k lies in its box, and has its number there
+module _ (n : Nest) (m : Matrix) (e : Extent) (k : ℕ) {p : V2} (h : Numbered n m k) (b : boxed e ≡ boxOf n m)
+    (i : p ≡ image m (getD (instances n) k zero3)) where
+  pub image-lies : Spanning (boxed e) × Inside (boxed e) p
+  image-lies = rw (b, i) (box-spanning (h .bounded) (h .rows), image-inside h)
+
+  pub image-number : {r : ℕ} → r ≡ rowIndex (boxed e) p
+      → (r ≡ rowIndex (boxOf n m) (image m (getD (instances n) k zero3))) × (r < length (points (boxOf n m)))
+  image-number g =
+      let q = g ∙ ap₂ rowIndex b i in
+      (q, subst (λ (r : ℕ). r < length (points (boxOf n m))) (sym q) (row-lt (boxOf n m) (image m (getD (instances n) k zero3)) (image-inside h)))

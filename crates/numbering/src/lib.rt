@@ -244,6 +244,14 @@ pub fn row_number(e: Extent, p: V2) -> u32
     distance(lo.a, p.a) * (distance(lo.b, hi.b) + 1) + distance(lo.b, p.b)
 }
 
+// The number of the image of instance k; e is the box around the images.
+pub fn number_of(n: Nest, m: Matrix, e: Extent, k: u32) -> u32
+    requires { ⌜ (Numbered n m k) × (boxed e ≡ boxOf n m) ⌝ }
+    ensures { λ r. ⌜ (r ≡ rowIndex (boxOf n m) (image m (getD (instances n) k zero3))) × (r < length (points (boxOf n m))) ⌝ }
+{
+    row_number(e, image_at(n, m, k))
+}
+
 // The row numbers of the images of all instances, in the written order; e is the box around the images. What lies past them stays.
 pub fn fill_numbers(n: Nest, m: Matrix, e: Extent, out: &mut [u32])
     requires { ⌜ Fillable n m e (now out) ⌝ }

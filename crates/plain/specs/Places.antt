@@ -1,5 +1,5 @@
 -- The numbers of the elements that each instance touches, in a table of rows of six: row k holds those of instance k. Assumes nothing.
-use mathlib.Core.Path.{_≡_, refl, sym, _∙_, ap, ap₂, subst}
+use mathlib.Core.Path.{_≡_, refl, sym, _∙_, ap, ap₂}
 use mathlib.Core.Logic.{_⊎_, inl, inr}
 use mathlib.Core.List.{List, [], _∷_}
 use Prim.Native.Nat.{ℕ, zero, suc, _+_, _*_, _-_, _≤_, _<_}
@@ -10,7 +10,6 @@ use lib.ListN.{length, getD, take, drop, length-drop}
 use lib.Seq.{ext-getD, getD-take, getD-drop, length-take-le}
 use Rattle.integers.specs.Vectors.{zero3, image}
 use Rattle.integers.specs.declared.V3.{V3}
-use Rattle.integers.specs.declared.V2.{V2}
 use Rattle.integers.specs.declared.Matrix.{Matrix}
 use Rattle.meaning.specs.declared.Nest.{Nest}
 use Rattle.meaning.specs.declared.Stream.{Stream}
@@ -22,12 +21,11 @@ use Rattle.meaning.specs.Streams.{elements}
 use Rattle.meaning.specs.Description.{streamsOf, noStream}
 use Rattle.meaning.specs.Body.{streamStart, elementCount, touchedFrom, touchedBy}
 use Rattle.meaning.specs.Calls.{lengthOf}
-use Rattle.meaning.specs.Points.{Inside}
 use Rattle.geometry.specs.RowOrder.{row-lt}
 use Rattle.vectors.specs.Within.{Rows}
 use Rattle.numbering.specs.declared.Extent.{Extent}
 use Rattle.numbering.specs.Ranges.{Bounded}
-use Rattle.numbering.specs.Extents.{boxed, Numbered, Spanning, box-spanning, image-inside}
+use Rattle.numbering.specs.Extents.{boxed, image-inside}
 use Rattle.stream_lines.specs.InRange.{InRange, in-range}
 use Rattle.elements.specs.Counts.{Few, in-use, start-next, start-most}
 use Rattle.body.specs.Fit.{Runnable}
@@ -69,18 +67,6 @@ module _ (n : Nest) (x : V3) where
 -- the numbers that a stream's column holds: of an index map's images, from a start on
 abbrev pub numberFrom : Nest → Matrix → ℕ → ℕ → ℕ
 numberFrom n m start k = start + rowIndex (boxOf n m) (image m (getD (instances n) k zero3))
-
--- the image p of instance k lies in its box, and has its number there
-module _ (n : Nest) (m : Matrix) (e : Extent) (k : ℕ) {p : V2} (h : Numbered n m k) (b : boxed e ≡ boxOf n m)
-    (i : p ≡ image m (getD (instances n) k zero3)) where
-  pub image-lies : Spanning (boxed e) × Inside (boxed e) p
-  image-lies = rw (b, i) (box-spanning (h .bounded) (h .rows), image-inside h)
-
-  pub image-number : {r : ℕ} → r ≡ rowIndex (boxed e) p
-      → (r ≡ rowIndex (boxOf n m) (image m (getD (instances n) k zero3))) × (r < length (points (boxOf n m)))
-  image-number g =
-      let q = g ∙ ap₂ rowIndex b i in
-      (q, subst (λ (r : ℕ). r < length (points (boxOf n m))) (sym q) (row-lt (boxOf n m) (image m (getD (instances n) k zero3)) (image-inside h)))
 
 -- what a column's filling is told: the box around the images, where the stream's elements begin, and the column
 pub record Filling (n : Nest) (m : Matrix) (e : Extent) (start i : ℕ) : Type 0 where

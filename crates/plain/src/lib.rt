@@ -8,13 +8,11 @@
 ghost use mathlib.Core.Path.{_≡_};
 ghost use Prim.Native.Nat.{_<_};
 ghost use lib.ListN.{length, getD};
-ghost use Rattle.integers.specs.Vectors.{zero3, image};
+ghost use Rattle.integers.specs.Vectors.{zero3};
 ghost use Rattle.meaning.specs.Limits.{limitsOf};
 ghost use Rattle.meaning.specs.Loops.{instances};
-ghost use Rattle.meaning.specs.Space.{points, rowIndex, boxOf};
 ghost use Rattle.meaning.specs.Body.{execute, finalValues};
 ghost use Rattle.meaning.specs.Calls.{lengthOf, plainRun};
-ghost use Rattle.numbering.specs.Extents.{Numbered, boxed};
 ghost use Rattle.plain.specs.Columns.{column};
 ghost use Rattle.plain.specs.Places.{Fitting, Filling, Table, numberFrom, place, columns};
 ghost use Rattle.plain.specs.Run.{Called};
@@ -28,14 +26,6 @@ use numbering::Extent;
 
 // ---- the places of the instances
 
-// The number in its box of the image of instance k.
-fn number_of(n: Nest, m: Matrix, e: Extent, k: u32) -> u32
-    requires { ⌜ (Numbered n m k) × (boxed e ≡ boxOf n m) ⌝ }
-    ensures { λ r. ⌜ (r ≡ rowIndex (boxOf n m) (image m (getD (instances n) k zero3))) × (r < length (points (boxOf n m))) ⌝ }
-{
-    numbering::row_number(e, vectors::image_of(m, numbering::instance(n, k)))
-}
-
 // Column i of the table: the elements of one stream, whose numbers begin at start.
 fn fill_column(n: Nest, m: Matrix, e: Extent, start: u32, i: u32, table: &mut [u32; ELEMENTS])
     requires { ⌜ Filling n m e start i ⌝ }
@@ -44,7 +34,7 @@ fn fill_column(n: Nest, m: Matrix, e: Extent, start: u32, i: u32, table: &mut [u
     let count = numbering::instance_count(n);
     let mut k: u32 = 0;
     while k < count {
-        table[(6 * k + i) as usize] = start + number_of(n, m, e, k);
+        table[(6 * k + i) as usize] = start + numbering::number_of(n, m, e, k);
         k += 1;
     }
 }

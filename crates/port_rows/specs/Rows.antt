@@ -99,9 +99,6 @@ module _ {d : Description} (laid : Laid d) {i : ℕ} {g : Strand} (h : StrandOf 
             ap (λ (b : Bool). cond b sent (portIndex g (rowIndex (space n) (backOf n s y)) + 1)) (ne-eqb (before n s y) 0 (λ z. omega arith))
             ∙ ap (λ (a : ℕ). a + 1) (port-index (rowIndex (space n) (backOf n s y))) ∙ ap (index A) (sym (put-given laid p i hp (h .lt) on l))
 
-    next : ℕ
-    next = rowIndex (space n) (onOf n s y)
-
     after-is : afterFrom n s g sent p ≡ index A (takenOut A q (suc k))
     after-is = go (either (reach (space n) (move n s) y))
       where

@@ -74,7 +74,7 @@ pub fn number_on(f: Flow, p: u32, k: u32) -> u32
     let space = f.space;
     let way = f.way;
     let y = layout::point_at(space, p);
-    numbering::row_number(space, layout::moved(y, way, k))
+    numbering::row_number(space, vectors::moved(y, way, k))
 }
 
 // The number of the process before process p, which is no entry.
@@ -85,7 +85,7 @@ pub fn number_back(f: Flow, p: u32) -> u32
     let space = f.space;
     let back = f.back;
     let y = layout::point_at(space, p);
-    numbering::row_number(space, layout::moved(y, back, 1))
+    numbering::row_number(space, vectors::moved(y, back, 1))
 }
 
 // The number of the pipe of process p in the stream.

@@ -1,18 +1,19 @@
 -- Where the words of a state lie: the rows of ports and ends fit every state that is long enough, and a place that a give or a send fills is not the
 -- word where it counts. Assumes nothing.
-use mathlib.Core.Path.{_≡_, refl, ap}
+use mathlib.Core.Path.{_≡_, refl}
 use mathlib.Core.Bool.{Bool, true, false, cond}
-use Prim.Native.Nat.{ℕ, zero, suc, _+_, _*_, _≤_, _<_}
+use Prim.Native.Nat.{ℕ, zero, suc, _+_, _≤_, _<_}
 use native.Mathlib.Nat.{mul-le-mul-right}
 use native.Mathlib.Omega.{arith}
 use lib.Dec.{ltb}
 use lib.ListN.{getD, take}
-use borrow.Author.Tests.{ltb-true, ltb-false}
+use borrow.Author.Tests.{ltb-true}
 use Rattle.meaning.specs.Lists.{total}
 use Rattle.meaning.specs.Array.{Array, noPipe, processCount, streamCount, pipeNumber, stopAt, pipeAt, stopsOn, elementsOn, countAt}
 use Rattle.meaning.specs.State.{Taken, Given, Place, Sent, Received, End, stride, processStart, index, wordCount}
 use Rattle.meaning.specs.Rules.{processOn, streamOn, putIn, takenOut, linkPlace}
 use Rattle.lists.specs.Sums.{part-ends}
+use Rattle.integers.specs.Order.{parts-apart}
 use Rattle.ports.specs.Ports.{portOf, PortFits}
 use Rattle.ports.specs.Ends.{endOf, EndFits}
 
@@ -21,19 +22,6 @@ pub record Regular (A : Array) : Type 0 where
   pub process : (q k : ℕ) → k < stopsOn A q → processOn A q k < processCount A
   pub stream : (q k : ℕ) → k < stopsOn A q → streamOn A q < streamCount A
   pub hop : (q k : ℕ) → k < stopsOn A q → getD (A .hops) (streamOn A q) 0 ≡ pipeAt A q .hop
-
--- ---- rows of equal length, and parts of a list
-
--- words of two rows of w are the same only at the same place
-rows-apart : (p r w a b : ℕ) → a < w → b < w → p * w + a ≡ r * w + b → a ≡ b
-rows-apart p r w a b h g e = go (ltb p r) (ltb r p) refl refl
-  where
-    go : (u v : Bool) → ltb p r ≡ u → ltb r p ≡ v → a ≡ b
-    go true v d f = absurd (omega (arith, mul-le-mul-right w (ltb-true p r d)))
-    go false true d f = absurd (omega (arith, mul-le-mul-right w (ltb-true r p f)))
-    go false false d f =
-        let z : p ≡ r = omega (arith, ltb-false p r d, ltb-false r p f) in
-        omega (arith, ap (λ (p : ℕ). p * w) z)
 
 -- ---- the words of a port
 
@@ -124,6 +112,6 @@ module _ (A : Array) (reg : Regular A) (q i : ℕ) (h : i < pipeAt A q .hop) whe
           let t = start A reg q k on in
           let w = port-inside A reg q k on in
           let z : t + 1 ≡ t + 4 + i =
-          rows-apart (processOn A q k) (processOn A q (suc k)) (stride A) (t + 1) (t + 4 + i) (omega arith) (omega arith) (omega arith) in
+          parts-apart (stride A) (processOn A q k) (t + 1) (processOn A q (suc k)) (t + 4 + i) (omega arith) (omega arith) (omega arith) .1 in
           omega arith
       go false e d = omega (arith, port-before-ends A reg q k on)

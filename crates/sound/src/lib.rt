@@ -2,7 +2,6 @@
 //
 // specs/, by file:
 //
-//   Loops     a test of all numbers below one, as a loop makes it
 //   States    sound states by the rows of a port table, as the code tests them
 //   Meaning   by the port table of an array they are document 01's: `sound-is`
 ghost use mathlib.Core.Path.{_≡_};

@@ -52,9 +52,6 @@ module _ (z : Size) where
 
   -- ---- they are ranks
 
-  pub send-in : (q : ℕ) → q < z .pipes → q < rankCount z
-  send-in q h = omega arith
-
   pub take-in : (p i : ℕ) → p < z .processes → i < z .streams → takeRank z p i < rankCount z
   take-in p i h l = omega (arith, steps-inside z h)
 
@@ -63,9 +60,6 @@ module _ (z : Size) where
 
   pub give-in : (p i : ℕ) → p < z .processes → i < z .streams → giveRank z p i < rankCount z
   give-in p i h l = omega (arith, steps-inside z h)
-
-  pub receive-in : (q : ℕ) → q < z .pipes → receiveRank z q < rankCount z
-  receive-in q h = omega arith
 
 -- ---- there are no others
 

@@ -5,8 +5,7 @@ use mathlib.Core.List.{List}
 use Prim.Native.Nat.{ℕ, _+_, _*_, _≤_, _<_}
 use native.Mathlib.Nat.{zero-add, eq-or-lt-of-le, mul-le-mul-right}
 use native.Mathlib.Omega.{arith}
-use native.Mathlib.Decide.{decLe}
-use lib.ListN.{length, getD, replicate, length-replicate, getD-replicate, List·getD-eq-default}
+use lib.ListN.{length, getD, replicate, length-replicate}
 use borrow.Rule.Slice.PartMut.{putMid}
 use Rattle.integers.specs.Fill.{fillBy, fill-at, fill-past}
 use Rattle.integers.specs.declared.V2.{V2}
@@ -15,6 +14,7 @@ use Rattle.meaning.specs.declared.Stream.{Stream}
 use Rattle.meaning.specs.Space.{processes}
 use Rattle.meaning.specs.Description.{noStream}
 use Rattle.meaning.specs.Array.{rowSoak}
+use Rattle.lists.specs.Stores.{replicated}
 use Rattle.layout.specs.Parts.{put-before, put-in, put-after}
 use Rattle.layout.specs.Spans.{processOf}
 use Rattle.pipes.specs.Elements.{rowDrain}
@@ -28,19 +28,12 @@ pub record Streamed (n : Nest) (ss : List Stream) (m : ℕ) (w : List ℕ) : Typ
 
 -- ---- stream by stream
 
-all-same : (z n k : ℕ) → getD (replicate n z) k z ≡ z
-all-same z n k = go (decLe n k)
-  where
-    go : Dec (n ≤ k) → getD (replicate n z) k z ≡ z
-    go (no h) = getD-replicate n k z z (omega arith)
-    go (yes h) = List·getD-eq-default (replicate n z) z (omega (arith, length-replicate n z))
-
 pub zeros-length : {w : List ℕ} → w ≡ replicate 15360 0 → length w ≡ 15360
 zeros-length e = ap (λ (l : List ℕ). length l) e ∙ length-replicate {A = ℕ} 15360 0
 
 pub streamed-none : (n : Nest) (ss : List Stream) (k : ℕ) → Streamed n ss 0 (replicate k 0)
 streamed-none n ss k =
-    record { soaks = λ i p l m. absurd (omega arith); drains = λ i p l m. absurd (omega arith); rest = λ j l. all-same 0 k j }
+    record { soaks = λ i p l m. absurd (omega arith); drains = λ i p l m. absurd (omega arith); rest = λ j l. replicated 0 k j }
 
 module _ {n : Nest} {ss : List Stream} {i : ℕ} {w : List ℕ} (a k : ℕ) (ys : List ℕ) (few : length (processes n) ≤ 1024) (at : a ≡ 3072 + i * 2048)
     (wide : k ≡ 2048) (in-words : a ≤ length w) (size : length ys ≡ k) (g : Streamed n ss i w) (b : Passed n (getD ss i noStream) ys) where

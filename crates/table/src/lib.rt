@@ -2,12 +2,11 @@
 //
 // specs/, by file:
 //
-//   Rows        a row as it is read off the plan's words, and what it takes to read it
 //   Blocks      the words, block by block: the processes' and each stream's
 //   Planned     what the plan holds; `planned-rows`: the rows read off it are document 01's
 //   Drawable    what a refusal of 0 leaves for the plan; the refusal of the call
 ghost use mathlib.Core.Path.{_≡_};
-ghost use Prim.Native.Nat.{ℕ, _<_, _≤_, _+_};
+ghost use Prim.Native.Nat.{ℕ, _<_, _≤_};
 ghost use lib.ListN.{length, getD, replicate};
 ghost use Rattle.integers.specs.Fill.{fillBy};
 ghost use Rattle.meaning.specs.Limits.{limitsOf, gaugeLimits, UpTo};

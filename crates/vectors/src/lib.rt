@@ -1,8 +1,11 @@
-// Vectors of small words, as the tests of Accept use them: dot and cross product, the image under a matrix, line and divisor of a matrix.
+// Vectors of small words, as the tests of Accept use them: dot and cross product, the image under a matrix, a vector some steps on, line and divisor
+// of a matrix.
 ghost use mathlib.Core.Path.{_≡_};
-ghost use lib.IntN.{_-ℤ_, _*ℤ_};
+ghost use Prim.Native.Nat.{_≤_};
+ghost use lib.IntN.{pos, _-ℤ_, _*ℤ_};
 ghost use Rattle.integers.specs.Differences.{Abs};
-ghost use Rattle.integers.specs.Vectors.{dot, cross, neg3, image};
+ghost use Rattle.integers.specs.Vectors.{dot, cross, neg3, neg2, shift3, shift2, image};
+ghost use Rattle.meaning.specs.Limits.{gaugeLimits};
 ghost use Rattle.meaning.specs.Loops.{turn, shortOf, lineOf};
 ghost use Rattle.vectors.specs.Within.{Within, Rows, Within2};
 use integers::Matrix;
@@ -71,6 +74,36 @@ pub fn negated(v: V3) -> V3
         x: -v.x,
         y: -v.y,
         z: -v.z,
+    }
+}
+
+pub fn opposite(v: V2) -> V2
+    requires { ⌜ Within2 4800 v ⌝ }
+    ensures { λ r. ⌜ (r ≡ neg2 v) × (Within2 4800 r) ⌝ }
+{
+    V2 { a: -v.a, b: -v.b }
+}
+
+// The point that lies k times d on from x.
+pub fn later(x: V3, d: V3, k: u32) -> V3
+    requires { ⌜ (Within 64 x) × (Within 200 d) × (k ≤ gaugeLimits .instances) ⌝ }
+    ensures { λ r. ⌜ r ≡ shift3 x (pos k) d ⌝ }
+{
+    V3 {
+        x: x.x + k as i32 * d.x,
+        y: x.y + k as i32 * d.y,
+        z: x.z + k as i32 * d.z,
+    }
+}
+
+// The point that lies k times d on from p.
+pub fn moved(p: V2, d: V2, k: u32) -> V2
+    requires { ⌜ (Within2 768 p) × (Within2 1 d) × (k ≤ 1536) ⌝ }
+    ensures { λ r. ⌜ r ≡ shift2 p (pos k) d ⌝ }
+{
+    V2 {
+        a: p.a + k as i32 * d.a,
+        b: p.b + k as i32 * d.b,
     }
 }
 

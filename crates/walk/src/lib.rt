@@ -62,11 +62,7 @@ fn put_instances(first: V3, increment: V3, count: u32, from: usize, walk: &mut [
 {
     let mut k: u32 = 0;
     while k < count {
-        put_instance(
-            walk,
-            from + k as usize,
-            instances::later(first, increment, k),
-        );
+        put_instance(walk, from + k as usize, vectors::later(first, increment, k));
         k += 1;
     }
 }

@@ -23,13 +23,13 @@ extent-of-requires c κs = search needs
 extent-of-requires-2 : tie.Need-extent-of-requires-2
 extent-of-requires-2 c κs = search needs
 
-negated-requires : tie.Need-negated-requires
-negated-requires c κs =
+opposite-requires : tie.Need-opposite-requires
+opposite-requires c κs =
     let m = c .before .before .before .before in
     subst (Within2 4800) (sym (m .move-of .ensures)) (wider2 (m .before .before .before .pre .small))
 
-negated-requires-2 : tie.Need-negated-requires-2
-negated-requires-2 c κs = search needs
+opposite-requires-2 : tie.Need-opposite-requires-2
+opposite-requires-2 c κs = search needs
 
 moves-requires : tie.Need-moves-requires
 moves-requires c κs = c .before .before .before .before .before .before .before .before .before .pre .in-range
@@ -47,7 +47,7 @@ returns c =
     let i = b .before .before in
     let m = i .before .before in
     let s = m .before .before .before in
-    let e = k .negated .ensures .0 ∙ ap neg2 (m .move-of .ensures) in
+    let e = k .opposite .ensures .0 ∙ ap neg2 (m .move-of .ensures) in
     let q = i .image-of .ensures .0 ∙ ap (image (s .args .s .map)) (i .before .line-of .ensures .0) in (
       refl,
       refl,
@@ -60,8 +60,8 @@ returns c =
         back-small = subst (Within2 1) (sym e) (neg-small (s .pre .small));
         pass-is = q;
         pass-small = i .image-of .ensures .1;
-        against-is = g .negated2 .ensures .0 ∙ ap neg2 q;
-        against-small = g .negated2 .ensures .1;
+        against-is = g .opposite2 .ensures .0 ∙ ap neg2 q;
+        against-small = g .opposite2 .ensures .1;
         moving-is = c .before .moves .ensures;
         turned-is = c .backward .ensures ∙ ap backward (m .move-of .ensures);
       },
@@ -76,8 +76,8 @@ flow-of-spec =
     image-of-requires
     extent-of-requires
     extent-of-requires-2
-    negated-requires
-    negated-requires-2
+    opposite-requires
+    opposite-requires-2
     moves-requires
     backward-requires
     returns)

@@ -1,8 +1,8 @@
--- `lanes::negated` meets its contract. Assumes nothing.
+-- `vectors::opposite` meets its contract. Assumes nothing.
 use Rattle.integers.specs.Vectors.{same2}
 use Rattle.integers.specs.Words.{at, box, minus, fits, bounded}
-use Rattle.lanes.proofs.negated.Statement.{statement}
-use Rattle.lanes.proofs.negated.Tie as tie
+use Rattle.vectors.proofs.opposite.Statement.{statement}
+use Rattle.vectors.proofs.opposite.Tie as tie
 
 sub-t2 : tie.Need-sub-t2
 sub-t2 c = fits tt (minus (at tt (c .before .before .pre .first)))
@@ -17,5 +17,5 @@ returns c =
     let y = box tt (minus (at tt (p .second))) in
     (same2 (x .eq) (y .eq), record { first = bounded x; second = bounded y })
 
-pub negated-spec : {M : Type 1} → statement M
-negated-spec = tie.close (tie.spec sub-t2 sub-t3 returns)
+pub opposite-spec : {M : Type 1} → statement M
+opposite-spec = tie.close (tie.spec sub-t2 sub-t3 returns)

@@ -1,9 +1,9 @@
--- `layout::moved` meets its contract. Assumes nothing.
+-- `vectors::moved` meets its contract. Assumes nothing.
 use borrow.Author.Needs.{needs}
 use Rattle.integers.specs.Words.{at, bits, box, add, mul, fits}
 use Rattle.integers.specs.Vectors.{same2}
-use Rattle.layout.proofs.moved.Statement.{statement}
-use Rattle.layout.proofs.moved.Tie as tie
+use Rattle.vectors.proofs.moved.Statement.{statement}
+use Rattle.vectors.proofs.moved.Tie as tie
 
 cast-t4 : tie.Need-cast-t4
 cast-t4 c = search needs

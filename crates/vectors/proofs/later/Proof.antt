@@ -1,9 +1,9 @@
--- `instances::later` meets its contract. Assumes nothing.
+-- `vectors::later` meets its contract. Assumes nothing.
 use borrow.Author.Needs.{needs}
 use Rattle.integers.specs.Words.{at, bits, box, add, mul, fits}
 use Rattle.integers.specs.Vectors.{same3}
-use Rattle.instances.proofs.later.Statement.{statement}
-use Rattle.instances.proofs.later.Tie as tie
+use Rattle.vectors.proofs.later.Statement.{statement}
+use Rattle.vectors.proofs.later.Tie as tie
 
 cast-t4 : tie.Need-cast-t4
 cast-t4 c = search needs
