@@ -36,8 +36,3 @@ pub mod Designs
 pub mod Comparison
 pub mod Singles
 pub mod Cases
-pub mod Boards
-pub mod Runs
-pub mod GuardedRuns
-pub mod Slanted
-pub mod Walks

@@ -5,22 +5,22 @@ use Prim.Native.Nat.{ℕ}
 use lib.ListN.{length, replicate}
 use Rattle.integers.specs.Bytes.{bitsAt, wordAt}
 use Rattle.lattice.specs.Gcd.{gcdOf, euclid}
 use Rattle.meaning.specs.Limits.{gaugeLimits}
 use Rattle.meaning.specs.Lists.{filter, any, every, position, best, bestOr, total, each, numbersFrom}
 use Rattle.meaning.specs.Tests.{refusal}
 use Rattle.meaning.specs.Loops.{progression, instances, lineOf}
 use Rattle.meaning.specs.Space.{points, widenAll, around, boxOf, sentTo, firstOf, lastOf}
 use Rattle.meaning.specs.Pipes.{stays, march, lineIn, pipe, usedOn, pipeElements}
 use Rattle.meaning.specs.Description.{nestOf, streamOf, bodyLine, descriptionOf}
 use Rattle.meaning.specs.Body.{runLines, touchedFrom, scatter, execute, executeAll}
 use Rattle.meaning.specs.Accept.{testsFrom, refusalOf, accept}
 use Rattle.meaning.specs.Array.{insertByStep, byStep, pipesFrom, arrayOf}
 use Rattle.meaning.specs.Rules.{moveDown, sound, writeAll, apply, firstReady, runSteps, applyAll}
 use Rattle.meaning.specs.Calls.{start, run, result, plainRun}
 use Rattle.meaning.specs.Comparison.{Case, _is_, naturals, eqList, firstWrong, agree-after}
 use Rattle.meaning.specs.Designs.{bytes, uncleared, clearedOne, clearedTurned, clearedColumn, startedWith}
 use Rattle.meaning.specs.Cases as P
-use Rattle.meaning.specs.Runs.{backwards}
+use Rattle.cases.specs.Runs.{backwards}
 
 -- request 2.5: a design run to its end from a state of n words, the lowest ready step first and the highest, leaves what the plain run does
 abbrev bothWays : List ℕ → List ℕ → ℕ → List ℕ → List Case
