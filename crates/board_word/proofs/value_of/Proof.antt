@@ -1,4 +1,4 @@
--- `board_word::value_of` meets its contract. Assumes nothing.
+-- `board_word::value_of` meets its contract: the value so far, with the characters that are left, has the value of all. Assumes nothing.
 use mathlib.Core.Path.{_≡_, _∙_, ap}
 use Prim.Native.Nat.{ℕ, _+_, _-_, _≤_}
 use native.Mathlib.Omega.{arith}

@@ -1,4 +1,4 @@
--- `figures::sums_of` meets its contract. Assumes nothing.
+-- `figures::sums_of` meets its contract: the sums are those of the pipes that begin before process p. Assumes nothing.
 use mathlib.Core.Path.{_≡_, _∙_, ap}
 use Prim.Native.Nat.{suc, _+_, _-_, _≤_}
 use native.Mathlib.Omega.{arith}

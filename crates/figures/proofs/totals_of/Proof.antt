@@ -1,4 +1,4 @@
--- `figures::totals_of` meets its contract. Assumes nothing.
+-- `figures::totals_of` meets its contract: the totals are those of the first i streams. Assumes nothing.
 use mathlib.Core.Path.{_≡_, sym, _∙_, ap, ap₂, subst}
 use Prim.Native.Nat.{_-_, _≤_}
 use native.Mathlib.Omega.{arith}

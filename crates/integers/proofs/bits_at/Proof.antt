@@ -3,9 +3,6 @@ use Rattle.integers.specs.Bytes.{bitsAt}
 use borrow.Author.Needs.{needs}
 use Rattle.integers.proofs.bits_at.Statement.{statement}
 use Rattle.integers.proofs.bits_at.Tie as tie
-use Rattle.integers.proofs.bits_at.Reads as reads
-use Rattle.integers.proofs.bits_at.Lts as lts
-use Rattle.integers.proofs.byte_at.Reads as byte-at-reads
 
 mul-i : tie.Need-mul-i
 mul-i c = search needs

@@ -8,9 +8,6 @@ use denote.Ref.{now}
 use borrow.Author.Needs.{needs}
 use Rattle.integers.proofs.byte_at.Statement.{statement}
 use Rattle.integers.proofs.byte_at.Tie as tie
-use Rattle.integers.proofs.byte_at.Reads as reads
-use Rattle.integers.proofs.byte_at.Lts as lts
-use Rattle.integers.proofs.wide.Reads as wide-reads
 
 shared-slice-read-wide : tie.Need-shared-slice-read-wide
 shared-slice-read-wide c = search needs

@@ -1,4 +1,4 @@
--- `lanes::fill_lanes` meets its contract. Assumes nothing.
+-- `lanes::fill_lanes` meets its contract: the lanes say what the first p processes do to them. Assumes nothing.
 use mathlib.Core.Path.{_≡_, ap, subst}
 use mathlib.Core.Bool.{not}
 use Prim.Native.Nat.{ℕ, _≤_, _-_}

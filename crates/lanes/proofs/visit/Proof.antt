@@ -1,4 +1,4 @@
--- `lanes::visit` meets its contract. Assumes nothing.
+-- `lanes::visit` meets its contract: four stores, none of which changes the length. Assumes nothing.
 use mathlib.Core.Path.{refl}
 use Prim.Native.Nat.{_+_}
 use native.Mathlib.Omega.{arith}

@@ -6,32 +6,22 @@ use Rattle.lattice.specs.Gcd.{gcdOf}
 use borrow.Author.Needs.{needs}
 use Rattle.lattice.proofs.divisor.Statement.{statement}
 use Rattle.lattice.proofs.divisor.Tie as tie
-use Rattle.lattice.proofs.divisor.Reads as reads
-use Rattle.lattice.proofs.divisor.Lts as lts
-use Rattle.integers.proofs.magnitude.Reads as magnitude-reads
-use Rattle.lattice.proofs.gcd.Reads as gcd-reads
 
--- src/lib.rt:29:9
 magnitude-requires : tie.Need-magnitude-requires
 magnitude-requires c κs = search needs
 
--- src/lib.rt:30:13
 magnitude-requires-2 : tie.Need-magnitude-requires-2
 magnitude-requires-2 c κs = search needs
 
--- src/lib.rt:30:39
 magnitude-requires-3 : tie.Need-magnitude-requires-3
 magnitude-requires-3 c κs = search needs
 
--- src/lib.rt:30:9
 gcd-requires : tie.Need-gcd-requires
 gcd-requires c κs = search needs
 
--- src/lib.rt:28:5
 gcd-requires-2 : tie.Need-gcd-requires-2
 gcd-requires-2 c κs = search needs
 
--- src/lib.rt:25:1
 returns : tie.Need-returns
 returns c =
     let v = c .before .before .before .before .before .before .before .before .args .v in

@@ -13,8 +13,6 @@ use Rattle.integers.specs.Differences.{lt-out, le-out}
 use Rattle.integers.specs.Words.{tower, held, less-of, not-less-of}
 use Rattle.lattice.proofs.quotient.Statement.{statement}
 use Rattle.lattice.proofs.quotient.Tie as tie
-use Rattle.lattice.proofs.quotient.Reads as reads
-use Rattle.lattice.proofs.quotient.Lts as lts
 
 -- by cases of the sign
 by-zero : (x : ℤ) → pos 0 ≡ quotZ x (pos 0)

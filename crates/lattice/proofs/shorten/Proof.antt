@@ -1,4 +1,4 @@
--- `lattice::shorten` meets its contract. Assumes nothing.
+-- `lattice::shorten` meets its contract: what Euclid's rule finds is the one divisor, and each component is divided by it. Assumes nothing.
 use mathlib.Core.Path.{_≡_, sym, _∙_, ap₂, subst}
 use Prim.Native.Nat.{ℕ}
 use lib.IntN.{ℤ, pos}
@@ -10,10 +10,6 @@ use Rattle.lattice.specs.Shorten.{Shortens, shortened, shortens}
 use borrow.Author.Needs.{needs}
 use Rattle.lattice.proofs.shorten.Statement.{statement}
 use Rattle.lattice.proofs.shorten.Tie as tie
-use Rattle.lattice.proofs.shorten.Reads as reads
-use Rattle.lattice.proofs.shorten.Lts as lts
-use Rattle.lattice.proofs.divisor.Reads as divisor-reads
-use Rattle.lattice.proofs.quotient.Reads as quotient-reads
 
 -- a component, from what the code holds of its parts
 component : {r t z : ℤ} {m d : ℕ} → r ≡ quotZ t (pos m) → t ≡ z → m ≡ d → r ≡ quotZ z (pos d)
@@ -27,23 +23,18 @@ short e f g h = rw (e, f, g, h)
 meets : (v : V3) {r : Short} → r ≡ shortened v → Shortens v r
 meets v e = subst (Shortens v) (sym e) (shortens v)
 
--- src/lib.rt:57:9
 divisor-requires : tie.Need-divisor-requires
 divisor-requires c κs = search needs
 
--- src/lib.rt:60:16
 quotient-requires : tie.Need-quotient-requires
 quotient-requires c κs = search needs
 
--- src/lib.rt:61:16
 quotient-requires-2 : tie.Need-quotient-requires-2
 quotient-requires-2 c κs = search needs
 
--- src/lib.rt:62:16
 quotient-requires-3 : tie.Need-quotient-requires-3
 quotient-requires-3 c κs = search needs
 
--- src/lib.rt:54:1
 returns : tie.Need-returns
 returns c =
     let v = c .before .before .before .before .before .before .before .args .v in

@@ -1,4 +1,4 @@
--- `layout::room` meets its contract. Assumes nothing.
+-- `layout::room` meets its contract: the way to the side that the step points to, over the size of the step, which is not 0. Assumes nothing.
 use mathlib.Core.Path.{refl, sym, _∙_, ap₂}
 use Prim.Native.Nat.{_/_}
 use native.Mathlib.Omega.{arith}

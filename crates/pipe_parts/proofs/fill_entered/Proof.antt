@@ -1,4 +1,5 @@
--- `pipe_parts::fill_entered` meets its contract. Assumes nothing.
+-- `pipe_parts::fill_entered` meets its contract: the first p entries are filled, and the count is that of the pipes that begin before process p.
+-- Assumes nothing.
 use mathlib.Core.Path.{_≡_, refl, sym, _∙_, ap}
 use Prim.Native.Nat.{ℕ, suc, _+_, _-_, _≤_}
 use native.Mathlib.Omega.{arith}

@@ -1,4 +1,4 @@
--- `pipes::fill_soaks` meets its contract. Assumes nothing.
+-- `pipes::fill_soaks` meets its contract: the first p entries are filled. Assumes nothing.
 use mathlib.Core.Path.{_≡_, refl, sym}
 use Prim.Native.Nat.{_≤_, _-_}
 use native.Mathlib.Omega.{arith}

@@ -1,4 +1,5 @@
--- `port_fill::fill_streams` meets its contract. Assumes nothing.
+-- `port_fill::fill_streams` meets its contract: the rows of the first i streams are written, and the sums are those of these streams. Assumes
+-- nothing.
 use borrow.Author.Needs.{needs}
 use mathlib.Core.Path.{_≡_, sym, _∙_, ap, subst}
 use Prim.Native.Nat.{_-_, _≤_}

@@ -1,4 +1,5 @@
--- `port_fill::put_ends` meets its contract. Assumes nothing.
+-- `port_fill::put_ends` meets its contract: the ends of the pipes that begin before process p are written, and j is how many those are. Assumes
+-- nothing.
 use borrow.Author.Needs.{needs}
 use mathlib.Core.Path.{_≡_, refl, sym, _∙_, ap}
 use Prim.Native.Nat.{ℕ, suc, _+_, _-_, _≤_, _<_}

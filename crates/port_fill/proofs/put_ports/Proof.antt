@@ -1,4 +1,4 @@
--- `port_fill::put_ports` meets its contract. Assumes nothing.
+-- `port_fill::put_ports` meets its contract: the rows of the first p processes are written. Assumes nothing.
 use borrow.Author.Needs.{needs}
 use mathlib.Core.Path.{_≡_, refl, sym, _∙_, ap}
 use Prim.Native.Nat.{ℕ, _+_, _-_, _≤_}

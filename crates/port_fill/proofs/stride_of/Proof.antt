@@ -1,4 +1,4 @@
--- `port_fill::stride_of` meets its contract. Assumes nothing.
+-- `port_fill::stride_of` meets its contract: after i streams the sum is that of their ports and the one word of firings. Assumes nothing.
 use borrow.Author.Needs.{needs}
 use mathlib.Core.Path.{_≡_}
 use Prim.Native.Nat.{_+_, _-_, _≤_}

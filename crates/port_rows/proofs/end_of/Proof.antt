@@ -1,4 +1,4 @@
--- `port_rows::end_of` meets its contract. Assumes nothing.
+-- `port_rows::end_of` meets its contract: the last process of the pipe stands as far on as the box reaches. Assumes nothing.
 use borrow.Author.Needs.{needs}
 use mathlib.Core.Path.{refl, _∙_, ap}
 use Prim.Native.Nat.{ℕ, _+_}

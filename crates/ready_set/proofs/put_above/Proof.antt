@@ -1,4 +1,4 @@
--- `ready_set::put_above` meets its contract. Assumes nothing.
+-- `ready_set::put_above` meets its contract: a lower word that stays leaves the upper one as it was. Assumes nothing.
 use mathlib.Core.Path.{_≡_, sym, _∙_, ap}
 use mathlib.Core.Bool.{Bool, cond}
 use mathlib.Core.List.{List}

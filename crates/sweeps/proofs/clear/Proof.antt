@@ -1,4 +1,4 @@
--- `sweeps::clear` meets its contract. Assumes nothing.
+-- `sweeps::clear` meets its contract: the first p words are 0. Assumes nothing.
 use mathlib.Core.Path.{_≡_, refl, sym}
 use Prim.Native.Nat.{_≤_, _-_}
 use native.Mathlib.Omega.{arith}

@@ -1,4 +1,5 @@
--- `table_words::table_words` meets its contract. Assumes nothing.
+-- `table_words::table_words` meets its contract: as many rows are lent as fit into the words, so what the call leaves has room there. Assumes
+-- nothing.
 use mathlib.Core.Path.{refl, sym, _∙_}
 use lib.ListN.{length}
 use denote.Ref.{now}

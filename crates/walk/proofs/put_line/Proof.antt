@@ -1,4 +1,4 @@
--- `walk::put_line` meets its contract. Assumes nothing.
+-- `walk::put_line` meets its contract: a process that computes has its first instance, and so many by the increment. Assumes nothing.
 use mathlib.Core.Path.{ap}
 use Prim.Native.Nat.{ℕ, _+_}
 use native.Mathlib.Omega.{arith}

@@ -1,4 +1,5 @@
--- `window::all_searched` meets its contract. Assumes nothing.
+-- `window::all_searched` meets its contract: the search in what is left of the streams has the answer of the whole; a stream adds at most 4,194,304
+-- to the start. Assumes nothing.
 use mathlib.Core.Path.{_≡_, refl, sym, _∙_, ap}
 use Prim.Native.Nat.{_+_, _*_, _-_, _≤_}
 use native.Mathlib.Omega.{arith}

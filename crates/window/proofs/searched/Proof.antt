@@ -1,4 +1,5 @@
--- `window::searched` meets its contract. Assumes nothing.
+-- `window::searched` meets its contract: the search in what is left of the processes has the answer of the whole; no start passes 32 bits, since
+-- every pipe has at most 4,096 elements. Assumes nothing.
 use mathlib.Core.Path.{_≡_, refl, _∙_, ap}
 use Prim.Native.Nat.{_+_, _*_, _-_, _≤_}
 use native.Mathlib.Omega.{arith}
