@@ -1,5 +1,5 @@
-//! A plain Rust Run of the library's design, whose time is that of the design alone: rows by port and pipe, ready steps as flags by rank, and after a
-//! step only the steps near it tested anew.
+//! A plain Rust Run of the library's design, whose time is that of the design alone: rows by port and pipe, ready steps as flags by rank,
+//! and after a step only the steps near it tested anew.
 
 use reference::board::GAUGE;
 use reference::body::Line;
@@ -40,7 +40,8 @@ fn first(process: &Process) -> Instance {
 
 // Rows.
 
-/// A process and a stream: at which indices the words of its rules stand in a state, and what else they ask. Off every pipe its links have no place.
+/// A process and a stream: at which indices the words of its rules stand in a state, and what else they ask. Off every pipe its links have
+/// no place.
 struct Port {
     /// Of taken, with given, hand, keep and the places of the link into the port behind it.
     at: usize,

@@ -1,5 +1,5 @@
-//! Holds the proved library against the second implementation, then prints how long each call takes. The first word of the command line is the
-//! seed of the random descriptions and scripts.
+//! Holds the proved library against the second implementation, then prints how long each call takes. The first word of the command line is
+//! the seed of the random descriptions and scripts.
 
 mod answers;
 mod design;

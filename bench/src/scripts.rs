@@ -1,4 +1,5 @@
-//! Plays random scripts, call by call, on the library and on the second implementation. Some of a script's calls are told another board than its own.
+//! Plays random scripts, call by call, on the library and on the second implementation. Some of a script's calls are told another board
+//! than its own.
 
 use reference::board::{BENCH, GAUGE};
 use reference::calls::{Lent, READY_WORDS};

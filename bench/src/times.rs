@@ -15,9 +15,9 @@ use crate::library::{self, FIGURES, ROW_WORDS};
 /// How long a call of each implementation is repeated.
 const LONG: Duration = Duration::from_millis(400);
 
-/// The report's designs, the matrix product on a slanted grid (request 2.7), design one with operation 6 (request 2.1), two designs with guards (request 2.5)
-/// and request 2.2's as large as they may be, 1,024 processes with four instances each, with three streams and with six, and six streams with boxes of 4,096
-/// elements (request 2.4).
+/// The report's designs, the matrix product on a slanted grid (request 2.7), design one with operation 6 (request 2.1), two designs with
+/// guards (request 2.5) and request 2.2's as large as they may be, 1,024 processes with four instances each, with three streams and with
+/// six, and six streams with boxes of 4,096 elements (request 2.4).
 pub fn arrays() -> Vec<(&'static str, Description)> {
     let mut twice = designs::matrix_twice(31);
     twice.right[2] = 3;
@@ -257,8 +257,9 @@ fn print_on_states(board: u32, name: &str, bytes: &[u8], values: &[u32]) {
     print_run(board, name, bytes, &waiting, [&started, &ended]);
 }
 
-/// A run to the end, by the step: with the tables that a call makes, and without them, which is a run to the end less a run of no step, beside the second
-/// implementation, which looks for each step from the first and runs once, and beside the loop of a plain Rust program of the same design.
+/// A run to the end, by the step: with the tables that a call makes, and without them, which is a run to the end less a run of no step,
+/// beside the second implementation, which looks for each step from the first and runs once, and beside the loop of a plain Rust program of
+/// the same design.
 fn print_run(board: u32, name: &str, bytes: &[u8], waiting: &[u32], [started, ended]: [&Stage; 2]) {
     let steps = Calls::on(board, bytes)
         .accept()

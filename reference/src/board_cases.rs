@@ -4,7 +4,8 @@ use crate::body::{Line, Operation};
 use crate::description::Description;
 use crate::designs;
 
-/// Arrays at the bench's limits and just beyond, and such that refusals 7 to 17 decline on the gauge: the bench's 6 or 10 comes before in the larger ones.
+/// Arrays at the bench's limits and just beyond, and such that refusals 7 to 17 decline on the gauge: the bench's 6 or 10 comes before in
+/// the larger ones.
 pub fn board_cases() -> Vec<Description> {
     let mut cases = by_instances();
     cases.extend(by_processes());

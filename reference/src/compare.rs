@@ -71,9 +71,9 @@ pub fn text(records: &[Record]) -> String {
         .collect()
 }
 
-/// Accept's thirteen values or its refusal, a line for the walk, one for Table and one for Plain run: for each its number, 0 if it did not decline, and the
-/// sum of its list. The walk, the rows and the final values of a small array stand below. A description that is declined counts as one process and one
-/// element.
+/// Accept's thirteen values or its refusal, a line for the walk, one for Table and one for Plain run: for each its number, 0 if it did not
+/// decline, and the sum of its list. The walk, the rows and the final values of a small array stand below. A description that is declined
+/// counts as one process and one element.
 fn record_text(number: u32, record: &Record) -> String {
     let calls = Calls::on(record.board, &record.description);
     let accepted = calls.accept();
@@ -220,8 +220,8 @@ fn row_words(row: &Row) -> Vec<u32> {
     numbers.into_iter().map(|number| number as u32).collect()
 }
 
-/// Some 4,400 descriptions: designs and cases on the gauge, random ones, of which three in ten are told the bench and a few no board, and such that
-/// show the boards, on both and on none.
+/// Some 4,400 descriptions: designs and cases on the gauge, random ones, of which three in ten are told the bench and a few no board, and
+/// such that show the boards, on both and on none.
 pub fn records() -> Vec<Record> {
     let mut records = on(GAUGE, fixed_descriptions());
     records.extend(random_records(&mut Random::new(3)));
@@ -236,8 +236,8 @@ pub fn records() -> Vec<Record> {
     records
 }
 
-/// The report's designs, document 01's cases, decimating filters, fixed point products, cleared accumulators, arrays at the limits, words of lines at the
-/// ends of their ranges, descriptions of the older length, and such that show common divisors or the walk.
+/// The report's designs, document 01's cases, decimating filters, fixed point products, cleared accumulators, arrays at the limits, words
+/// of lines at the ends of their ranges, descriptions of the older length, and such that show common divisors or the walk.
 fn fixed_descriptions() -> Vec<Vec<u8>> {
     let designs = [
         report_designs(),
@@ -346,7 +346,8 @@ fn report_designs() -> Vec<Description> {
     all
 }
 
-/// Document 01's other cases: places, steps and an index map that are refused or just pass, bounds 0 to 0, and grids of 32 by 32 and 33 by 32.
+/// Document 01's other cases: places, steps and an index map that are refused or just pass, bounds 0 to 0, and grids of 32 by 32 and 33 by
+/// 32.
 fn worked_cases() -> Vec<Description> {
     let two = |place: [i32; 2], step: [i32; 2]| Description {
         place: vec![place.to_vec()],

@@ -93,8 +93,8 @@ pub fn polynomial_two(n: i32) -> Description {
     polynomial(n, [1, 1], [0, 0, 1])
 }
 
-/// Request 2.7: the loops and the step of the polynomial product with place 2i: streams x: i and y: i, both with loading 1. Each y gains its x n+1 times, and
-/// every second process is null.
+/// Request 2.7: the loops and the step of the polynomial product with place 2i: streams x: i and y: i, both with loading 1. Each y gains
+/// its x n+1 times, and every second process is null.
 pub fn spaced(n: i32) -> Description {
     Description {
         place: vec![vec![2, 0]],
@@ -113,8 +113,8 @@ pub fn fixed_one(n: i32) -> Description {
     }
 }
 
-/// Request 2.1: a filter with fractional coefficients, on 16.16 numbers. Loops i over outputs 0..m and j over taps 0..n, step 2i+j, place i; streams h: j,
-/// x: i+j, y: i with loading 1. Each y is the sum of h times x over its window.
+/// Request 2.1: a filter with fractional coefficients, on 16.16 numbers. Loops i over outputs 0..m and j over taps 0..n, step 2i+j, place
+/// i; streams h: j, x: i+j, y: i with loading 1. Each y is the sum of h times x over its window.
 pub fn smoothing(m: i32, n: i32) -> Description {
     Description {
         right: vec![m, n],
@@ -133,8 +133,8 @@ pub fn cleared_one(n: i32) -> Description {
     cleared(&guards, polynomial_one(n))
 }
 
-/// Request 2.5: the polynomial product with loops i 1..3 and j −1..1, both in direction −1, and step −2i−j, which clears c where i is at least 3 or j at
-/// most −1.
+/// Request 2.5: the polynomial product with loops i 1..3 and j −1..1, both in direction −1, and step −2i−j, which clears c where i is at
+/// least 3 or j at most −1.
 pub fn cleared_turned() -> Description {
     let guards = [
         Guard::new(0, Comparison::AtLeast, 3),
@@ -197,8 +197,8 @@ pub fn matrix_twice(n: i32) -> Description {
     }
 }
 
-/// Request 2.4: boxes of as many elements as there are instances, with n = 63 the largest that are accepted. Loops 0..n, 0..n and 0..0, place (i,k), step
-/// i+j+k, six streams (i,j), of which the last gains the product of the first two, that of the next two, and the fifth.
+/// Request 2.4: boxes of as many elements as there are instances, with n = 63 the largest that are accepted. Loops 0..n, 0..n and 0..0,
+/// place (i,k), step i+j+k, six streams (i,j), of which the last gains the product of the first two, that of the next two, and the fifth.
 pub fn sheet(n: i32) -> Description {
     let mut body = [gain(0, 1, 5), gain(2, 3, 5)].concat();
     body.push(add(5, 5, 4));
@@ -212,8 +212,8 @@ pub fn cleared_matrix(n: i32) -> Description {
     cleared(&guards, matrix_straight(n))
 }
 
-/// Request 2.5: a matrix of two rows times a column of two, loops 0..1, 0..0 and 0..1, the last from right to left, with place (i,j) and step i+j−k, that
-/// clears c itself, where k = 1.
+/// Request 2.5: a matrix of two rows times a column of two, loops 0..1, 0..0 and 0..1, the last from right to left, with place (i,j) and
+/// step i+j−k, that clears c itself, where k = 1.
 pub fn cleared_column() -> Description {
     let guards = [Guard::new(2, Comparison::Equal, 1)];
     let column = Description {
@@ -240,8 +240,8 @@ pub fn decimating(m: i32, n: i32) -> Description {
     }
 }
 
-/// A decimating filter for each of four channels, with its own five taps: loops i over outputs, j over taps, k over channels, place (i+2k, i+j), step
-/// 3i+j+5k, streams h: (j,k), x: (2i+j,k), y: (i,k). The increment is (−2,2,1).
+/// A decimating filter for each of four channels, with its own five taps: loops i over outputs, j over taps, k over channels, place (i+2k,
+/// i+j), step 3i+j+5k, streams h: (j,k), x: (2i+j,k), y: (i,k). The increment is (−2,2,1).
 pub fn decimating_channels() -> Description {
     let maps = [
         [[0, 1, 0], [0, 0, 1]],
@@ -258,8 +258,8 @@ pub fn decimating_channels() -> Description {
     )
 }
 
-/// Sums over windows of 21 that begin at every fourth value, in two channels: place (4i+4j+k, 4i−j), step 2i+j+k, streams y: (i,j), x: (i,4j+k). The
-/// increment is (−1,−4,20): the longest stride with which a process has two instances.
+/// Sums over windows of 21 that begin at every fourth value, in two channels: place (4i+4j+k, 4i−j), step 2i+j+k, streams y: (i,j), x:
+/// (i,4j+k). The increment is (−1,−4,20): the longest stride with which a process has two instances.
 pub fn decimating_by_four() -> Description {
     let maps = [[[1, 0, 0], [0, 1, 0]], [[1, 0, 0], [0, 4, 1]]];
     let place = [[4, 4, 1], [4, -1, 0]];

@@ -11,7 +11,8 @@ const STREAMS: usize = 6;
 /// The largest word of a matrix.
 const REACH: i32 = 4;
 
-/// The spaced and the slanted array, every place of two loops, places and streams of every divisor in three, kept, moving and turned, and refused ones.
+/// The spaced and the slanted array, every place of two loops, places and streams of every divisor in three, kept, moving and turned, and
+/// refused ones.
 pub fn divisor_cases() -> Vec<Description> {
     let mut cases: Vec<Description> = (0..=3).map(designs::spaced).collect();
     cases.extend([designs::spaced(63), designs::matrix_slanted(15)]);
@@ -25,7 +26,8 @@ pub fn divisor_cases() -> Vec<Description> {
     cases
 }
 
-/// One instance, at 0, with streams of those index maps, none of them written. A stream that does not move is loaded along the first coordinate.
+/// One instance, at 0, with streams of those index maps, none of them written. A stream that does not move is loaded along the first
+/// coordinate.
 pub fn one_instance(step: &[i32], place: &Matrix, maps: &[Matrix]) -> Description {
     let loops = step.len();
     let stationary = |map: &Matrix| {

@@ -1,5 +1,5 @@
-//! The files of `examples/`: the report's designs, decimating filters, a filter with fractional coefficients, a product that clears its accumulators, an
-//! array whose working processes lie apart and one that is too wide for the bench as descriptions, and replay scripts.
+//! The files of `examples/`: the report's designs, decimating filters, a filter with fractional coefficients, a product that clears its
+//! accumulators, an array whose working processes lie apart and one that is too wide for the bench as descriptions, and replay scripts.
 
 use crate::board::{BENCH, GAUGE};
 use crate::description::Description;
@@ -18,9 +18,9 @@ pub struct ExampleScript {
     pub script: Script,
 }
 
-/// The polynomial product in designs one and two and the matrix product on three layouts, the small ones of document 01 and large ones, request 2.2's
-/// decimating filter, for one channel and for several, request 2.1's fractional coefficients, request 2.5's cleared accumulators, request 2.7's array
-/// with place 2i, and request 2.9's array of 272 processes, which the gauge holds and the bench does not.
+/// The polynomial product in designs one and two and the matrix product on three layouts, the small ones of document 01 and large ones,
+/// request 2.2's decimating filter, for one channel and for several, request 2.1's fractional coefficients, request 2.5's cleared
+/// accumulators, request 2.7's array with place 2i, and request 2.9's array of 272 processes, which the gauge holds and the bench does not.
 pub fn examples() -> Vec<Example> {
     [
         ("polynomial-one", designs::polynomial_one(2)),
@@ -43,8 +43,9 @@ pub fn examples() -> Vec<Example> {
     .collect()
 }
 
-/// Document 01's polynomial product in design two, the fractional filter on 16.16 numbers, the product that clears what c held, and the matrix product on the
-/// slanted grid, on the gauge, and design two on the bench: forty steps, who is ready, all the others, and the result.
+/// Document 01's polynomial product in design two, the fractional filter on 16.16 numbers, the product that clears what c held, and the
+/// matrix product on the slanted grid, on the gauge, and design two on the bench: forty steps, who is ready, all the others, and the
+/// result.
 pub fn example_scripts() -> Vec<ExampleScript> {
     let factors = vec![1, 2, 3, 4, 5, 6, 0, 0, 0, 0, 0];
     [

@@ -192,8 +192,8 @@ fn compare_case() -> Case {
 /// How many random scripts are replayed.
 const SCRIPTS: usize = 1000;
 
-/// The replay of the examples, run to their end, of the example scripts, of designs of requests 2.5 and 2.7 in two orders, of the examples and designs of
-/// request 2.9 on its boards, and of random scripts, in one bundle.
+/// The replay of the examples, run to their end, of the example scripts, of designs of requests 2.5 and 2.7 in two orders, of the examples
+/// and designs of request 2.9 on its boards, and of random scripts, in one bundle.
 fn replay_case() -> Case {
     let stdin = bundle(&replay_scripts());
     Case {
@@ -237,7 +237,8 @@ fn in_two_orders(description: &Description) -> [Vec<u8>; 2] {
     ]
 }
 
-/// Scripts that run the examples to their end on the bench, where it holds them, the bench's largest arrays on both boards, and one on no board.
+/// Scripts that run the examples to their end on the bench, where it holds them, the bench's largest arrays on both boards, and one on no
+/// board.
 fn on_boards() -> Vec<Vec<u8>> {
     let on_the_bench = examples()
         .into_iter()
@@ -256,7 +257,8 @@ fn run_to_the_end(board: u32, description: &Description) -> Vec<u8> {
     to_the_end_by(board, description, calls)
 }
 
-/// A script that comes to a description's end on a board by some calls and asks for all that came out. Its values are as many as the gauge takes.
+/// A script that comes to a description's end on a board by some calls and asks for all that came out. Its values are as many as the gauge
+/// takes.
 fn to_the_end_by(board: u32, description: &Description, mut calls: Vec<Call>) -> Vec<u8> {
     let description = description.bytes();
     let elements = Calls::on(GAUGE, &description)

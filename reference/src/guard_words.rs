@@ -3,8 +3,8 @@
 use crate::description::{bytes_of, Description, LINE_WORDS};
 use crate::designs;
 
-/// Guards of the first and of the last line of a cleared product of two loops and of one of three: every comparison with the ends of the other ranges,
-/// and each word just out of its own.
+/// Guards of the first and of the last line of a cleared product of two loops and of one of three: every comparison with the ends of the
+/// other ranges, and each word just out of its own.
 pub fn guard_words() -> Vec<Vec<u8>> {
     let mut descriptions = Vec::new();
     for product in [designs::cleared_one(2), designs::cleared_column()] {

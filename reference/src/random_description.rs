@@ -123,7 +123,8 @@ fn body(random: &mut Random, nest: &Description, streams: usize) -> Vec<Line> {
         .collect()
 }
 
-/// A guard, often of comparison 0. Most bounds are near those of the loop, so that the line runs in some instances and not in others; the rest are any.
+/// A guard, often of comparison 0. Most bounds are near those of the loop, so that the line runs in some instances and not in others; the
+/// rest are any.
 pub fn guard(random: &mut Random, nest: &Description) -> Guard {
     let loop_number = random.below(nest.loops());
     let comparison = if random.percent(40) {

@@ -36,8 +36,8 @@ fn has_divisor(description: &Description) -> bool {
     accepted.is_ok_and(|accepted| accepted.divisors.iter().any(|&divisor| divisor > 1))
 }
 
-/// Loops, step and place that pass refusals 5 to 10, without a stream, and short lines for streams. Many loops have one index, since elements that lie
-/// apart fill no box.
+/// Loops, step and place that pass refusals 5 to 10, without a stream, and short lines for streams. Many loops have one index, since
+/// elements that lie apart fill no box.
 fn nest(random: &mut Random) -> (Description, Vec<Point>) {
     loop {
         let loops = random.pick(&[2, 3, 3]);

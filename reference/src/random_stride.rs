@@ -6,8 +6,8 @@ use crate::random::Random;
 use crate::random_description::{filled, laid_out, map_of_place, matrix};
 use crate::vectors::{dot, shortest, times, within_one, Point};
 
-/// The most processes: enough for two instances at one process with a component of 20. There are none with a longer one, as its bounds would hold over
-/// 1,024 processes.
+/// The most processes: enough for two instances at one process with a component of 20. There are none with a longer one, as its bounds
+/// would hold over 1,024 processes.
 const MOST: usize = 400;
 
 /// A description with a longer stride that Accept accepts. In most of them some process runs several instances.

@@ -1,10 +1,11 @@
 //! Replay: plays the calls of a script on lists that the script lends.
 //!
-//! A script is words, least byte first: the number of bytes of the description; its bytes, padded to a whole word; the board word, which every call is told;
-//! the number of values; the values; then calls of four words each: 0 step (kind, number, stream), 1 run (steps), 2 ready, 3 window (pipe, side), 4 result,
-//! 5 show the state, 6 show the received list, 7 poke (word of the state, value), 8 lend (list, length). Any other number ends the script. Words that a call
-//! does not use are ignored, and so is a last call that is cut off. The output has a line for Accept, one for Start and one for each call. Accept's has the
-//! six figures, the divisor of place and that of each stream in use.
+//! A script is words, least byte first: the number of bytes of the description; its bytes, padded to a whole word; the board word, which
+//! every call is told; the number of values; the values; then calls of four words each: 0 step (kind, number, stream), 1 run (steps), 2
+//! ready, 3 window (pipe, side), 4 result, 5 show the state, 6 show the received list, 7 poke (word of the state, value), 8 lend (list,
+//! length). Any other number ends the script. Words that a call does not use are ignored, and so is a last call that is cut off. The output
+//! has a line for Accept, one for Start and one for each call. Accept's has the six figures, the divisor of place and that of each stream
+//! in use.
 //!
 //! Several scripts stand in a bundle: the word 2^32 − 1, with which no whole script begins, since no
 //! description is so long; then for each script its number of bytes, a word, and the script. What each

@@ -1,4 +1,5 @@
-//! Request 2.4: the walk, which goes through the instances process by process in row order, along each process's own line from first to last.
+//! Request 2.4: the walk, which goes through the instances process by process in row order, along each process's own line from first to
+//! last.
 
 use std::iter::successors;
 

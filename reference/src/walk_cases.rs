@@ -42,8 +42,8 @@ fn unwritten<const R: usize>(
 
 // Boxes.
 
-/// Six streams of as many elements as there are instances, up to 4,096; one such stream on other places, and others on place (i,k) whose boxes are filled or
-/// are twice as large.
+/// Six streams of as many elements as there are instances, up to 4,096; one such stream on other places, and others on place (i,k) whose
+/// boxes are filled or are twice as large.
 fn sheets() -> Vec<Description> {
     let bounds = [(0, 63), (0, 63), (0, 0)];
     let mut sheets = [0, 1, 2, 63].map(designs::sheet).to_vec();
@@ -73,9 +73,9 @@ fn unfilled_in_two_loops() -> Vec<Description> {
     ]
 }
 
-/// Boxes of which the middle row is untouched, or the end of the first row and the beginning of the second, or two corners, with fewer elements than there
-/// are instances, with as many, and with more, up to 633 by 633. What is touched looks the same from both ends, so no first untouched element comes after
-/// the middle.
+/// Boxes of which the middle row is untouched, or the end of the first row and the beginning of the second, or two corners, with fewer
+/// elements than there are instances, with as many, and with more, up to 633 by 633. What is touched looks the same from both ends, so no
+/// first untouched element comes after the middle.
 fn unfilled_in_three_loops() -> Vec<Description> {
     let all = (-64, 64);
     let (two, three, four, five) = ((0, 1), (0, 2), (0, 3), (0, 4));
@@ -148,8 +148,8 @@ fn from_right_to_left() -> Vec<Description> {
     cases
 }
 
-/// A stream that is kept on places with null processes between working ones, with whole rows of them, and with an order of processes that is not that of the
-/// loops.
+/// A stream that is kept on places with null processes between working ones, with whole rows of them, and with an order of processes that
+/// is not that of the loops.
 fn apart() -> Vec<Description> {
     let mut cases = Vec::new();
     for factor in [3, 4, -2] {

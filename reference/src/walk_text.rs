@@ -4,8 +4,8 @@ use crate::geometry::Nest;
 use crate::vectors::{dot, times};
 use crate::walk::walk;
 
-/// A line with the numbers of processes and instances, then a line for each instance in the order of the walk: its process's point (y), its step (t) and
-/// itself (x); or the refusal.
+/// A line with the numbers of processes and instances, then a line for each instance in the order of the walk: its process's point (y), its
+/// step (t) and itself (x); or the refusal.
 pub fn walk_text(board: u32, description: &[u8]) -> String {
     let nest = match Nest::on(board, description) {
         Ok(nest) => nest,

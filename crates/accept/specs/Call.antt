@@ -10,8 +10,8 @@ use Rattle.meaning.specs.declared.Limits.{Limits}
 use Rattle.meaning.specs.Description.{descriptionOf}
 use Rattle.meaning.specs.Accept.{refusalOf, figures, divisors, accept}
 
-pub accepts : (l : Limits) (s : List ℕ) {f : Figures} {g : Divisors} → refusalOf l s ≡ 0 → f ≡ figures (descriptionOf s) → g ≡ divisors (descriptionOf s)
-    → Accepted f g ≡ accept l s
+pub accepts : (l : Limits) (s : List ℕ) {f : Figures} {g : Divisors} → refusalOf l s ≡ 0 → f ≡ figures (descriptionOf s)
+    → g ≡ divisors (descriptionOf s) → Accepted f g ≡ accept l s
 unfolding accept
 accepts l s e h k = rw e (ap₂ Accepted h k)
 

@@ -1,5 +1,5 @@
--- The links of a pipe by the words that count them and hold their places: before and after a process on it, at its entry and at its output end. Assumes a
--- description that is not refused.
+-- The links of a pipe by the words that count them and hold their places: before and after a process on it, at its entry and at its output
+-- end. Assumes a description that is not refused.
 use mathlib.Core.Path.{_≡_, refl, sym, _∙_, ap, ap₂, subst}
 use mathlib.Core.Bool.{Bool, true, cond}
 use Prim.Native.Nat.{ℕ, zero, suc, _+_, _≤_, _<_}
@@ -89,12 +89,14 @@ module _ (d : Description) (i j : ℕ) (hi : i < length (streamsOf d)) (hj : j <
 
     pub taken-at : takenOut B number k ≡ Taken (rowIndex (space m) (pointAt k)) i
     taken-at =
-        ap (λ (b : Bool). cond b (Taken (processOn B number k) (streamOn B number)) (Received number)) (lt-ltb k (stopsOn B number) stop-here)
+        ap (λ (b : Bool). cond b (Taken (processOn B number k) (streamOn B number)) (Received number))
+        (lt-ltb k (stopsOn B number) stop-here)
         ∙ ap₂ Taken process-here (stream-on d i j hi hj)
 
     pub link-at : (x : ℕ) → linkPlace B number k x ≡ Place (rowIndex (space m) (pointAt k)) i x
     link-at x =
-        ap (λ (b : Bool). cond b (Place (processOn B number k) (streamOn B number) x) (End number x)) (lt-ltb k (stopsOn B number) stop-here)
+        ap (λ (b : Bool). cond b (Place (processOn B number k) (streamOn B number) x) (End number x))
+        (lt-ltb k (stopsOn B number) stop-here)
         ∙ ap₂ (λ (a b : ℕ). Place a b x) process-here (stream-on d i j hi hj)
 
   -- beyond the last one
@@ -119,7 +121,8 @@ module _ {d : Description} (laid : Laid d) where
 
   -- ---- the links before and after a process
 
-  module _ (p i : ℕ) (hp : p < length (processes n)) (hi : i < length (streamsOf d)) (on : isPipe n (streamAt d i) (pointOf d p) ≡ true) where
+  module _ (p i : ℕ) (hp : p < length (processes n)) (hi : i < length (streamsOf d))
+      (on : isPipe n (streamAt d i) (pointOf d p) ≡ true) where
     abbrev s : Stream
     s = streamAt d i
 
@@ -156,11 +159,13 @@ module _ {d : Description} (laid : Laid d) where
         go : (b : ℕ) → 0 < b → b ≡ before n s y → putIn A (pipeIndex d p i) b ≡ Given (rowIndex (space n) (backOf n s y)) i
         go zero l e = absurd (omega arith)
         go (suc b) l e =
-            let w : suc b < length (pipe n s (entryAt d i j)) = subst (λ (c : ℕ). c < length (pipe n s (entryAt d i j))) (sym e) (place-lt laid p i hp hi on) in
+            let w : suc b < length (pipe n s (entryAt d i j)) = subst (λ (c : ℕ). c < length (pipe n s (entryAt d i j))) (sym e)
+            (place-lt laid p i hp hi on) in
             given-at d i j hi j-lt b (omega arith)
             ∙ ap (λ (v : V2). Given (rowIndex (space n) v) i)
             (shift-turn {p = processAt n s (entryAt d i j) b} (move n s) (pos 1)
-            (sym (process-at laid p i hp hi on) ∙ ap (processAt n s (entryAt d i j)) (sym e) ∙ pipe-next accepted (entryAt d i j) b zero2 w))
+            (sym (process-at laid p i hp hi on) ∙ ap (processAt n s (entryAt d i j)) (sym e)
+            ∙ pipe-next accepted (entryAt d i j) b zero2 w))
 
     -- out of the link after it takes the output end or the process after it
     next-lt : 0 < reach (space n) (move n s) y → suc (before n s y) < length (pipe n s (entryAt d i j))
@@ -168,7 +173,8 @@ module _ {d : Description} (laid : Laid d) where
 
     next-is : 0 < reach (space n) (move n s) y → processAt n s (entryAt d i j) (suc (before n s y)) ≡ onOf n s y
     next-is l =
-        pipe-next accepted (entryAt d i j) (before n s y) zero2 (next-lt l) ∙ ap (λ (v : V2). shift2 v (pos 1) (move n s)) (process-at laid p i hp hi on)
+        pipe-next accepted (entryAt d i j) (before n s y) zero2 (next-lt l)
+        ∙ ap (λ (v : V2). shift2 v (pos 1) (move n s)) (process-at laid p i hp hi on)
 
     none-next : reach (space n) (move n s) y ≡ 0 → length (pipe n s (entryAt d i j)) ≤ suc (before n s y)
     none-next z = omega (arith, length-is laid p i hp hi on)
@@ -184,7 +190,8 @@ module _ {d : Description} (laid : Laid d) where
 
     pub link-last : reach (space n) (move n s) y ≡ 0 → (x : ℕ) → linkPlace A q (suc k) x ≡ End q x
     link-last z x =
-        at-port laid p i hp hi on (λ q k. linkPlace A q (suc k) x ≡ End q x) (link-beyond d i j hi j-lt (suc (before n s y)) (none-next z) x)
+        at-port laid p i hp hi on (λ q k. linkPlace A q (suc k) x ≡ End q x)
+        (link-beyond d i j hi j-lt (suc (before n s y)) (none-next z) x)
 
     pub link-next : 0 < reach (space n) (move n s) y → (x : ℕ) → linkPlace A q (suc k) x ≡ Place (rowIndex (space n) (onOf n s y)) i x
     link-next l x =
@@ -235,7 +242,8 @@ module _ {d : Description} (laid : Laid d) where
     pub put-end : putIn A r (stopsOn A r) ≡ Given (rowIndex (space n) (exitOf n lane e)) i
     put-end =
         ap (putIn A r) (stops-on d i j hi hj ∙ entry-length)
-        ∙ given-at d i j hi hj (reach (space n) (move n lane) e) (omega (arith, entry-length)) ∙ ap (λ (v : V2). Given (rowIndex (space n) v) i) last-is
+        ∙ given-at d i j hi hj (reach (space n) (move n lane) e) (omega (arith, entry-length))
+        ∙ ap (λ (v : V2). Given (rowIndex (space n) v) i) last-is
 
     pub link-end : (x : ℕ) → linkPlace A r (stopsOn A r) x ≡ End r x
     link-end x = link-beyond d i j hi hj (stopsOn A r) (omega (arith, stops-on d i j hi hj)) x

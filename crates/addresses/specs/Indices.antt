@@ -1,5 +1,5 @@
--- Where the words of a state stand, by the description: those of a process and a stream, and those of a pipe by its stream and entry; and how many there
--- are. Assumes nothing but, of the waiting list, a description that is not refused.
+-- Where the words of a state stand, by the description: those of a process and a stream, and those of a pipe by its stream and entry; and
+-- how many there are. Assumes nothing but, of the waiting list, a description that is not refused.
 use mathlib.Core.Path.{_≡_, refl, sym, _∙_, ap, ap₂}
 use Prim.Native.Nat.{ℕ, _+_, _*_, _≤_, _<_}
 use native.Mathlib.Nat.{add-assoc}
@@ -40,7 +40,8 @@ abbrev pub portAt : Description → ℕ → ℕ → ℕ
 portAt d p i = p * strideOf d + 1 + total (portWords (d .nest)) (take i (streamsOf d))
 
 abbrev pub endAt : Description → ℕ → ℕ → ℕ
-endAt d i j = length (processes (d .nest)) * strideOf d + total (endsWords (d .nest)) (take i (streamsOf d)) + j * endWords (d .nest) (streamAt d i)
+endAt d i j =
+    length (processes (d .nest)) * strideOf d + total (endsWords (d .nest)) (take i (streamsOf d)) + j * endWords (d .nest) (streamAt d i)
 
 module _ (d : Description) where
   abbrev n : Nest
@@ -85,12 +86,14 @@ module _ (d : Description) where
   ends-of s = total-same (λ (y : V2). endWords n s) (endWords n s) (λ y. refl) (entries n s)
 
   -- the last entry's number and one more will do
-  pub sent-index : (i j : ℕ) → i < length (streamsOf d) → j ≤ length (entries n (streamAt d i)) → index A (Sent (base d i + j)) ≡ endAt d i j
+  pub sent-index : (i j : ℕ) → i < length (streamsOf d) → j ≤ length (entries n (streamAt d i))
+      → index A (Sent (base d i + j)) ≡ endAt d i j
   unfolding arrayOf
   sent-index i j hi hj =
       ap₂ _+_ start-is
       (before-from (λ r. 2 + r .hop) (λ s y. endWords n s) n (λ i e s y. refl) 0 0 (streamsOf d) i j hi hj
-      ∙ ap₂ _+_ (total-like (λ s. total (λ y. endWords n s) (entries n s)) (endsWords n) (streamsOf d) i noStream (omega arith) (λ k m. ends-of (streamAt d k)))
+      ∙ ap₂ _+_ (total-like (λ s. total (λ y. endWords n s) (entries n s)) (endsWords n) (streamsOf d) i noStream (omega arith)
+      (λ k m. ends-of (streamAt d k)))
       (total-times (endWords n (streamAt d i)) (entries n (streamAt d i)) j hj))
       ∙ sym (add-assoc (length (processes n) * strideOf d) (total (endsWords n) (take i (streamsOf d))) (j * endWords n (streamAt d i)))
 
@@ -100,7 +103,8 @@ module _ (d : Description) where
   unfolding arrayOf
   word-count =
       ap₂ _+_ start-is
-      (all-from (λ r. 2 + r .hop) (λ s y. endWords n s) n (λ i e s y. refl) 0 0 (streamsOf d) ∙ sym (whole (λ s. total (λ y. endWords n s) (entries n s)))
+      (all-from (λ r. 2 + r .hop) (λ s y. endWords n s) n (λ i e s y. refl) 0 0 (streamsOf d)
+      ∙ sym (whole (λ s. total (λ y. endWords n s) (entries n s)))
       ∙ total-like (λ s. total (λ y. endWords n s) (entries n s)) (endsWords n) (streamsOf d) (length (streamsOf d)) noStream (omega arith)
       (λ k m. ends-of (streamAt d k))
       ∙ whole (endsWords n))

@@ -1,5 +1,5 @@
--- The place of an element in the waiting list: in the part of the pipe through the process of any instance that touches it, at its index among that pipe's
--- elements. Assumes a description that is not refused.
+-- The place of an element in the waiting list: in the part of the pipe through the process of any instance that touches it, at its index
+-- among that pipe's elements. Assumes a description that is not refused.
 use mathlib.Core.Path.{_≡_, refl, sym, _∙_, ap, subst}
 use mathlib.Core.Bool.{true}
 use mathlib.Core.List.{List, List·Memᴰ as In}
@@ -47,7 +47,8 @@ module _ {d : Description} (laid : Laid d) where
   A = arrayOf d
 
   -- element x of pipe q waits at place x of its part
-  pub waits-at : (q x : ℕ) → q < pipeNumber A → x < elementsOn A q → getD (pipeOrder A) (partStart A q + x) 0 ≡ getD (pipeAt A q .elements) x 0
+  pub waits-at : (q x : ℕ) → q < pipeNumber A → x < elementsOn A q
+      → getD (pipeOrder A) (partStart A q + x) 0 ≡ getD (pipeAt A q .elements) x 0
   waits-at q x h l = each-part (λ r. r .elements) (A .pipes) q x noPipe 0 h l
 
   pub waits-lt : (q x : ℕ) → q < pipeNumber A → x < elementsOn A q → partStart A q + x < listLength A
@@ -104,7 +105,8 @@ module _ {d : Description} (laid : Laid d) where
     -- the process of an instance is on a pipe
     pub place-on-pipe : isPipe n s (pointOf d p) ≡ true
     place-on-pipe =
-        ap (isPipe n s) point ∙ is-true (isPipe n s y) (yes-any (computing n) (pipe-self accepted place-inside) (is-computing (laid .layout) run))
+        ap (isPipe n s) point
+        ∙ is-true (isPipe n s y) (yes-any (computing n) (pipe-self accepted place-inside) (is-computing (laid .layout) run))
 
     through : touchedPipe ≡ pipeIndex d p i
     through = through-is laid p i p-lt hi place-on-pipe
@@ -114,7 +116,8 @@ module _ {d : Description} (laid : Laid d) where
 
     pub index-lt : touchedIndex < elementsOn A touchedPipe
     index-lt =
-        subst (λ (c : ℕ). touchedIndex < c) (sym (elements-is laid p i p-lt hi place-on-pipe ∙ ap (λ (v : V2). length (pipeElements n s v)) point))
+        subst (λ (c : ℕ). touchedIndex < c)
+        (sym (elements-is laid p i p-lt hi place-on-pipe ∙ ap (λ (v : V2). length (pipeElements n s v)) point))
         (ahead-lt element touched-here)
 
     -- the elements of its pipe
@@ -127,7 +130,8 @@ module _ {d : Description} (laid : Laid d) where
     number-of =
         let f : V2 → ℕ = λ v. streamStart n (streamsOf d) i + rowIndex (boxOf n (s .map)) v in
         ap (λ (q : ℕ). getD (pipeAt A q .elements) touchedIndex 0) through
-        ∙ ap (λ (r : Pipe). getD (r .elements) touchedIndex 0) (pipe-at d i (entryNumber d p i) hi (entry-lt laid p i p-lt hi place-on-pipe))
+        ∙ ap (λ (r : Pipe). getD (r .elements) touchedIndex 0)
+        (pipe-at d i (entryNumber d p i) hi (entry-lt laid p i p-lt hi place-on-pipe))
         ∙ map-at f (pipeElements n s (entryAt d i (entryNumber d p i))) touchedIndex zero2 0
         (subst (λ (l : List V2). touchedIndex < length l) (sym same) (ahead-lt element touched-here))
         ∙ ap f (ap (λ (l : List V2). getD l touchedIndex zero2) same ∙ getD-ahead element zero2 touched-here)
@@ -138,9 +142,11 @@ module _ {d : Description} (laid : Laid d) where
 
     -- it waits in that pipe's part, at that index
     pub touched-lt : partStart A touchedPipe + touchedIndex < elementCount n (streamsOf d)
-    touched-lt = subst (λ (c : ℕ). partStart A touchedPipe + touchedIndex < c) (list-length laid) (waits-lt touchedPipe touchedIndex pipe-lt-touched index-lt)
+    touched-lt = subst (λ (c : ℕ). partStart A touchedPipe + touchedIndex < c) (list-length laid)
+        (waits-lt touchedPipe touchedIndex pipe-lt-touched index-lt)
 
-    pub touched-waits : getD (pipeOrder A) (partStart A touchedPipe + touchedIndex) 0 ≡ streamStart n (streamsOf d) i + rowIndex (boxOf n (s .map)) element
+    pub touched-waits : getD (pipeOrder A) (partStart A touchedPipe + touchedIndex) 0
+        ≡ streamStart n (streamsOf d) i + rowIndex (boxOf n (s .map)) element
     touched-waits = waits-at touchedPipe touchedIndex pipe-lt-touched index-lt ∙ number-of
 
     -- the same of element number j
@@ -148,7 +154,8 @@ module _ {d : Description} (laid : Laid d) where
       pub element-waits : getD (pipeOrder A) (partStart A touchedPipe + touchedIndex) 0 ≡ streamStart n (streamsOf d) i + j
       element-waits =
           touched-waits
-          ∙ ap (λ (c : ℕ). streamStart n (streamsOf d) i + c) (ap (rowIndex (boxOf n (s .map))) e ∙ row-number (boxOf n (s .map)) j zero2 hj)
+          ∙ ap (λ (c : ℕ). streamStart n (streamsOf d) i + c)
+          (ap (rowIndex (boxOf n (s .map))) e ∙ row-number (boxOf n (s .map)) j zero2 hj)
 
       pub element-place : position (eqb (streamStart n (streamsOf d) i + j)) (pipeOrder A) ≡ partStart A touchedPipe + touchedIndex
       element-place =

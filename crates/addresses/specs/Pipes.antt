@@ -1,5 +1,5 @@
--- The array's pipes by number: pipe `base d i + j` is that of stream i which enters at its entry j; its elements, stops and hop, and where its part of the
--- waiting list begins. Assumes a description that is not refused where it says so.
+-- The array's pipes by number: pipe `base d i + j` is that of stream i which enters at its entry j; its elements, stops and hop, and where
+-- its part of the waiting list begins. Assumes a description that is not refused where it says so.
 use mathlib.Core.Path.{_≡_, refl, sym, _∙_, ap, ap₂, subst}
 use mathlib.Core.List.{List, [], _∷_, _++_, map}
 use Prim.Native.Nat.{ℕ, zero, suc, _+_, _≤_, _<_}
@@ -67,7 +67,8 @@ pipe-from n i e (s ∷ ss) (suc k) j h l =
 
 -- a sum over the pipes before one is a sum over the streams before its stream and over the entries before its entry
 module _ (f : Pipe → ℕ) (g : Stream → V2 → ℕ) (n : Nest) (same : (i e : ℕ) (s : Stream) (y : V2) → f (pipeOf n i e s y) ≡ g s y) where
-  one-stream : (i e : ℕ) (s : Stream) (l : List V2) (j : ℕ) → j ≤ length l → total f (take j (map (pipeOf n i e s) l)) ≡ total (g s) (take j l)
+  one-stream : (i e : ℕ) (s : Stream) (l : List V2) (j : ℕ) → j ≤ length l
+      → total f (take j (map (pipeOf n i e s) l)) ≡ total (g s) (take j l)
   one-stream i e s l j h =
       total-map-first f (pipeOf n i e s) l j ∙ total-like (λ y. f (pipeOf n i e s y)) (g s) l j zero2 h (λ k m. same i e s (getD l k zero2))
 
@@ -155,5 +156,5 @@ module _ (d : Description) where
         before-from (λ r. length (r .elements)) (λ s y. length (pipeElements n s y)) n
         (λ i e s y. length-map (pipeElements n s y) (λ p. e + rowIndex (boxOf n (s .map)) p)) 0 0 (streamsOf d) i j hi (omega arith)
         ∙ ap (λ (c : ℕ). c + partOf n s j)
-        (total-like (λ s. total (λ y. length (pipeElements n s y)) (entries n s)) (λ s. length (elements n s)) (streamsOf d) i noStream (omega arith)
-        (λ k m. pipes-total (laid .stream k (omega arith))))
+        (total-like (λ s. total (λ y. length (pipeElements n s y)) (entries n s)) (λ s. length (elements n s))
+        (streamsOf d) i noStream (omega arith) (λ k m. pipes-total (laid .stream k (omega arith))))

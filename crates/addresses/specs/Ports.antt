@@ -1,5 +1,5 @@
--- A process on the pipe of a stream, or a place of a pipe: the stop there, its stream, hop and elements, and the process's instances. Assumes a
--- description that is not refused.
+-- A process on the pipe of a stream, or a place of a pipe: the stop there, its stream, hop and elements, and the process's instances.
+-- Assumes a description that is not refused.
 use mathlib.Core.Path.{_≡_, sym, _∙_, ap, subst₂}
 use mathlib.Core.Bool.{true, _&&_}
 use mathlib.Core.List.{List, []}
@@ -15,7 +15,8 @@ use Rattle.meaning.specs.Space.{space, processes, count, computing}
 use Rattle.meaning.specs.Streams.{stationary, move, hop}
 use Rattle.meaning.specs.Pipes.{reach, pipe, before, isPipe, entries, pipeElements}
 use Rattle.meaning.specs.Description.{streamsOf}
-use Rattle.meaning.specs.Array.{runs, Stop, Pipe, rowSoak, stopOf, Array, arrayOf, runsOf, countAt, instanceAt, noStop, pipeAt, elementsOn, stopAt, pipeThrough, placeOn}
+use Rattle.meaning.specs.Array.{runs, Stop, Pipe, rowSoak, stopOf, Array, arrayOf, runsOf, countAt, instanceAt, noStop, pipeAt, elementsOn}
+use Rattle.meaning.specs.Array.{stopAt, pipeThrough, placeOn}
 use Rattle.meaning.specs.Rules.{processOn, streamOn}
 use Rattle.lists.specs.Members.{map-at}
 use Rattle.geometry.specs.Processes.{runAt}
@@ -27,7 +28,8 @@ use Rattle.geometry.specs.Descriptions.{Laid}
 use Rattle.geometry.specs.Wiring.{processAt}
 use Rattle.geometry.specs.Arrays.{streamAt}
 use Rattle.addresses.specs.Pipes.{base, entryAt, pipe-at, stream-on, hop-on, elements-on}
-use Rattle.addresses.specs.Through.{pointOf, entryNumber, pipeIndex, point-inside, point-number, entry-lt, entry-is-at, place-lt, process-at, through-is, place-through}
+use Rattle.addresses.specs.Through.{pointOf, entryNumber, pipeIndex, point-inside, point-number, entry-lt, entry-is-at, place-lt}
+use Rattle.addresses.specs.Through.{process-at, through-is, place-through}
 
 -- the stop at place k of pipe base i + j
 pub stop-at : (d : Description) (i j : ℕ) → i < length (streamsOf d) → j < length (entries (d .nest) (streamAt d i)) → (k : ℕ)
@@ -60,7 +62,8 @@ module _ {d : Description} (laid : Laid d) where
 
   -- ---- a process on a pipe
 
-  module _ (p i : ℕ) (hp : p < length (processes n)) (hi : i < length (streamsOf d)) (on : isPipe n (streamAt d i) (pointOf d p) ≡ true) where
+  module _ (p i : ℕ) (hp : p < length (processes n)) (hi : i < length (streamsOf d))
+      (on : isPipe n (streamAt d i) (pointOf d p) ≡ true) where
     abbrev s : Stream
     s = streamAt d i
 
@@ -112,4 +115,5 @@ module _ {d : Description} (laid : Laid d) where
     pub length-is : length (pipe n s (entryAt d i (entryNumber d p i))) ≡ before n s y + suc (reach (space n) (move n s) y)
     length-is =
         let h = laid .stream i hi in
-        ap (λ (e : V2). length (pipe n s e)) (entry-is-at laid p i hp hi on) ∙ ap length (entry-same h (point-inside laid p hp)) ∙ pipe-length h y
+        ap (λ (e : V2). length (pipe n s e)) (entry-is-at laid p i hp hi on)
+        ∙ ap length (entry-same h (point-inside laid p hp)) ∙ pipe-length h y

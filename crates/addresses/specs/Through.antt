@@ -1,5 +1,5 @@
--- A process and a stream: it is on a pipe exactly if the line through it has a computing process, and then on that of the line's entry, at the place that
--- `before` says. Assumes a description that is not refused.
+-- A process and a stream: it is on a pipe exactly if the line through it has a computing process, and then on that of the line's entry, at
+-- the place that `before` says. Assumes a description that is not refused.
 use mathlib.Core.Path.{_≡_, sym, _∙_, ap, ap₂, subst}
 use mathlib.Core.Logic.{_⊎_, inl, inr}
 use mathlib.Core.Bool.{Bool, true, not, _&&_}
@@ -19,7 +19,8 @@ use Rattle.meaning.specs.Space.{rowIndex, space, processes, computing}
 use Rattle.meaning.specs.Pipes.{pipe, before, isPipe, isEntry, entries}
 use Rattle.meaning.specs.Description.{streamsOf}
 use Rattle.meaning.specs.Body.{streamStart}
-use Rattle.meaning.specs.Array.{Stop, Pipe, stopOf, pipeOf, Array, arrayOf, pipeNumber, noPipe, noStop, isStop, pipeThrough, onPipe, placeOn}
+use Rattle.meaning.specs.Array.{Stop, Pipe, stopOf, pipeOf, Array, arrayOf, pipeNumber, noPipe, noStop, isStop, pipeThrough, onPipe}
+use Rattle.meaning.specs.Array.{placeOn}
 use Rattle.meaning.specs.Points.{Inside}
 use Rattle.lists.specs.Members.{filter-in, any-yes, map-in, map-at}
 use Rattle.lists.specs.Tests.{is-true, is-false, position-passes}
@@ -177,13 +178,15 @@ module _ {d : Description} (laid : Laid d) where
 
       pub place-is : placeOn A p (pipeIndex d p i) ≡ before n s y
       place-is =
-          ap (λ (r : ℕ). placeOn A r (pipeIndex d p i)) (sym process-number) ∙ place-at i (entryNumber d p i) hi entry-lt (before n s y) place-lt
+          ap (λ (r : ℕ). placeOn A r (pipeIndex d p i)) (sym process-number)
+          ∙ place-at i (entryNumber d p i) hi entry-lt (before n s y) place-lt
 
       pub place-through : placeOn A p (pipeThrough A p i) ≡ before n s y
       place-through = ap (placeOn A p) through-is ∙ place-is
 
       pub on-true : onPipe A p i ≡ true
-      on-true = lt-ltb (pipeThrough A p i) (pipeNumber A) (subst (λ (q : ℕ). q < pipeNumber A) (sym through-is) (pipe-lt d i (entryNumber d p i) hi entry-lt))
+      on-true = lt-ltb (pipeThrough A p i) (pipeNumber A)
+          (subst (λ (q : ℕ). q < pipeNumber A) (sym through-is) (pipe-lt d i (entryNumber d p i) hi entry-lt))
 
     -- a process that a pipe of the stream passes is on a line with a computing process
     on-line : pipeThrough A p i < pipeNumber A → T (isPipe n s y)

@@ -1,5 +1,5 @@
-// Where the words of a process and of a pipe stand in the array of a description that is not refused: what the rules of the network look at, by the nest and
-// the streams, so that code can compute it. Theory only: nothing here runs.
+// Where the words of a process and of a pipe stand in the array of a description that is not refused: what the rules of the network look
+// at, by the nest and the streams, so that code can compute it. Theory only: nothing here runs.
 //
 //   pipes by number    Pipes: `pipe-lt`, `pipe-at`: pipe base i + j is that of stream i's entry j; `stream-on`, `hop-on`, `stops-on`,
 //                      `elements-on`, `part-start`
@@ -9,7 +9,8 @@
 //   its links          Ends: before it `put-first`, `put-given`; after it `taken-last`, `taken-next`, `link-last`, `link-next`
 //   a pipe's ends      Ends: `taken-entry`, `link-entry`, `put-end`, `link-end`
 //   places of words    Indices: `firings-index`, `taken-index`, `sent-index`; `process-count`, `stream-count`, `stride-is`, `word-count`
-//   places of elements Orders: `touched-waits`, `element-waits`, `element-place`; the list's length is `list-length` of geometry's PipeOrder
+//   places of elements Orders: `touched-waits`, `element-waits`, `element-place`; the list's length is `list-length` of geometry's
+//                      PipeOrder
 pub fn one() -> usize {
     1
 }

@@ -1,5 +1,5 @@
-// How the answers of the calls lie in words: the number by which a call declines, 0 if it does not, and then its values, at most two, 0 where there are
-// none.
+// How the answers of the calls lie in words: the number by which a call declines, 0 if it does not, and then its values, at most two, 0
+// where there are none.
 //
 // specs/: Words, what the words of an answer are, by `Answers` of meaning.
 ghost use mathlib.Core.Path.{_≡_};

@@ -27,8 +27,8 @@ windowValues s pipe n = cond (eqb n 0) (partStart (arrayOf (descriptionOf s)) pi
 
 -- ---- as the code comes by them
 
-pub accepted-left : {a : Acceptance.Acceptance} {f : Figures} {g : Divisors} {out : List ℕ} (words : List ℕ) → a ≡ Acceptance.the-variants.Accepted f g
-    → out ≡ f .processes ∷ f .instances ∷ f .elements ∷ f .pipes ∷ f .words ∷ f .steps
+pub accepted-left : {a : Acceptance.Acceptance} {f : Figures} {g : Divisors} {out : List ℕ} (words : List ℕ)
+    → a ≡ Acceptance.the-variants.Accepted f g → out ≡ f .processes ∷ f .instances ∷ f .elements ∷ f .pipes ∷ f .words ∷ f .steps
     ∷ g .place ∷ g .stream0 ∷ g .stream1 ∷ g .stream2 ∷ g .stream3 ∷ g .stream4 ∷ g .stream5 ∷ []
     → (0 ≡ acceptNumber a) × (out ≡ orKept (acceptValues a) words)
 accepted-left words e o = (ap acceptNumber (sym e), o ∙ ap (λ (a : Acceptance.Acceptance). orKept (acceptValues a) words) (sym e))
@@ -55,7 +55,8 @@ pub ready-declined : {a : Readiness.Readiness} {n : ℕ} (words : List ℕ) → 
 ready-declined words h = (ap readyNumber (sym h), ap (λ (a : Readiness.Readiness). orKept (readyValues a) words) (sym h))
 
 -- of the piece that is found, where n is the call's number
-module _ (s : List ℕ) (pipe : ℕ) (words : List ℕ) {r : Piece} {m n : ℕ} (e : r ≡ pieceOf (descriptionOf s) pipe m) (q : r .refusal ≡ n) where
+module _ (s : List ℕ) (pipe : ℕ) (words : List ℕ) {r : Piece} {m n : ℕ} (e : r ≡ pieceOf (descriptionOf s) pipe m)
+    (q : r .refusal ≡ n) where
   pub window-left : r .refusal ≡ 0 → r .from ∷ r .length ∷ [] ≡ orKept (windowValues s pipe n) words
   window-left z =
       ap (λ (r : Piece). r .from ∷ r .length ∷ []) e

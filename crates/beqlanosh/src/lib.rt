@@ -1,5 +1,6 @@
-// The library that programs in C or Rust link (include/beqlanosh.h): the calls over numbers and slices alone, each answering the number by which
-// it declines, or 0. It decides nothing of its own but how values lie in words. The first argument of each call is the board that it serves.
+// The library that programs in C or Rust link (include/beqlanosh.h): the calls over numbers and slices alone, each answering the number by
+// which it declines, or 0. It decides nothing of its own but how values lie in words. The first argument of each call is the board that it
+// serves.
 //
 // specs/, by file:
 //
@@ -66,7 +67,8 @@ pub extern "C" fn beqlanosh_accept(board: u32, bytes: &[u8], figures: &mut [u32;
 #[no_mangle]
 pub extern "C" fn beqlanosh_table(board: u32, bytes: &[u8], words: &mut [u32]) -> u32
     ensures { λ r. ⌜ (r ≡ tableNumber (limitsOf board) (now (bytes .entry)) (length (now (words .entry))))
-        × (now (words .exit) ≡ laid (tableWords (limitsOf board) (now (bytes .entry)) (length (now (words .entry)))) (now (words .entry))) ⌝ }
+        × (now (words .exit)
+        ≡ laid (tableWords (limitsOf board) (now (bytes .entry)) (length (now (words .entry)))) (now (words .entry))) ⌝ }
 {
     table_words::table_words(board, bytes, words)
 }
@@ -146,7 +148,8 @@ pub extern "C" fn beqlanosh_run(
     ensures { λ r. ⌜ (r ≡ ranNumber (run (limitsOf board) (now (bytes .entry)) steps
         (memoryOf (now (waiting .entry)) (now (received .entry)) (now (state .entry))) .answer))
         × (memoryOf (now (waiting .entry)) (now (received .exit)) (now (state .exit))
-        ≡ run (limitsOf board) (now (bytes .entry)) steps (memoryOf (now (waiting .entry)) (now (received .entry)) (now (state .entry))) .memory)
+        ≡ run (limitsOf board) (now (bytes .entry)) steps
+        (memoryOf (now (waiting .entry)) (now (received .entry)) (now (state .entry))) .memory)
         × (now (answer .exit) ≡ orKept (ranValues (run (limitsOf board) (now (bytes .entry)) steps
         (memoryOf (now (waiting .entry)) (now (received .entry)) (now (state .entry))) .answer)) (now (answer .entry))) ⌝ }
 {
@@ -202,7 +205,8 @@ pub extern "C" fn beqlanosh_window(
 ) -> u32
     ensures { λ r. ⌜ (r ≡ window (limitsOf board) (now (bytes .entry)) pipe side (now (waiting .entry)) (now (received .entry)) .refusal)
         × (now (answer .exit) ≡ orKept (windowValues (now (bytes .entry)) pipe
-        (window (limitsOf board) (now (bytes .entry)) pipe side (now (waiting .entry)) (now (received .entry)) .refusal)) (now (answer .entry))) ⌝ }
+        (window (limitsOf board) (now (bytes .entry)) pipe side (now (waiting .entry)) (now (received .entry)) .refusal))
+        (now (answer .entry))) ⌝ }
 {
     let piece = window::piece_of(board, bytes, pipe, side, waiting.len(), received.len());
     let refusal = piece.refusal;

@@ -1,4 +1,5 @@
--- Tests of consecutive numbers, as the list of their outcomes: how many pass, which is the first, and what one changed outcome does. Assumes nothing.
+-- Tests of consecutive numbers, as the list of their outcomes: how many pass, which is the first, and what one changed outcome does.
+-- Assumes nothing.
 use mathlib.Core.Path.{_≡_, refl, sym, _∙_, ap}
 use mathlib.Core.Bool.{Bool, true, false, cond, _&&_}
 use mathlib.Core.List.{List, [], _∷_, _++_, map}
@@ -43,7 +44,8 @@ module _ {A : Type 0} (f : A → Bool) where
 
 module _ {B : Type 0} where
   -- functions that differ at the number i + j alone
-  pub numbers-set : (f g : ℕ → B) (i n j : ℕ) → j < n → ((x : ℕ) → (x ≡ i + j → ⊥) → g x ≡ f x) → set (map f (numbersFrom i n)) j (g (i + j)) ≡ map g (numbersFrom i n)
+  pub numbers-set : (f g : ℕ → B) (i n j : ℕ) → j < n → ((x : ℕ) → (x ≡ i + j → ⊥) → g x ≡ f x)
+      → set (map f (numbersFrom i n)) j (g (i + j)) ≡ map g (numbersFrom i n)
   unfolding numbersFrom
   numbers-set f g i zero j h e = absurd (omega arith)
   numbers-set f g i (suc n) zero h e =
@@ -51,7 +53,8 @@ module _ {B : Type 0} where
       ∙ ap (λ (l : List B). g i ∷ l) (same-numbers f g (suc i) n (λ j l m. sym (e j (λ (d : j ≡ i + 0). omega arith))))
   numbers-set f g i (suc n) (suc j) h e =
       ap (λ (y : B). y ∷ set (map f (numbersFrom (suc i) n)) j (g (i + suc j))) (sym (e i (λ (d : i ≡ i + suc j). omega arith)))
-      ∙ ap (λ (l : List B). g i ∷ l) (ap (λ (k : ℕ). set (map f (numbersFrom (suc i) n)) j (g k)) s ∙ numbers-set f g (suc i) n j (omega arith) (λ x d. e x (λ (q : x ≡ i + suc j). d (q ∙ s))))
+      ∙ ap (λ (l : List B). g i ∷ l) (ap (λ (k : ℕ). set (map f (numbersFrom (suc i) n)) j (g k)) s
+      ∙ numbers-set f g (suc i) n j (omega arith) (λ x d. e x (λ (q : x ≡ i + suc j). d (q ∙ s))))
     where
       s : i + suc j ≡ suc i + j
       s = omega arith
@@ -76,8 +79,10 @@ none-pass i (suc n) = ap (λ (l : List Bool). false ∷ l) (none-pass (suc i) n)
 pub below-outcomes : (f : ℕ → Bool) (n m : ℕ) → map (below n f) (numbers (n + m)) ≡ map f (numbers n) ++ replicate m false
 below-outcomes f n m =
     numbers-add (below n f) 0 n m
-    ∙ ap (λ (l : List Bool). l ++ map (below n f) (numbersFrom (0 + n) m)) (same-numbers (below n f) f 0 n (λ j l h. below-true n f j (omega arith)))
-    ∙ ap (λ (l : List Bool). map f (numbers n) ++ l) (same-numbers (below n f) (λ p. false) (0 + n) m (λ j l h. below-false n f j (omega arith)) ∙ none-pass (0 + n) m)
+    ∙ ap (λ (l : List Bool). l ++ map (below n f) (numbersFrom (0 + n) m))
+    (same-numbers (below n f) f 0 n (λ j l h. below-true n f j (omega arith)))
+    ∙ ap (λ (l : List Bool). map f (numbers n) ++ l)
+    (same-numbers (below n f) (λ p. false) (0 + n) m (λ j l h. below-false n f j (omega arith)) ∙ none-pass (0 + n) m)
 
 -- ---- outcomes in two parts
 

@@ -1,5 +1,5 @@
--- Ready as a caller's loop: the words are cleared, each process that passes a test is marked, in ascending order, and the count and the lowest are asked.
--- What that leaves and answers is what document 01's call says. Assumes nothing.
+-- Ready as a caller's loop: the words are cleared, each process that passes a test is marked, in ascending order, and the count and the
+-- lowest are asked. What that leaves and answers is what document 01's call says. Assumes nothing.
 use mathlib.Core.Path.{_≡_, refl, sym, _∙_, ap, fun-ext}
 use mathlib.Core.Bool.{Bool, true, false, cond}
 use mathlib.Core.List.{List, [], _∷_, _++_}
@@ -19,7 +19,8 @@ use Rattle.meaning.specs.Rules.{Memory}
 use Rattle.meaning.specs.Tests.{_if_}
 use Rattle.meaning.specs.Calls.{A, d, canMove, memoryTests, refusedBy, readyCall}
 use Rattle.bits.specs.Numbers.{below, below-true, below-false}
-use Rattle.bits.specs.Words.{wordOf, wordsOf, cleared, marked, onesOf, lowestFrom, words-never, words-length, including, including-same, including-other, words-marked, words-count, words-lowest}
+use Rattle.bits.specs.Words.{wordOf, wordsOf, cleared, marked, onesOf, lowestFrom, words-never, words-length, including}
+use Rattle.bits.specs.Words.{including-same, including-other, words-marked, words-count, words-lowest}
 
 -- the words after the first k processes
 unfoldable pub markedTo : (ℕ → Bool) → ℕ → List ℕ → List ℕ
@@ -79,7 +80,8 @@ module _ (f : ℕ → Bool) (k : ℕ) where
 
 marked-words : (f : ℕ → Bool) (k : ℕ) (rest : List ℕ) → k ≤ 1024 → markedTo f k (replicate 16 0 ++ rest) ≡ wordsOf (below k f) ++ rest
 unfolding markedTo
-marked-words f zero rest h = ap (λ (l : List ℕ). l ++ rest) (sym words-never ∙ ap wordsOf (fun-ext (λ q. sym (below-false 0 f q (omega arith)))))
+marked-words f zero rest h =
+    ap (λ (l : List ℕ). l ++ rest) (sym words-never ∙ ap wordsOf (fun-ext (λ q. sym (below-false 0 f q (omega arith)))))
 marked-words f (suc k) rest h = go (f k) refl (marked-words f k rest (omega arith))
   where
     before : List ℕ
@@ -87,7 +89,8 @@ marked-words f (suc k) rest h = go (f k) refl (marked-words f k rest (omega arit
 
     go : (b : Bool) → f k ≡ b → before ≡ wordsOf (below k f) ++ rest → cond b (marked before k) before ≡ wordsOf (below (suc k) f) ++ rest
     go true t e =
-        ap (λ (l : List ℕ). marked l k) e ∙ words-marked (below k f) k rest (omega arith) ∙ ap (λ (g : ℕ → Bool). wordsOf g ++ rest) (passing f k t)
+        ap (λ (l : List ℕ). marked l k) e ∙ words-marked (below k f) k rest (omega arith)
+        ∙ ap (λ (g : ℕ → Bool). wordsOf g ++ rest) (passing f k t)
     go false t e = e ∙ ap (λ (g : ℕ → Bool). wordsOf g ++ rest) (failing f k t)
 
 module _ (f : ℕ → Bool) (n : ℕ) (words : List ℕ) (h : n ≤ 1024) where
@@ -116,7 +119,8 @@ module _ (l : Limits) (s : List ℕ) where
       → refusedBy l s (memoryTests (d l s) M ++ ((27 if ltb (length words) 16) ∷ [])) ≡ 0
       → readyCall l s words M
       ≡ record {
-        answer = Ready (onesOf (take 16 (readied (M .state) words))) (lowestFrom (processCount (A l s)) 0 (take 16 (readied (M .state) words)));
+        answer =
+            Ready (onesOf (take 16 (readied (M .state) words))) (lowestFrom (processCount (A l s)) 0 (take 16 (readied (M .state) words)));
         words = readied (M .state) words;
       }
   unfolding wordOf readyCall

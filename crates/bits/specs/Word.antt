@@ -29,7 +29,8 @@ digit-lt true = lit< tt
 digit-lt false = lit< tt
 
 -- the sum of the powers of two of the set bits
-pub value-sum : (f : ℕ → Bool) (s j n : ℕ) → total (λ b. cond (f (s + b)) (2 ^ b) 0) (numbersFrom j n) ≡ value (map f (numbersFrom (s + j) n)) * 2 ^ j
+pub value-sum : (f : ℕ → Bool) (s j n : ℕ)
+    → total (λ b. cond (f (s + b)) (2 ^ b) 0) (numbersFrom j n) ≡ value (map f (numbersFrom (s + j) n)) * 2 ^ j
 unfolding value total numbersFrom
 value-sum f s j zero = sym (zero-mul (2 ^ j))
 value-sum f s j (suc n) =
@@ -75,9 +76,11 @@ pub value-trailing : (l : List Bool) → trailingZeros (length l) (value l) ≡ 
 unfolding value trailingZeros position
 value-trailing [] = refl
 value-trailing (b ∷ l) =
-    ap₂ (λ (r v : ℕ). under r (trailingZeros (length l) v)) (digits-mod (value l) (digit-lt b)) (digits-div (value l) (digit-lt b)) ∙ go b (value-trailing l)
+    ap₂ (λ (r v : ℕ). under r (trailingZeros (length l) v)) (digits-mod (value l) (digit-lt b)) (digits-div (value l) (digit-lt b))
+    ∙ go b (value-trailing l)
   where
-    go : (b : Bool) → trailingZeros (length l) (value l) ≡ firstTrue l → under (digit b) (trailingZeros (length l) (value l)) ≡ cond b 0 (suc (firstTrue l))
+    go : (b : Bool) → trailingZeros (length l) (value l) ≡ firstTrue l
+        → under (digit b) (trailingZeros (length l) (value l)) ≡ cond b 0 (suc (firstTrue l))
     go true e = refl
     go false e = ap suc e
 

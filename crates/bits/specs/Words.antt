@@ -14,7 +14,8 @@ use lib.Seq.{set-append-left}
 use borrow.Author.Tests.{eq-eqb, ne-eqb}
 use Rattle.meaning.specs.Lists.{filter, position, total, numbersFrom, numbers}
 use Rattle.lists.specs.Rows.{length-numbers, getD-numbers, numbers-add, same-numbers}
-use Rattle.bits.specs.Numbers.{howMany, firstTrue, below, count-map, position-map, numbers-set, below-outcomes, many-append, many-false, first-le, first-in, first-past, first-false}
+use Rattle.bits.specs.Numbers.{howMany, firstTrue, below, count-map, position-map, numbers-set, below-outcomes, many-append}
+use Rattle.bits.specs.Numbers.{many-false, first-le, first-in, first-past, first-false}
 use Rattle.bits.specs.Word.{value, value-sum, value-set, value-ones, value-trailing, value-zero, value-some}
 
 -- process 64 k + b is bit b of word k
@@ -95,7 +96,8 @@ module _ (f : ℕ → Bool) (p : ℕ) where
       let b = p % 64 in
       let l = bitsOf f k in
       ap (λ (w : ℕ). bitOr w (2 ^ b)) (word-is f k) ∙ value-set l b (rw length-numbers low)
-      ∙ ap value (ap (set l b) (sym (including-same f p (64 * k + b) place)) ∙ numbers-set f (including f p) (64 * k) 64 b low (λ x n. including-other f p x (λ e. n (e ∙ sym place))))
+      ∙ ap value (ap (set l b) (sym (including-same f p (64 * k + b) place))
+      ∙ numbers-set f (including f p) (64 * k) 64 b low (λ x n. including-other f p x (λ e. n (e ∙ sym place))))
       ∙ sym (word-is (including f p) k)
 
   -- every other word
@@ -144,8 +146,8 @@ ones-from : (f : ℕ → Bool) (k m : ℕ) → onesOf (wordsFrom f k m) ≡ howM
 unfolding total numbersFrom filter
 ones-from f k zero = refl
 ones-from f k (suc m) =
-    ap₂ _+_ (ap ones (word-is f k) ∙ value-ones (bitsOf f k)) (ones-from f (suc k) m) ∙ sym (many-append (bitsOf f k) (bitsFrom f (suc k) m))
-    ∙ sym (ap howMany (bits-step f k m))
+    ap₂ _+_ (ap ones (word-is f k) ∙ value-ones (bitsOf f k)) (ones-from f (suc k) m)
+    ∙ sym (many-append (bitsOf f k) (bitsFrom f (suc k) m)) ∙ sym (ap howMany (bits-step f k m))
 
 -- the lowest that is set
 pub lowest-past : (none k w : ℕ) (words : List ℕ) → w ≡ 0 → lowestFrom none k (w ∷ words) ≡ lowestFrom none (suc k) words
@@ -161,7 +163,8 @@ module _ (f : ℕ → Bool) (k : ℕ) where
   length-bits = length-numbers f (64 * k) 64
 
   word-first : trailingZeros 64 (wordOf f k) ≡ firstTrue (bitsOf f k)
-  word-first = ap (trailingZeros 64) (word-is f k) ∙ ap (λ (n : ℕ). trailingZeros n (value (bitsOf f k))) (sym length-bits) ∙ value-trailing (bitsOf f k)
+  word-first = ap (trailingZeros 64) (word-is f k) ∙ ap (λ (n : ℕ). trailingZeros n (value (bitsOf f k))) (sym length-bits)
+      ∙ value-trailing (bitsOf f k)
 
   first-further : (m : ℕ) → wordOf f k ≡ 0 → firstTrue (bitsFrom f k (suc m)) ≡ 64 + firstTrue (bitsFrom f (suc k) m)
   first-further m e =
@@ -176,12 +179,14 @@ record Lowest (first n at none r : ℕ) : Type 0 where
   some : first < n → r ≡ at + first
   nowhere : first ≡ n → r ≡ none
 
-lowest-from : (none : ℕ) (f : ℕ → Bool) (k m : ℕ) → Lowest (firstTrue (bitsFrom f k m)) (64 * m) (64 * k) none (lowestFrom none k (wordsFrom f k m))
+lowest-from : (none : ℕ) (f : ℕ → Bool) (k m : ℕ)
+    → Lowest (firstTrue (bitsFrom f k m)) (64 * m) (64 * k) none (lowestFrom none k (wordsFrom f k m))
 unfolding lowestFrom numbersFrom position
 lowest-from none f k zero = record { some = λ h. absurd (omega arith); nowhere = λ h. refl }
 lowest-from none f k (suc m) = go (eq-zero-or-pos (wordOf f k)) (lowest-from none f (suc k) m)
   where
-    go : (wordOf f k ≡ 0) ⊎ (0 < wordOf f k) → Lowest (firstTrue (bitsFrom f (suc k) m)) (64 * m) (64 * suc k) none (lowestFrom none (suc k) (wordsFrom f (suc k) m))
+    go : (wordOf f k ≡ 0) ⊎ (0 < wordOf f k)
+        → Lowest (firstTrue (bitsFrom f (suc k) m)) (64 * m) (64 * suc k) none (lowestFrom none (suc k) (wordsFrom f (suc k) m))
         → Lowest (firstTrue (bitsFrom f k (suc m))) (64 * suc m) (64 * k) none (lowestFrom none k (wordOf f k ∷ wordsFrom f (suc k) m))
     go (inl e) rest =
         let p = first-further f k m e in
@@ -205,7 +210,8 @@ module _ (f : ℕ → Bool) (n : ℕ) (h : n ≤ 1024) where
   pub words-count : onesOf (wordsOf (below n f)) ≡ length (filter f (numbers n))
   words-count =
       ones-from (below n f) 0 16 ∙ ap howMany outcomes ∙ many-append (map f (numbers n)) (replicate (1024 - n) false)
-      ∙ ap (λ (m : ℕ). howMany (map f (numbers n)) + m) (many-false (1024 - n)) ∙ add-zero (howMany (map f (numbers n))) ∙ sym (count-map f (numbers n))
+      ∙ ap (λ (m : ℕ). howMany (map f (numbers n)) + m) (many-false (1024 - n)) ∙ add-zero (howMany (map f (numbers n)))
+      ∙ sym (count-map f (numbers n))
 
   pub words-lowest : lowestFrom n 0 (wordsOf (below n f)) ≡ position f (numbers n)
   words-lowest = go (eq-or-lt-of-le (first-le (map f (numbers n)))) ∙ sym (position-map f (numbers n))

@@ -1,5 +1,5 @@
--- The word that characters are the decimal numeral of, 4,294,967,295 where they are none: where one of them is no digit, where there are none, and where a word
--- holds no such number. Assumes nothing.
+-- The word that characters are the decimal numeral of, 4,294,967,295 where they are none: where one of them is no digit, where there are
+-- none, and where a word holds no such number. Assumes nothing.
 use mathlib.Core.Path.{_≡_}
 use mathlib.Core.Bool.{cond}
 use mathlib.Core.List.{List, [], _∷_}

@@ -1,4 +1,5 @@
-// The board that a program is told by its first argument, request 2.9: a decimal numeral. An argument that is no numeral of a word is 4,294,967,295, which is no board.
+// The board that a program is told by its first argument, request 2.9: a decimal numeral. An argument that is no numeral of a word is
+// 4,294,967,295, which is no board.
 ghost use mathlib.Core.Path.{_≡_};
 ghost use Prim.Native.Nat.{min};
 ghost use Rattle.board_word.specs.Numeral.{withDigit, valueOf, numeralOf};

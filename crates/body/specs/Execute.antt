@@ -30,7 +30,8 @@ clear-next m h = drop-cons cleared m 0 h ∙ ap (λ (a : ℕ). a ∷ drop (suc m
 -- the scratch values are zero as it starts
 scratch-clear : (vs : List ℕ) → length vs ≤ 6 → registers vs ≡ vs ++ (0 ∷ 0 ∷ drop (suc (suc (length vs))) cleared)
 scratch-clear vs h =
-    ap (λ (l : List ℕ). vs ++ l) (clear-next (length vs) (omega arith) ∙ ap (λ (l : List ℕ). 0 ∷ l) (clear-next (suc (length vs)) (omega arith)))
+    ap (λ (l : List ℕ). vs ++ l)
+    (clear-next (length vs) (omega arith) ∙ ap (λ (l : List ℕ). 0 ∷ l) (clear-next (suc (length vs)) (omega arith)))
 
 pub execute-registers : (x : V3) (n : ℕ) (ls : List Line) (store ps : List ℕ) → Fit (length ps) n ls
     → scatter store ps (runLines x (take n ls) (registers (gather store ps))) ≡ executeAt x (take n ls) store ps

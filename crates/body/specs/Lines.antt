@@ -32,9 +32,13 @@ module _ (x : V3) where
 
   -- ---- registers past the scratch values change nothing
 
-  line-apart : (m : ℕ) (l : Line) (vs rest : List ℕ) → Within m l → length vs ≡ suc (suc m) → runLine x l (vs ++ rest) ≡ runLine x l vs ++ rest
+  line-apart : (m : ℕ) (l : Line) (vs rest : List ℕ) → Within m l → length vs ≡ suc (suc m)
+      → runLine x l (vs ++ rest) ≡ runLine x l vs ++ rest
   line-apart m l vs rest w e =
-      rw (List·getD-append vs rest 0 (l .first) (omega (arith, w .first)), List·getD-append vs rest 0 (l .second) (omega (arith, w .second)))
+      rw (
+        List·getD-append vs rest 0 (l .first) (omega (arith, w .first)),
+        List·getD-append vs rest 0 (l .second) (omega (arith, w .second)),
+      )
       (go (admits l x))
     where
       go : (b : Bool)

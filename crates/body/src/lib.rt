@@ -1,5 +1,5 @@
-// One instance's body: its lines run on eight registers, first those of the streams, then two of scratch. The plain run and firing both call
-// `execute`, one on the values of the elements, the other on the words of a state. In specs/:
+// One instance's body: its lines run on eight registers, first those of the streams, then two of scratch. The plain run and firing both
+// call `execute`, one on the values of the elements, the other on the words of a state. In specs/:
 //
 //   Fit        what lines and places have to fit
 //   Lines      the lines in turn; the first registers hold the body

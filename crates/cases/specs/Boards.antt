@@ -63,10 +63,14 @@ boards =
     ∷ (let half = run benchLimits designOne 60 (startedWith designOne values 61) in
     let none = run (limitsOf 2) designOne 1000 (half .memory) in
     let end = run gaugeLimits designOne 1000 (none .memory) in
-    (naturals (ranValues (half .answer) ++ (ranNumber (none .answer) ∷ ranValues (end .answer)) ++ result benchLimits designOne (replicate 11 1) (end .memory) .output)
+    (naturals (ranValues (half .answer) ++ (ranNumber (none .answer) ∷ ranValues (end .answer))
+    ++ result benchLimits designOne (replicate 11 1) (end .memory) .output)
     is naturals (60 ∷ 1 ∷ 33 ∷ 37 ∷ 0 ∷ 1 ∷ 2 ∷ 3 ∷ 4 ∷ 5 ∷ 6 ∷ 4 ∷ 13 ∷ 28 ∷ 27 ∷ 18 ∷ [])))
     ∷ []
 
 pub proved : map (λ c. c .got) boards ≡ map (λ c. c .wanted) boards
-unfolding eqList firstWrong bytes bitsAt wordAt gcdOf euclid filter any every position best bestOr total each numbersFrom refusal progression instances lineOf points widenAll around boxOf sentTo firstOf lastOf stays march lineIn pipe usedOn pipeElements nestOf streamOf bodyLine descriptionOf runLines touchedFrom scatter execute executeAll testsFrom refusalOf accept insertByStep byStep pipesFrom arrayOf moveDown sound writeAll apply firstReady runSteps applyAll start run result
+unfolding eqList firstWrong bytes bitsAt wordAt gcdOf euclid filter any every position best bestOr total each numbersFrom refusal
+    progression instances lineOf points widenAll around boxOf sentTo firstOf lastOf stays march lineIn pipe usedOn pipeElements nestOf
+    streamOf bodyLine descriptionOf runLines touchedFrom scatter execute executeAll testsFrom refusalOf accept insertByStep byStep pipesFrom
+    arrayOf moveDown sound writeAll apply firstReady runSteps applyAll start run result
 proved = agree-after P.proved boards refl

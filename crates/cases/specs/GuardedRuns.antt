@@ -41,5 +41,8 @@ cleared =
     ++ bothWays clearedColumn (1 ∷ 2 ∷ 3 ∷ 4 ∷ 5 ∷ 6 ∷ 7 ∷ 8 ∷ []) 44 (1 ∷ 2 ∷ 3 ∷ 4 ∷ 5 ∷ 6 ∷ 17 ∷ 39 ∷ []))
 
 pub proved : map (λ c. c .got) cleared ≡ map (λ c. c .wanted) cleared
-unfolding eqList firstWrong backwards bytes bitsAt wordAt gcdOf euclid filter any every position best bestOr total each numbersFrom refusal progression instances lineOf points widenAll around boxOf sentTo firstOf lastOf stays march lineIn pipe usedOn pipeElements nestOf streamOf bodyLine descriptionOf runLines touchedFrom scatter execute executeAll testsFrom refusalOf accept insertByStep byStep pipesFrom arrayOf moveDown sound writeAll apply firstReady runSteps applyAll start run result plainRun
+unfolding eqList firstWrong backwards bytes bitsAt wordAt gcdOf euclid filter any every position best bestOr total each numbersFrom refusal
+    progression instances lineOf points widenAll around boxOf sentTo firstOf lastOf stays march lineIn pipe usedOn pipeElements nestOf
+    streamOf bodyLine descriptionOf runLines touchedFrom scatter execute executeAll testsFrom refusalOf accept insertByStep byStep pipesFrom
+    arrayOf moveDown sound writeAll apply firstReady runSteps applyAll start run result plainRun
 proved = agree-after P.proved cleared refl

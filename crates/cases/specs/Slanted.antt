@@ -47,5 +47,8 @@ slanted =
     ∷ []
 
 pub proved : map (λ c. c .got) slanted ≡ map (λ c. c .wanted) slanted
-unfolding eqList firstWrong bytes bitsAt wordAt gcdOf euclid filter any every position best bestOr total each numbersFrom refusal progression instances lineOf points widenAll around boxOf sentTo firstOf lastOf stays march lineIn pipe usedOn pipeElements nestOf streamOf bodyLine descriptionOf runLines touchedFrom scatter execute executeAll testsFrom refusalOf accept insertByStep byStep pipesFrom arrayOf moveDown sound writeAll apply firstReady runSteps applyAll table start run result plainRun
+unfolding eqList firstWrong bytes bitsAt wordAt gcdOf euclid filter any every position best bestOr total each numbersFrom refusal
+    progression instances lineOf points widenAll around boxOf sentTo firstOf lastOf stays march lineIn pipe usedOn pipeElements nestOf
+    streamOf bodyLine descriptionOf runLines touchedFrom scatter execute executeAll testsFrom refusalOf accept insertByStep byStep pipesFrom
+    arrayOf moveDown sound writeAll apply firstReady runSteps applyAll table start run result plainRun
 proved = agree slanted refl

@@ -1,4 +1,5 @@
--- Cases of request 2.4, computed: walks beside the written order, with null processes, long strides and a loop from right to left; descriptions with and without one.
+-- Cases of request 2.4, computed: walks beside the written order, with null processes, long strides and a loop from right to left;
+-- descriptions with and without one.
 use mathlib.Core.Path.{_≡_, refl}
 use mathlib.Core.List.{List, [], _∷_, map}
 use Prim.Native.Nat.{ℕ}
@@ -33,10 +34,12 @@ abbrev pub walks : List Case
 walks =
     -- design two: process i+j from its greatest j to its least
     (onPlane designTwo
-    is (pos 0 ∷ pos 0 ∷ pos 0 ∷ pos 1 ∷ pos 1 ∷ pos 0 ∷ pos 0 ∷ pos 2 ∷ pos 1 ∷ pos 1 ∷ pos 2 ∷ pos 0 ∷ pos 1 ∷ pos 2 ∷ pos 2 ∷ pos 1 ∷ pos 2 ∷ pos 2 ∷ []))
+    is (pos 0 ∷ pos 0 ∷ pos 0 ∷ pos 1 ∷ pos 1 ∷ pos 0 ∷ pos 0 ∷ pos 2 ∷ pos 1 ∷ pos 1 ∷ pos 2 ∷ pos 0 ∷ pos 1 ∷ pos 2 ∷ pos 2 ∷ pos 1
+    ∷ pos 2 ∷ pos 2 ∷ []))
     -- loop 0 from right to left, place i: the walk begins at process 0, the loops at 2
     ∷ (onPlane turned
-    is (pos 0 ∷ pos 0 ∷ pos 0 ∷ pos 1 ∷ pos 0 ∷ pos 2 ∷ pos 1 ∷ pos 0 ∷ pos 1 ∷ pos 1 ∷ pos 1 ∷ pos 2 ∷ pos 2 ∷ pos 0 ∷ pos 2 ∷ pos 1 ∷ pos 2 ∷ pos 2 ∷ []))
+    is (pos 0 ∷ pos 0 ∷ pos 0 ∷ pos 1 ∷ pos 0 ∷ pos 2 ∷ pos 1 ∷ pos 0 ∷ pos 1 ∷ pos 1 ∷ pos 1 ∷ pos 2 ∷ pos 2 ∷ pos 0 ∷ pos 2 ∷ pos 1
+    ∷ pos 2 ∷ pos 2 ∷ []))
     -- increment (1,−2): process 2 runs (0,2) and (1,0), all others one instance
     ∷ (onPlane (decimating 1 2)
     is (pos 0 ∷ pos 0 ∷ pos 0 ∷ pos 1 ∷ pos 0 ∷ pos 2 ∷ pos 1 ∷ pos 0 ∷ pos 1 ∷ pos 1 ∷ pos 1 ∷ pos 2 ∷ []))
@@ -48,9 +51,11 @@ walks =
     ∷ (number (walkRefusal gaugeLimits still) is number 8)
     ∷ (number (walkRefusal gaugeLimits strided) is number 0)
     ∷ (onPlane strided
-    is (pos 0 ∷ pos 0 ∷ pos 0 ∷ pos 1 ∷ pos 0 ∷ pos 2 ∷ pos 1 ∷ pos 0 ∷ pos 1 ∷ pos 1 ∷ pos 1 ∷ pos 2 ∷ pos 2 ∷ pos 0 ∷ pos 2 ∷ pos 1 ∷ pos 2 ∷ pos 2 ∷ []))
+    is (pos 0 ∷ pos 0 ∷ pos 0 ∷ pos 1 ∷ pos 0 ∷ pos 2 ∷ pos 1 ∷ pos 0 ∷ pos 1 ∷ pos 1 ∷ pos 1 ∷ pos 2 ∷ pos 2 ∷ pos 0 ∷ pos 2 ∷ pos 1
+    ∷ pos 2 ∷ pos 2 ∷ []))
     ∷ []
 
 pub proved : map (λ c. c .got) walks ≡ map (λ c. c .wanted) walks
-unfolding eqList firstWrong bytes bitsAt wordAt gcdOf euclid filter any every best bestOr each numbersFrom refusal progression instances lineOf points widenAll around boxOf sentTo firstOf lastOf nestOf streamOf bodyLine descriptionOf walk walkRefusal
+unfolding eqList firstWrong bytes bitsAt wordAt gcdOf euclid filter any every best bestOr each numbersFrom refusal progression instances
+    lineOf points widenAll around boxOf sentTo firstOf lastOf nestOf streamOf bodyLine descriptionOf walk walkRefusal
 proved = agree walks refl

@@ -1,5 +1,5 @@
-// Worked cases that take longer, computed from the definitions as those in `meaning` are: whole runs, stopped on the way and carried on, slanted
-// arrays, walks and boards. Apart from `meaning`, so that an edit there does not compute them. Theory only: nothing here runs.
+// Worked cases that take longer, computed from the definitions as those in `meaning` are: whole runs, stopped on the way and carried on,
+// slanted arrays, walks and boards. Apart from `meaning`, so that an edit there does not compute them. Theory only: nothing here runs.
 //
 //   Runs              states stopped in the middle, and other orders
 //   GuardedRuns       runs under guards, plainly and in two orders

@@ -1,9 +1,11 @@
-// What Accept, Table and Plain run answer and leave in the lent lists, and the walk by process, for descriptions on standard input, each behind two words: its number
-// of bytes, and the board that every call is told. It reads up to 65,536 descriptions; more than 508 bytes are taken as 508, and bytes that are missing as 0. For each
-// it prints Accept's answer, then `walk` with the number by which 33 or 1 to 10 refuse it, or 0, and the sum of the walk's coordinates, then `table` with three calls
-// (one row fewer than there are processes, as many, and 1,024), then `plain` with four calls (a value too few, an output too long, both wrong, and both right). A call
-// is printed as the number by which it declines, or 0, and the sum of its list, one row or word more than the call names. An array of at most 12 elements has the
-// walk's instances, its rows, values and final values printed as well. A description that is declined counts as one process and one element.
+// What Accept, Table and Plain run answer and leave in the lent lists, and the walk by process, for descriptions on standard input, each
+// behind two words: its number of bytes, and the board that every call is told. It reads up to 65,536 descriptions; more than 508 bytes are
+// taken as 508, and bytes that are missing as 0. For each it prints Accept's answer, then `walk` with the number by which 33 or 1 to 10
+// refuse it, or 0, and the sum of the walk's coordinates, then `table` with three calls (one row fewer than there are processes, as many,
+// and 1,024), then `plain` with four calls (a value too few, an output too long, both wrong, and both right). A call is printed as the
+// number by which it declines, or 0, and the sum of its list, one row or word more than the call names. An array of at most 12 elements has
+// the walk's instances, its rows, values and final values printed as well. A description that is declined counts as one process and one
+// element.
 ghost use Prim.Native.Nat.{_≤_, _<_, _+_};
 ghost use lib.ListN.{length};
 ghost use Rattle.meaning.specs.Limits.{gaugeLimits, elementsMost};

@@ -1,5 +1,5 @@
--- The tests that the calls make of what they are lent, by numbers alone: so many elements, words of a state, processes; and the lengths of the
--- lists. What a refusal of 0 says of them. Assumes nothing.
+-- The tests that the calls make of what they are lent, by numbers alone: so many elements, words of a state, processes; and the lengths of
+-- the lists. What a refusal of 0 says of them. Assumes nothing.
 use mathlib.Core.Path.{_≡_, refl}
 use mathlib.Core.Bool.{Bool, false, not, _||_}
 use mathlib.Core.List.{List, [], _∷_}
@@ -44,7 +44,8 @@ start-memory elements words values waiting received state e = rw (eq-eqb values 
 same : {a b : ℕ} → not (eqb a b) ≡ false → a ≡ b
 same {a} {b} e = eqb-true a b (not-false _ e)
 
-pub plain-fits : (elements values output : ℕ) → refusal (plainLengths elements values output) ≡ 0 → (values ≡ elements) × (output ≡ elements)
+pub plain-fits : (elements values output : ℕ) → refusal (plainLengths elements values output) ≡ 0
+    → (values ≡ elements) × (output ≡ elements)
 plain-fits elements values output e =
     let p20 = passed 20 (not (eqb values elements)) _ (λ g. omega arith) e in
     let p28 = passed 28 (not (eqb output elements)) _ (λ g. omega arith) (p20 .1) in (same (p20 .0), same (p28 .0))
@@ -56,7 +57,8 @@ memory-fits elements words waiting received state e =
     let p26 = passed 26 (not (eqb received elements)) _ (λ g. omega arith) (p20 .1) in
     let p21 = passed 21 (ltb state words) _ (λ g. omega arith) (p26 .1) in (same (p20 .0), same (p26 .0), ltb-false state words (p21 .0))
 
-pub start-fits : (elements words values waiting received state : ℕ) → refusal (startLengths elements words values waiting received state) ≡ 0
+pub start-fits : (elements words values waiting received state : ℕ)
+    → refusal (startLengths elements words values waiting received state) ≡ 0
     → (values ≡ elements) × (waiting ≡ elements) × (received ≡ elements) × (words ≤ state)
 start-fits elements words values waiting received state e =
     let p20 = passed 20 (not (eqb values elements) || not (eqb waiting elements)) _ (λ g. omega arith) e in

@@ -1,8 +1,9 @@
-// The tests that the calls make of what they are lent once the description is accepted, in the documents' order: each function answers the first
-// number that applies, 0 if none does. Pure functions of lengths and truths; the calls cite them.
+// The tests that the calls make of what they are lent once the description is accepted, in the documents' order: each function answers the
+// first number that applies, 0 if none does. Pure functions of lengths and truths; the calls cite them.
 ghost use mathlib.Core.Path.{_≡_};
 ghost use Rattle.meaning.specs.Tests.{refusal};
-ghost use Rattle.declines.specs.Tests.{tableLengths, plainLengths, memoryLengths, startLengths, windowLengths, readyLengths, resultTests};
+ghost use Rattle.declines.specs.Tests.{tableLengths, plainLengths, memoryLengths, startLengths, windowLengths, readyLengths};
+ghost use Rattle.declines.specs.Tests.{resultTests};
 use meaning::Figures;
 
 // Table: 18 where there is no room for all rows.

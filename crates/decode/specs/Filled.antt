@@ -1,5 +1,5 @@
--- A list of k members, the first n made by a function and the others all one value: as document 01's definitions have it, and as a loop that
--- stores leaves it. Assumes nothing.
+-- A list of k members, the first n made by a function and the others all one value: as document 01's definitions have it, and as a loop
+-- that stores leaves it. Assumes nothing.
 use mathlib.Core.Path.{_≡_, refl, sym, _∙_, ap, subst}
 use mathlib.Core.Bool.{Bool, true, false}
 use mathlib.Core.List.{List, [], _∷_, map, _++_}

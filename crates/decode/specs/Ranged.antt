@@ -27,11 +27,14 @@ use Rattle.meaning.specs.Lists.{every, numbersFrom}
 use Rattle.meaning.specs.Tests.{refusal}
 use Rattle.meaning.specs.Operations.{lastOperation}
 use Rattle.meaning.specs.Guards.{lastComparison}
-use Rattle.meaning.specs.Description.{sizesOf, matrixWords, leftAt, rightAt, directionAt, stepAt, placeAt, mapAt, loadingAt, lineWords, lineAt, wordsOf, inRange, vectorAt, unit3, matrixAt, nestOf, loadingOf, streamOf, bodyLine, noStream, noLine, descriptionOf, refused1, refused2, refused3, refused4, refused5}
+use Rattle.meaning.specs.Description.{sizesOf, matrixWords, leftAt, rightAt, directionAt, stepAt, placeAt, mapAt, loadingAt, lineWords}
+use Rattle.meaning.specs.Description.{lineAt, wordsOf, inRange, vectorAt, unit3, matrixAt, nestOf, loadingOf, streamOf, bodyLine, noStream}
+use Rattle.meaning.specs.Description.{noLine, descriptionOf, refused1, refused2, refused3, refused4, refused5}
 use Rattle.decode.specs.Offsets.{Sized, two-or-three}
 use Rattle.decode.specs.Filled.{filled-each}
 use Rattle.lists.specs.Rows.{every-numbers}
-use Rattle.decode.specs.Ranges.{rangeTest, range-is, in-bounds, in-directions, in-steps, in-matrices, in-loading, lineTest, in-lines, in-operations, in-operands, in-loops, in-comparisons, in-guard-bounds}
+use Rattle.decode.specs.Ranges.{rangeTest, range-is, in-bounds, in-directions, in-steps, in-matrices, in-loading, lineTest, in-lines}
+use Rattle.decode.specs.Ranges.{in-operations, in-operands, in-loops, in-comparisons, in-guard-bounds}
 use Rattle.decode.specs.Refusals.{firstTests, neither, passed, sizes-in-range}
 
 -- ---- the record
@@ -190,13 +193,17 @@ module _ (s : List ℕ) (z : Sizes) (h : Sized z) (good : refused4 s z ≡ false
   stream-ranged i f =
       record {
         map = matrix-abs (mapAt z i) (λ j l m. matrix-word j (omega arith) (omega (arith, part f (matrixWords z))));
-        loading = record { a = loading-word (loadingAt z i) (omega arith) (omega (arith, part f (z .loops - 1), h .least-loops)); b = last (two-or-three h) };
+        loading = record {
+          a = loading-word (loadingAt z i) (omega arith) (omega (arith, part f (z .loops - 1), h .least-loops));
+          b = last (two-or-three h);
+        };
       }
     where
       last : (z .loops ≡ 2) ⊎ (z .loops ≡ 3) → Abs (loadingOf s z (loadingAt z i) .b) 1
       last (inl e) = rw (eq-eqb (z .loops) 2 e) (zero-abs 1)
       last (inr e) =
-          rw (ne-eqb (z .loops) 2 (λ g. omega arith)) (loading-word (loadingAt z i + 1) (omega arith) (omega (arith, part f (z .loops - 1))))
+          rw (ne-eqb (z .loops) 2 (λ g. omega arith))
+          (loading-word (loadingAt z i + 1) (omega arith) (omega (arith, part f (z .loops - 1))))
 
   line-ranged : (i : ℕ) → i < z .lines → RangedLine (z .loops) (z .streams) (bodyLine s z i)
   unfolding bodyLine
@@ -219,7 +226,8 @@ module _ (s : List ℕ) (z : Sizes) (h : Sized z) (good : refused4 s z ≡ false
           let k : ℕ = lineAt z i + j in
           let e : (k - lineAt z 0) % lineWords ≡ j = omega arith in
           subst (λ (w : ℕ). lineTest z w (natAbs (wordAt s k)) (bitsAt s k) ≡ true) e
-          (sym (in-lines z k _ (bitsAt s k) (omega (arith, order)) (omega (arith, order)) (omega arith)) ∙ tested k (omega arith) (omega (arith, part f lineWords)))
+          (sym (in-lines z k _ (bitsAt s k) (omega (arith, order)) (omega (arith, order)) (omega arith))
+          ∙ tested k (omega arith) (omega (arith, part f lineWords)))
 
       operand : (j : ℕ) → 1 ≤ j → j < 4 → bitsAt s (lineAt z i + j) ≤ z .streams + 1
       operand j l m = leb-true _ (z .streams + 1) (sym (in-operands z j _ _ l m) ∙ test j (omega arith))
@@ -272,9 +280,10 @@ decoded s e =
           record {
             sized = h;
             nest = nest-ranged s z h (p4 .0) (p5 .0);
-            streams = filled-each (streamOf s z) RangedStream (z .streams) 6 noStream (h .most-streams) no-stream (stream-ranged s z h (p4 .0));
+            streams =
+                filled-each (streamOf s z) RangedStream (z .streams) 6 noStream (h .most-streams) no-stream (stream-ranged s z h (p4 .0));
             lines =
-                filled-each (bodyLine s z) (RangedLine (z .loops) (z .streams)) (z .lines) 8 noLine (h .most-lines) (no-line (z .loops) (z .streams))
-                (line-ranged s z h (p4 .0));
+                filled-each (bodyLine s z) (RangedLine (z .loops) (z .streams)) (z .lines) 8 noLine (h .most-lines)
+                (no-line (z .loops) (z .streams)) (line-ranged s z h (p4 .0));
           };
     }

@@ -66,7 +66,8 @@ bits-are u n h = go (ltb u (2 ^ 31)) refl
     go false e = lt-leb u n (omega (arith, ltb-false u (2 ^ 31) e))
 
 module _ (z : Sizes) (k u : ℕ) where
-  by-parts : (w : ℤ) → leb u lastOperation ≡ between (pos 0) (pos lastOperation) w → leb u (z .streams + 1) ≡ between (pos 0) (pos (suc (z .streams))) w
+  by-parts : (w : ℤ) → leb u lastOperation ≡ between (pos 0) (pos lastOperation) w
+      → leb u (z .streams + 1) ≡ between (pos 0) (pos (suc (z .streams))) w
       → leb u (z .loops - 1) ≡ between (pos 0) (pos (z .loops - 1)) w → leb u lastComparison ≡ between (pos 0) (pos lastComparison) w
       → rangeTest z k (natAbs w) u ≡ inRange z k w
   unfolding rangeTest lineTest
@@ -135,4 +136,5 @@ module _ (z : Sizes) (j n u : ℕ) where
 
   pub in-guard-bounds : 6 ≤ j → lineTest z j n u ≡ leb n 64
   unfolding lineTest
-  in-guard-bounds e = let a : 4 ≤ j = omega arith in rw (ne-eqb j 0 (λ g. omega arith), le-ltb j 4 a, ne-eqb j 4 (λ g. omega arith), ne-eqb j 5 (λ g. omega arith))
+  in-guard-bounds e = let a : 4 ≤ j = omega arith in
+      rw (ne-eqb j 0 (λ g. omega arith), le-ltb j 4 a, ne-eqb j 4 (λ g. omega arith), ne-eqb j 5 (λ g. omega arith))

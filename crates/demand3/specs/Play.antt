@@ -85,8 +85,8 @@ module _ (s ws : List ℕ) where
       record {
         limits = limitsAt ws k;
         call =
-            byKind (kindOf ws k) (CallStep (callWord ws k 1) (callWord ws k 2) (callWord ws k 3)) (CallRun (callWord ws k 1)) (CallReady (L .words))
-            (CallWindow (callWord ws k 1) (callWord ws k 2)) (CallResult (L .output));
+            byKind (kindOf ws k) (CallStep (callWord ws k 1) (callWord ws k 2) (callWord ws k 3)) (CallRun (callWord ws k 1))
+            (CallReady (L .words)) (CallWindow (callWord ws k 1) (callWord ws k 2)) (CallResult (L .output));
       }
 
   -- what the k-th call makes of the memory and the lists, by its kind
@@ -116,7 +116,8 @@ module _ (s ws : List ℕ) where
     made-memory : (a b c d : Bool)
         → (cond a madeStep (cond b madeRun (cond c madeReady (cond d madeWindow madeResult)))) .memory
         ≡ leaves (limitsAt ws k) s M
-        (cond a (CallStep (callWord ws k 1) (callWord ws k 2) (callWord ws k 3)) (cond b (CallRun (callWord ws k 1)) (cond c (CallReady words)
+        (cond a (CallStep (callWord ws k 1) (callWord ws k 2) (callWord ws k 3))
+        (cond b (CallRun (callWord ws k 1)) (cond c (CallReady words)
         (cond d (CallWindow (callWord ws k 1) (callWord ws k 2)) (CallResult output)))))
     made-memory true b c d = refl
     made-memory false true c d = refl
@@ -140,7 +141,8 @@ module _ (s ws : List ℕ) where
 
   turn-memory : (k : ℕ) (L : Lent) → turn k L .memory ≡ leaves (limitsAt ws k) s (L .memory) (callAt k L .call)
   turn-memory k L =
-      made-memory k (L .memory) (L .words) (L .output) (L .part) (eqb (kindOf ws k) 0) (eqb (kindOf ws k) 1) (eqb (kindOf ws k) 2) (eqb (kindOf ws k) 3)
+      made-memory k (L .memory) (L .words) (L .output) (L .part) (eqb (kindOf ws k) 0) (eqb (kindOf ws k) 1) (eqb (kindOf ws k) 2)
+      (eqb (kindOf ws k) 3)
 
   play-memory : (k n : ℕ) (L : Lent) → playFrom k n L .memory ≡ memoryAfter s (L .memory) (callsFrom k n L)
   unfolding playFrom callsFrom memoryAfter
@@ -178,19 +180,20 @@ module _ (board : ℕ) (s values ws : List ℕ) where
       }
 
   abbrev pub played : Lent → Lent
-  played L = cond (eqb (answerNumber (start (limitsOf board) s values (L .memory) .answer)) 0) (playFrom s ws 0 (length ws / 5) (started L)) (started L)
+  played L = cond (eqb (answerNumber (start (limitsOf board) s values (L .memory) .answer)) 0)
+      (playFrom s ws 0 (length ws / 5) (started L)) (started L)
 
   abbrev pub callsMade : Lent → List Told
   callsMade L = callsFrom s ws 0 (length ws / 5) (started L)
 
-  pub played-on : (L : Lent) {r : Answer} {k : ℕ} {L₁ L' : Lent} → r ≡ start (limitsOf board) s values (L .memory) .answer → k ≡ answerNumber r → k ≡ 0
-      → L₁ ≡ started L → L' ≡ playFrom s ws 0 (length ws / 5) L₁ → L' ≡ played L
+  pub played-on : (L : Lent) {r : Answer} {k : ℕ} {L₁ L' : Lent} → r ≡ start (limitsOf board) s values (L .memory) .answer
+      → k ≡ answerNumber r → k ≡ 0 → L₁ ≡ started L → L' ≡ playFrom s ws 0 (length ws / 5) L₁ → L' ≡ played L
   played-on L a b z e p =
       rw (eq-eqb (answerNumber (start (limitsOf board) s values (L .memory) .answer)) 0 (ap answerNumber (sym a) ∙ sym b ∙ z))
       (p ∙ ap (playFrom s ws 0 (length ws / 5)) e)
 
-  pub played-off : (L : Lent) {r : Answer} {k : ℕ} {L' : Lent} → r ≡ start (limitsOf board) s values (L .memory) .answer → k ≡ answerNumber r
-      → (k ≡ 0 → ⊥) → L' ≡ started L → L' ≡ played L
+  pub played-off : (L : Lent) {r : Answer} {k : ℕ} {L' : Lent} → r ≡ start (limitsOf board) s values (L .memory) .answer
+      → k ≡ answerNumber r → (k ≡ 0 → ⊥) → L' ≡ started L → L' ≡ played L
   played-off L a b z e =
       rw (ne-eqb (answerNumber (start (limitsOf board) s values (L .memory) .answer)) 0 (λ f. z (b ∙ ap answerNumber a ∙ f))) e
 
@@ -200,6 +203,7 @@ module _ (board : ℕ) (s values ws : List ℕ) where
       × (L' .memory ≡ memoryAfter s (start (limitsOf board) s values (L .memory) .memory) (callsMade L))
   promised L {r} {L'} a e d = (
     guarantee (limitsOf board) s values (L .memory) (sym a ∙ d),
-    ap (λ (L : Lent). L .memory) e ∙ ap (λ (A : Answer). (cond (eqb (answerNumber A) 0) (playFrom s ws 0 (length ws / 5) (started L)) (started L)) .memory) (sym a ∙ d)
+    ap (λ (L : Lent). L .memory) e
+        ∙ ap (λ (A : Answer). (cond (eqb (answerNumber A) 0) (playFrom s ws 0 (length ws / 5) (started L)) (started L)) .memory) (sym a ∙ d)
         ∙ play-memory s ws 0 (length ws / 5) (started L),
   )

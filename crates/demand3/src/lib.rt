@@ -1,7 +1,7 @@
-// Demand 3 for the code: Start and then any list of calls, played on lent memory, with every answer noted. What they leave is what `meaning` says, and demand 3
-// holds of it. A call stands in five words: 0 Step with kind, number and stream; 1 Run with a number of steps; 2 Ready; 3 Window with pipe and side; any other
-// Result; the last of the five is the board that it is told, which need not be Start's. Its answer is noted in three words (`answer_words`), and the part that
-// Window hands back is copied.
+// Demand 3 for the code: Start and then any list of calls, played on lent memory, with every answer noted. What they leave is what
+// `meaning` says, and demand 3 holds of it. A call stands in five words: 0 Step with kind, number and stream; 1 Run with a number of steps;
+// 2 Ready; 3 Window with pipe and side; any other Result; the last of the five is the board that it is told, which need not be Start's. Its
+// answer is noted in three words (`answer_words`), and the part that Window hands back is copied.
 //
 // In specs/, Play says which calls words stand for, what they leave of all that is lent, and that demand 3 holds of it.
 ghost use mathlib.Core.Path.{_≡_};
@@ -48,7 +48,8 @@ fn see<'a>(
     waiting: &'a [u32],
     received: &'a [u32],
 ) -> Words
-    ensures { λ r. ⌜ (now (part .exit) ≡ copied (window (limitsOf board) (now (s .entry)) pipe side (now (waiting .entry)) (now (received .entry)) .part) (now (part .entry)))
+    ensures { λ r. ⌜ (now (part .exit) ≡ copied
+        (window (limitsOf board) (now (s .entry)) pipe side (now (waiting .entry)) (now (received .entry)) .part) (now (part .entry)))
         × (r ≡ wordsOf (window (limitsOf board) (now (s .entry)) pipe side (now (waiting .entry)) (now (received .entry)) .refusal) []) ⌝ }
 {
     let mut number: u32 = 0;
@@ -74,7 +75,8 @@ fn make_call(
     state: &mut [u32],
 ) -> Words
     requires { ⌜ 5 * k + 5 ≤ length (now calls) ⌝ }
-    ensures { λ r. ⌜ madeOf (memoryOf (now (waiting .entry)) (now (received .exit)) (now (state .exit))) (now (words .exit)) (now (output .exit)) (now (part .exit)) r
+    ensures { λ r. ⌜ madeOf (memoryOf (now (waiting .entry)) (now (received .exit)) (now (state .exit))) (now (words .exit))
+        (now (output .exit)) (now (part .exit)) r
         ≡ made (now (s .entry)) (now (calls .entry)) k (memoryOf (now (waiting .entry)) (now (received .entry)) (now (state .entry)))
         (now (words .entry)) (now (output .entry)) (now (part .entry)) ⌝ }
 {
@@ -119,8 +121,10 @@ fn play_call(
     state: &mut [u32],
 )
     requires { ⌜ 5 * k + 5 ≤ length (now calls) ⌝ }
-    ensures { λ r. ⌜ lentOf (now (waiting .entry)) (now (received .exit)) (now (state .exit)) (now (words .exit)) (now (output .exit)) (now (part .exit)) (now (answers .exit))
-        ≡ turn (now (s .entry)) (now (calls .entry)) k (lentOf (now (waiting .entry)) (now (received .entry)) (now (state .entry)) (now (words .entry))
+    ensures { λ r. ⌜ lentOf (now (waiting .entry)) (now (received .exit)) (now (state .exit)) (now (words .exit)) (now (output .exit))
+        (now (part .exit)) (now (answers .exit))
+        ≡ turn (now (s .entry)) (now (calls .entry)) k
+        (lentOf (now (waiting .entry)) (now (received .entry)) (now (state .entry)) (now (words .entry))
         (now (output .entry)) (now (part .entry)) (now (answers .entry))) ⌝ }
 {
     let noted = make_call(s, calls, k, words, output, part, waiting, received, state);
@@ -141,8 +145,10 @@ fn play_calls(
     received: &mut [u32],
     state: &mut [u32],
 )
-    ensures { λ r. ⌜ lentOf (now (waiting .entry)) (now (received .exit)) (now (state .exit)) (now (words .exit)) (now (output .exit)) (now (part .exit)) (now (answers .exit))
-        ≡ playFrom (now (s .entry)) (now (calls .entry)) 0 (length (now (calls .entry)) / 5) (lentOf (now (waiting .entry)) (now (received .entry)) (now (state .entry))
+    ensures { λ r. ⌜ lentOf (now (waiting .entry)) (now (received .exit)) (now (state .exit)) (now (words .exit)) (now (output .exit))
+        (now (part .exit)) (now (answers .exit))
+        ≡ playFrom (now (s .entry)) (now (calls .entry)) 0 (length (now (calls .entry)) / 5)
+        (lentOf (now (waiting .entry)) (now (received .entry)) (now (state .entry))
         (now (words .entry)) (now (output .entry)) (now (part .entry)) (now (answers .entry))) ⌝ }
 {
     let n = calls.len() / 5;
@@ -178,15 +184,20 @@ pub fn play(
     received: &mut [u32],
     state: &mut [u32],
 ) -> Answer
-    ensures { λ r. ⌜ (r ≡ start (limitsOf board) (now (s .entry)) (now (values .entry)) (memoryOf (now (waiting .entry)) (now (received .entry)) (now (state .entry))) .answer)
-        × (lentOf (now (waiting .exit)) (now (received .exit)) (now (state .exit)) (now (words .exit)) (now (output .exit)) (now (part .exit)) (now (answers .exit))
-        ≡ played board (now (s .entry)) (now (values .entry)) (now (calls .entry)) (lentOf (now (waiting .entry)) (now (received .entry)) (now (state .entry))
+    ensures { λ r. ⌜ (r ≡ start (limitsOf board) (now (s .entry)) (now (values .entry))
+        (memoryOf (now (waiting .entry)) (now (received .entry)) (now (state .entry))) .answer)
+        × (lentOf (now (waiting .exit)) (now (received .exit)) (now (state .exit)) (now (words .exit)) (now (output .exit))
+        (now (part .exit)) (now (answers .exit))
+        ≡ played board (now (s .entry)) (now (values .entry)) (now (calls .entry))
+        (lentOf (now (waiting .entry)) (now (received .entry)) (now (state .entry))
         (now (words .entry)) (now (output .entry)) (now (part .entry)) (now (answers .entry))))
-        × (r ≡ Done → Demand3 (limitsOf board) (now (s .entry)) (now (values .entry)) (memoryOf (now (waiting .entry)) (now (received .entry)) (now (state .entry)))
+        × (r ≡ Done → Demand3 (limitsOf board) (now (s .entry)) (now (values .entry))
+        (memoryOf (now (waiting .entry)) (now (received .entry)) (now (state .entry)))
         × (memoryOf (now (waiting .exit)) (now (received .exit)) (now (state .exit))
         ≡ memoryAfter (now (s .entry)) (start (limitsOf board) (now (s .entry)) (now (values .entry))
         (memoryOf (now (waiting .entry)) (now (received .entry)) (now (state .entry))) .memory)
-        (callsMade board (now (s .entry)) (now (values .entry)) (now (calls .entry)) (lentOf (now (waiting .entry)) (now (received .entry)) (now (state .entry))
+        (callsMade board (now (s .entry)) (now (values .entry)) (now (calls .entry))
+        (lentOf (now (waiting .entry)) (now (received .entry)) (now (state .entry))
         (now (words .entry)) (now (output .entry)) (now (part .entry)) (now (answers .entry)))))) ⌝ }
 {
     let answer = start::start(board, s, values, waiting, received, state);

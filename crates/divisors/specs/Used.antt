@@ -16,7 +16,8 @@ pub record Used (d : Description) : Type 0 where
   pub streams : length (streamsOf d) ≡ d .sizes .streams
 
 -- the divisor of the stream that decoding gives
-pub of-stream : (d : Description) → Used d → (i : ℕ) {s : Stream} {k : ℕ} → i < d .sizes .streams → s ≡ getD (d .streams) i noStream → k ≡ divisor (s .map)
-    → k ≡ streamDivisor d i
+pub of-stream : (d : Description) → Used d → (i : ℕ) {s : Stream} {k : ℕ} → i < d .sizes .streams → s ≡ getD (d .streams) i noStream
+    → k ≡ divisor (s .map) → k ≡ streamDivisor d i
 of-stream d u i h e f =
-    f ∙ ap (λ (t : Stream). divisor (t .map)) (e ∙ sym (getD-take (d .sizes .streams) (d .streams) i noStream h)) ∙ sym (in-use d (u .streams) i h)
+    f ∙ ap (λ (t : Stream). divisor (t .map)) (e ∙ sym (getD-take (d .sizes .streams) (d .streams) i noStream h))
+    ∙ sym (in-use d (u .streams) i h)

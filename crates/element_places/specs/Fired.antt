@@ -61,7 +61,8 @@ module _ {f : Flow} {spans lanes : List ℕ} {k p : ℕ} (h : Fired f spans lane
   run = record { within = in-within (accepted .layout .dirs) (getD-in (instances n) k zero3 (h .lt)); to = refl }
 
   point : placeOf n x ≡ processOf n p
-  point = sym (ap (processOf n) (h .process) ∙ row-at (space n) (placeOf n x) zero2 (box-has (accepted .layout .dirs) (n .place) (run .within)))
+  point =
+      sym (ap (processOf n) (h .process) ∙ row-at (space n) (placeOf n x) zero2 (box-has (accepted .layout .dirs) (n .place) (run .within)))
 
   pub run-here : RunAt n (processOf n p) x
   run-here = record { within = run .within; to = point }
@@ -85,8 +86,10 @@ module _ {f : Flow} {spans lanes : List ℕ} {k p : ℕ} (h : Fired f spans lane
       let t = still-of (h .near) e in
       let same = still-element accepted t x (first n (processOf n p)) (point ∙ sym (first-at (accepted .layout .dirs) run-here .to)) in
       let q : r ≡ ahead (touchedBy n s k) (pipeElements n s (processOf n p)) =
-      g ∙ soak-first accepted run-here ∙ ap (λ (v : V2). ahead v (pipeElements n s (processOf n p))) same in
-      (index-here q, omega (arith, q, ahead-lt (touchedBy n s k) (touched-in accepted run-here), total-still (h .near) e, held-le (h .near)))
+      g ∙ soak-first accepted run-here ∙ ap (λ (v : V2). ahead v (pipeElements n s (processOf n p))) same in (
+        index-here q,
+        omega (arith, q, ahead-lt (touchedBy n s k) (touched-in accepted run-here), total-still (h .near) e, held-le (h .near)),
+      )
 
 -- ---- a stream
 
@@ -144,8 +147,8 @@ module _ {f : Flow} (flows : Flows f) {n : Nest} {s : Stream} (en : f .nest ≡ 
   pub streaming : Streaming (f .nest) (f .stream) first spans places
   streaming = subst₂ (λ (n : Nest) (s : Stream). Streaming n s first spans places) (sym en) (sym es) h
 
-  module _ {lanes : List ℕ} (seen : Seen f spans lanes) {count : ℕ} (c : count ≡ length (processes (f .nest))) (xs : List ℕ) {starts : List ℕ} (w : length xs ≡ 1024)
-      (o : starts ≡ fillBy (startAt (f .nest) (f .stream) first) count xs) where
+  module _ {lanes : List ℕ} (seen : Seen f spans lanes) {count : ℕ} (c : count ≡ length (processes (f .nest)))
+      (xs : List ℕ) {starts : List ℕ} (w : length xs ≡ 1024) (o : starts ≡ fillBy (startAt (f .nest) (f .stream) first) count xs) where
     start-is : (e : ℕ) → e < length (processes (f .nest)) → getD starts e 0 ≡ startAt (f .nest) (f .stream) first e
     start-is e l =
         ap (λ (m : List ℕ). getD m e 0) o
@@ -159,20 +162,23 @@ module _ {f : Flow} (flows : Flows f) {n : Nest} {s : Stream} (en : f .nest ≡ 
           low = λ e l. omega (arith, start-is e l, start-most (flows .laid .accepted) (streaming .small) first e, streaming .fits);
         }
 
-    entry-below : (k : ℕ) → k < length (instances (f .nest)) → entryNumber (f .nest) (f .stream) (processNumber (f .nest) k) < length (processes (f .nest))
+    entry-below : (k : ℕ) → k < length (instances (f .nest))
+        → entryNumber (f .nest) (f .stream) (processNumber (f .nest) k) < length (processes (f .nest))
     entry-below k l =
         let p : processNumber (f .nest) k < length (processes (f .nest)) =
         row-lt (space (f .nest)) (placeOf (f .nest) (instanceOf (f .nest) k)) (image-inside (numbered-place placing l)) in
         omega (arith, entry-lt (near-place placing l (refl, p)), seen .of-lanes .entries (processNumber (f .nest) k) p)
 
     pub said : {out : List ℕ}
-        → out ≡ spread (elementNumber (f .nest) (f .stream) first) (placeBy (f .nest) (f .stream) starts) (length (instances (f .nest))) places
+        → out
+        ≡ spread (elementNumber (f .nest) (f .stream) first) (placeBy (f .nest) (f .stream) starts) (length (instances (f .nest))) places
         → out ≡ spread (elementNumber n s first) (placeFor n s first) (length (instances n)) places
     said e =
         e
-        ∙ spread-like (elementNumber (f .nest) (f .stream) first) (placeBy (f .nest) (f .stream) starts) (placeFor (f .nest) (f .stream) first)
-        (length (instances (f .nest))) places
-        (λ k l. ap (λ (b : ℕ). b + indexOf (f .nest) (f .stream) k) (start-is (entryNumber (f .nest) (f .stream) (processNumber (f .nest) k)) (entry-below k l)))
+        ∙ spread-like (elementNumber (f .nest) (f .stream) first) (placeBy (f .nest) (f .stream) starts)
+        (placeFor (f .nest) (f .stream) first) (length (instances (f .nest))) places
+        (λ k l. ap (λ (b : ℕ). b + indexOf (f .nest) (f .stream) k)
+        (start-is (entryNumber (f .nest) (f .stream) (processNumber (f .nest) k)) (entry-below k l)))
         ∙ ap₂ (λ (n : Nest) (s : Stream). spread (elementNumber n s first) (placeFor n s first) (length (instances n)) places) en es
 
 -- a stream of a description, as it is read

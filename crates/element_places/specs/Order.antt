@@ -1,5 +1,5 @@
--- Where the element that an instance touches waits: in the part of the entry of its process's line, at its index there. Assumes a description that is not
--- refused.
+-- Where the element that an instance touches waits: in the part of the entry of its process's line, at its index there. Assumes a
+-- description that is not refused.
 use mathlib.Core.Path.{_≡_, refl, sym, _∙_, ap, ap₂, subst}
 use mathlib.Core.List.{List, [], _∷_}
 use Prim.Native.Nat.{ℕ, suc, _+_, _-_, _*_, _≤_, _<_}
@@ -111,9 +111,11 @@ module _ {d : Description} (l : Laid d) (i : ℕ) (hi : i < length (streamsOf d)
       let start : partStart (arrayOf d) (touchedPipe l i hi x w) ≡ startAt n s first (entryNumber n s p) =
       ap (partStart (arrayOf d)) (through-is l p i hp hi on) ∙ part-start d i j hi (entry-lt l p i hp hi on) l
       ∙ ap (λ (c : ℕ). first + partOf n s c) (entry-rank l p i hp hi on)
-      ∙ ap (λ (m : List V2). first + total (λ y. length (pipeElements n s y)) m) (take-filter (entering n s) (entryNumber n s p) (processes n)) in
+      ∙ ap (λ (m : List V2). first + total (λ y. length (pipeElements n s y)) m)
+      (take-filter (entering n s) (entryNumber n s p) (processes n)) in
       let at = partStart (arrayOf d) (touchedPipe l i hi x w) + touchedIndex l i hi x w in
-      sym (found-at l at (subst (λ (c : ℕ). at < c) (sym (list-length l)) (touched-lt l i hi x w)) (elementNumber n s first k) (touched-waits l i hi x w)
+      sym (found-at l at (subst (λ (c : ℕ). at < c) (sym (list-length l)) (touched-lt l i hi x w)) (elementNumber n s first k)
+      (touched-waits l i hi x w)
       ∙ ap (λ (c : ℕ). c + indexOf n s k) start)
 
   pub number-below : (k : ℕ) → k < length (instances n) → elementNumber n s first k < first + length (elements n s)
@@ -147,13 +149,17 @@ module _ {d : Description} (l : Laid d) (i : ℕ) (hi : i < length (streamsOf d)
       low : (k : ℕ) → k < length (instances n) → elementNumber n s first k < length xs
       low k c = omega (arith, number-below k c)
 
-      go : Dec (suc e ≤ first) → getD (spread (elementNumber n s first) (placeFor n s first) (length (instances n)) xs) e 0 ≡ placeOfElement d e
-      go (yes c) = spread-keeps (elementNumber n s first) (placeOfElement d) (placeFor n s first) (length (instances n)) xs place-right low e (h e c)
+      go : Dec (suc e ≤ first)
+          → getD (spread (elementNumber n s first) (placeFor n s first) (length (instances n)) xs) e 0 ≡ placeOfElement d e
+      go (yes c) =
+          spread-keeps (elementNumber n s first) (placeOfElement d) (placeFor n s first) (length (instances n)) xs place-right low e (h e c)
       go (no c) =
           let r = by (e - first) (omega arith) in
           let q : elementNumber n s first (r .instance) ≡ e = omega (arith, r .is) in
-          subst (λ (a : ℕ). getD (spread (elementNumber n s first) (placeFor n s first) (length (instances n)) xs) a 0 ≡ placeOfElement d a) q
-          (spread-puts (elementNumber n s first) (placeOfElement d) (placeFor n s first) (length (instances n)) xs place-right low (r .instance) (r .lt))
+          subst (λ (a : ℕ). getD (spread (elementNumber n s first) (placeFor n s first) (length (instances n)) xs) a 0
+          ≡ placeOfElement d a) q
+          (spread-puts (elementNumber n s first) (placeOfElement d) (placeFor n s first) (length (instances n)) xs place-right low
+          (r .instance) (r .lt))
 
 -- ---- stream by stream
 
@@ -192,7 +198,8 @@ start-all d i e =
 -- the elements are few
 pub elements-most : {d : Description} → Described d → lengthOf d ≤ 24576
 elements-most {d} h =
-    omega (arith, start-all d (d .sizes .streams) refl, start-most d h (d .sizes .streams) (omega arith), h .few .ranged .sized .most-streams)
+    omega
+    (arith, start-all d (d .sizes .streams) refl, start-most d h (d .sizes .streams) (omega arith), h .few .ranged .sized .most-streams)
 
 -- stream i, as it is read
 pub stream-of : (d : Description) (i : ℕ) {s : Stream} → i < d .sizes .streams → s ≡ getD (d .streams) i noStream → s ≡ streamAt d i
@@ -207,7 +214,8 @@ pub next-right : {d : Description} → Placeable d → (i : ℕ) → i < d .size
 next-right {d} h i l es ef xs out o w r =
     let n = d .nest in
     let start = streamStart n (streamsOf d) i in
-    let q = o ∙ ap₂ (λ (s : Stream) (first : ℕ). spread (elementNumber n s first) (placeFor n s first) (length (instances n)) xs) (stream-of d i l es) ef in (
+    let q = o ∙ ap₂ (λ (s : Stream) (first : ℕ). spread (elementNumber n s first) (placeFor n s first) (length (instances n)) xs)
+    (stream-of d i l es) ef in (
       ap length q ∙ spread-length (elementNumber n (streamAt d i) start) (placeFor n (streamAt d i) start) (length (instances n)) xs ∙ w,
       λ e b. stream-right (h .laid) i (omega (arith, h .described .in-use)) xs out q (stream-fits d (h .described) i l w) r e
           (omega (arith, b, start-next d (h .described) i l)),

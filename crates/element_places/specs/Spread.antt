@@ -59,7 +59,8 @@ module _ (at : ℕ → ℕ) where
     unfolding spread
     spread-puts zero xs h l k b = absurd (omega arith)
     spread-puts (suc n) xs h l k b =
-        go (ℕ-discrete (at k) (at n)) (eq-or-lt-of-le (le-of-suc-le-suc b)) (spread-puts n xs (λ k b. h k (omega arith)) (λ k b. l k (omega arith)) k)
+        go (ℕ-discrete (at k) (at n)) (eq-or-lt-of-le (le-of-suc-le-suc b))
+        (spread-puts n xs (λ k b. h k (omega arith)) (λ k b. l k (omega arith)) k)
       where
         go : Dec (at k ≡ at n) → (k ≡ n) ⊎ (k < n) → (k < n → getD (spread f n xs) (at k) 0 ≡ right (at k))
             → getD (set (spread f n xs) (at n) (f n)) (at k) 0 ≡ right (at k)

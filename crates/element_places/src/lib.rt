@@ -1,10 +1,12 @@
-// Where each element waits: its place in the waiting list, for its number in element order. Stream by stream, each instance says where the element that it
-// touches waits: in the part of the pipe through its process, at the element's index there. Every element is touched, so every place is said.
+// Where each element waits: its place in the waiting list, for its number in element order. Stream by stream, each instance says where the
+// element that it touches waits: in the part of the pipe through its process, at the element's index there. Every element is touched, so
+// every place is said.
 //
 // specs/, by file:
 //
 //   Spread    words stored at scattered places
-//   Order     the place of the element of an instance: `place-right`; `stream-right`: a stream's instances say the places of all its elements
+//   Order     the place of the element of an instance: `place-right`; `stream-right`: a stream's instances say the places of all its
+//             elements
 //   Fired     what the functions are lent, and what they find of an instance
 ghost use mathlib.Core.Path.{_≡_};
 ghost use Prim.Native.Nat.{_≤_, _<_};
@@ -63,7 +65,8 @@ fn place_of(f: Flow, spans: &[u32], lanes: &[u32], starts: &[u32], k: u32) -> u3
 fn put_places(f: Flow, spans: &[u32], lanes: &[u32], starts: &[u32], first: u32, places: &mut [u32])
     requires { ⌜ (Placing f (now spans) (now lanes) (now starts)) × (Putting f first (now places)) ⌝ }
     ensures { λ r. ⌜ now (places .exit)
-        ≡ spread (elementNumber (f .nest) (f .stream) first) (placeBy (f .nest) (f .stream) (now (starts .entry))) (length (instances (f .nest))) (now (places .entry)) ⌝ }
+        ≡ spread (elementNumber (f .nest) (f .stream) first) (placeBy (f .nest) (f .stream) (now (starts .entry)))
+        (length (instances (f .nest))) (now (places .entry)) ⌝ }
 {
     let n = f.nest;
     let map = f.stream.map;
@@ -79,7 +82,8 @@ fn put_places(f: Flow, spans: &[u32], lanes: &[u32], starts: &[u32], first: u32,
 
 fn fill_stream(n: Nest, s: Stream, first: u32, spans: &[u32], places: &mut [u32])
     requires { ⌜ Streaming n s first (now spans) (now places) ⌝ }
-    ensures { λ r. ⌜ now (places .exit) ≡ spread (elementNumber n s first) (placeFor n s first) (length (instances n)) (now (places .entry)) ⌝ }
+    ensures { λ r. ⌜ now (places .exit)
+        ≡ spread (elementNumber n s first) (placeFor n s first) (length (instances n)) (now (places .entry)) ⌝ }
 {
     let f = lanes::flow_of(n, s);
     let space = f.space;

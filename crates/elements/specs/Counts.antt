@@ -36,8 +36,8 @@ module _ (d : Description) (six : length (d .streams) ≡ 6) (h : Few d) where
   pub in-use : length (streamsOf d) ≡ d .sizes .streams
   in-use = length-take-le (d .sizes .streams) (d .streams) (omega (arith, h .ranged .sized .most-streams))
 
-  pub start-next : (i : ℕ) {s : Stream} {k : ℕ} → i < d .sizes .streams → s ≡ getD (d .streams) i noStream → k ≡ length (elements (d .nest) s)
-      → streamStart (d .nest) (streamsOf d) i + k ≡ streamStart (d .nest) (streamsOf d) (i + 1)
+  pub start-next : (i : ℕ) {s : Stream} {k : ℕ} → i < d .sizes .streams → s ≡ getD (d .streams) i noStream
+      → k ≡ length (elements (d .nest) s) → streamStart (d .nest) (streamsOf d) i + k ≡ streamStart (d .nest) (streamsOf d) (i + 1)
   start-next i {s} {k} l e g =
       ap (λ (c : ℕ). streamStart (d .nest) (streamsOf d) i + c)
       (g ∙ ap (λ (s : Stream). length (elements (d .nest) s)) (e ∙ sym (getD-take (d .sizes .streams) (d .streams) i noStream l)))
@@ -46,7 +46,8 @@ module _ (d : Description) (six : length (d .streams) ≡ 6) (h : Few d) where
 
   pub start-most : (i : ℕ) → i ≤ d .sizes .streams → streamStart (d .nest) (streamsOf d) i ≤ i * 4096
   start-most i l =
-      total-most (λ s. length (elements (d .nest) s)) (streamsOf d) i 4096 noStream (omega (arith, in-use)) (λ j k. h .few j (omega (arith, in-use)))
+      total-most (λ s. length (elements (d .nest) s)) (streamsOf d) i 4096 noStream (omega (arith, in-use))
+      (λ j k. h .few j (omega (arith, in-use)))
 
   pub start-all : streamStart (d .nest) (streamsOf d) (d .sizes .streams) ≡ elementCount (d .nest) (streamsOf d)
   start-all = ap (total (λ s. length (elements (d .nest) s))) (take-take (d .sizes .streams) (d .sizes .streams) (d .streams) (omega arith))

@@ -170,7 +170,12 @@ module _ (d : Description) where
         record {
           words = omega (arith, six, most (λ s. 4 + hop (d .nest) s) (4 + gaugeLimits .hop) (λ j k. omega (arith, small j k .hop)));
           pipes = omega (arith, six, most (λ s. length (entries (d .nest) s)) 1024 (λ j k. small j k .pipes));
-          ends = omega (arith, six, most (λ s. length (entries (d .nest) s) * (2 + hop (d .nest) s)) endWordsMost (λ j k. end-words (small j k .pipes) (small j k .hop)));
+          ends = omega (
+            arith,
+            six,
+            most (λ s. length (entries (d .nest) s) * (2 + hop (d .nest) s)) endWordsMost
+                (λ j k. end-words (small j k .pipes) (small j k .hop)),
+          );
           steps = omega (arith, six, most (λ s. total (stepsOn (d .nest) s) (entries (d .nest) s)) 8396800 (λ j k. small j k .steps));
         }
       where
@@ -184,7 +189,8 @@ module _ (d : Description) where
         most f m g = total-most f (streamsOf d) i m noStream (omega (arith, h .in-use)) g
 
     pub totals-all : totalsOf d (d .sizes .streams) ≡ totalsOver (d .nest) (streamsOf d)
-    totals-all = ap (λ (l : List Stream). totalsOver (d .nest) l) (take-take (d .sizes .streams) (d .sizes .streams) (d .streams) (omega arith))
+    totals-all =
+        ap (λ (l : List Stream). totalsOver (d .nest) l) (take-take (d .sizes .streams) (d .sizes .streams) (d .streams) (omega arith))
 
 -- ---- the figures
 

@@ -74,7 +74,8 @@ module _ (n : Nest) (s : Stream) where
       go (x ∷ l) = refl
 
   pub sums-all : (k : ℕ) → k ≡ length (processes n) → sumsAt n s k ≡ sumsOver n s (entries n s)
-  sums-all k e = ap (λ (l : List V2). sumsOver n s (filter (entering n s) l)) (ap (λ (k : ℕ). take k (processes n)) e ∙ take-length (processes n))
+  sums-all k e =
+      ap (λ (l : List V2). sumsOver n s (filter (entering n s) l)) (ap (λ (k : ℕ). take k (processes n)) e ∙ take-length (processes n))
 
   module _ (p : ℕ) (lt : p < length (processes n)) where
     steps-next : sumsAt n s (suc p) .steps ≡ sumsAt n s p .steps + cond (entering n s (processOf n p)) (stepsOn n s (processOf n p)) 0

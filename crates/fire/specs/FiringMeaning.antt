@@ -127,7 +127,8 @@ module _ (A : Array) (st : List ℕ) (p : ℕ) (ks : List Port) (m : ℕ) (is : 
       let k = stopAt A (pipeThrough A p j) (placeOn A p (pipeThrough A p j)) .keeps in
       omega (arith, used-is j h, held-past A p j k)
 
-  pub fire-does : (x : V3) (ls : List Line) → ls ≡ A .lines → x ≡ instanceAt A p (read A st (Firings p)) → fired x ls st ks m ≡ doFire A st p
+  pub fire-does : (x : V3) (ls : List Line) → ls ≡ A .lines → x ≡ instanceAt A p (read A st (Firings p))
+      → fired x ls st ks m ≡ doFire A st p
   fire-does x ls el ex =
       let u = is .ports 0 (is .some) in
       let at = index A (Firings p) in

@@ -1,5 +1,5 @@
-// Document 01's rule of a process: fire, with whether its next instance can use the element of a stream and the run of the body on the words that
-// it uses. In specs/, Firing has the code as functions of lists, and FiringMeaning says that this is what document 01 says.
+// Document 01's rule of a process: fire, with whether its next instance can use the element of a stream and the run of the body on the
+// words that it uses. In specs/, Firing has the code as functions of lists, and FiringMeaning says that this is what document 01 says.
 ghost use mathlib.Core.Path.{_≡_};
 ghost use mathlib.Core.Bool.{true};
 ghost use Prim.Native.Nat.{_+_, _<_, _≤_};

@@ -22,7 +22,8 @@ use Rattle.meaning.specs.Loops.{instances, stepOf, placeOf, lineOf}
 use Rattle.meaning.specs.Space.{eq2, boxOf}
 use Rattle.meaning.specs.Streams.{line, stationary, elements, touches, touched}
 use Rattle.meaning.specs.Accept.{isZero3, lowRank, refused7, refused8, refused11, refused12, against, refused16, refused17}
-use Rattle.meaning.specs.Points.{IsLine as Line, Direction, Direction.onward, Direction.back, Directed, Earlier, Earlier.by-outer, Earlier.by-middle, Earlier.by-inner, Inside}
+use Rattle.meaning.specs.Points.{IsLine as Line, Direction, Direction.onward, Direction.back, Directed, Earlier, Earlier.by-outer}
+use Rattle.meaning.specs.Points.{Earlier.by-middle, Earlier.by-inner, Inside}
 use Rattle.meaning.specs.Conditions.{Onward, Onward.by-first, Onward.by-second, Onward.by-third}
 use Rattle.lists.specs.Members.{any-yes, yes-any}
 use Rattle.geometry.specs.Numbers.{eqZ-eq, eq-eqZ, eq2-eq, eq-eq2, not-zero, positive-not}
@@ -111,7 +112,8 @@ line-onward {n} {u} d line t =
 
 pub onward-not : (d u : V3) → Onward d u → T (against d u) → ⊥
 onward-not d u h t =
-    go h (eqZ (u .x) (pos 0)) (eqZ-eq (u .x) (pos 0)) (eq-eqZ (u .x) (pos 0)) (eqZ (u .y) (pos 0)) (eqZ-eq (u .y) (pos 0)) (eq-eqZ (u .y) (pos 0)) t
+    go h (eqZ (u .x) (pos 0)) (eqZ-eq (u .x) (pos 0)) (eq-eqZ (u .x) (pos 0)) (eqZ (u .y) (pos 0)) (eqZ-eq (u .y) (pos 0))
+    (eq-eqZ (u .y) (pos 0)) t
   where
     times-zero : (c : ℤ) → c *ℤ pos 0 ≡ pos 0
     times-zero = linear 0 1 _ λ p m. simp gaps (omega arith)
@@ -133,7 +135,8 @@ onward-not d u h t =
     go (by-third x y h) true e e' false f f' t = f' y
     go (by-third x y h) false e e' b f f' t = e' x
 
-pub line-leads : {n : Nest} {m : Matrix} {u : V3} → Directed n → Line n m u → T (not (against (n .direction) u)) → Earlier (n .direction) zero3 u
+pub line-leads : {n : Nest} {m : Matrix} {u : V3} → Directed n → Line n m u → T (not (against (n .direction) u))
+    → Earlier (n .direction) zero3 u
 line-leads {n} {u} d line t = go (line-onward d line t)
   where
     from : (c w : ℤ) → pos 0 <ℤ (c *ℤ w) → (c *ℤ pos 0) <ℤ (c *ℤ w)

@@ -1,9 +1,10 @@
--- The array's pipes by number: each is a stream's pipe at one of its entries, each entry has one, and `pipeThrough` and `placeOn` find a process's
--- pipe and its position there. Assumes a description that is not refused.
+-- The array's pipes by number: each is a stream's pipe at one of its entries, each entry has one, and `pipeThrough` and `placeOn` find a
+-- process's pipe and its position there. Assumes a description that is not refused.
 use mathlib.Core.Path.{_≡_, refl, sym, _∙_, ap, ap₂, subst}
 use mathlib.Core.Logic.{_⊎_, inl, inr}
 use mathlib.Core.Bool.{Bool, _&&_}
-use mathlib.Core.List.{List, [], _∷_, _++_, map, List·Memᴰ as In, Memᴰ·cast, Memᴰ·map as in-map, Memᴰ·append-left, Memᴰ·append-right, List·Memᴰ·append-cases}
+use mathlib.Core.List.{List, [], _∷_, _++_, map, List·Memᴰ as In, Memᴰ·cast, Memᴰ·map as in-map, Memᴰ·append-left, Memᴰ·append-right}
+use mathlib.Core.List.{List·Memᴰ·append-cases}
 use Prim.Native.Nat.{ℕ, zero, suc, _+_, _<_}
 use native.Mathlib.Nat.{add-zero, zero-add, add-assoc}
 use native.Mathlib.Omega.{arith}
@@ -19,7 +20,8 @@ use Rattle.meaning.specs.Space.{Box, points, rowIndex, space}
 use Rattle.meaning.specs.Streams.{elements}
 use Rattle.meaning.specs.Pipes.{pipe, before, isPipe, isEntry, entries}
 use Rattle.meaning.specs.Description.{noStream, streamsOf}
-use Rattle.meaning.specs.Array.{Stop, Pipe, stopOf, pipeOf, pipesFrom, arrayOf, pipeNumber, noPipe, noStop, pipeAt, isStop, pipeThrough, placeOn}
+use Rattle.meaning.specs.Array.{Stop, Pipe, stopOf, pipeOf, pipesFrom, arrayOf, pipeNumber, noPipe, noStop, pipeAt, isStop, pipeThrough}
+use Rattle.meaning.specs.Array.{placeOn}
 use Rattle.meaning.specs.Body.{streamStart}
 use Rattle.meaning.specs.Points.{Inside}
 use Rattle.meaning.specs.Sorted.{Sorted, Sorted.none}
@@ -92,10 +94,12 @@ record LabelIs (n : Nest) (i e : ℕ) (ss : List Stream) (t : Label) : Type 0 wh
 labels-are : (n : Nest) (i e : ℕ) (ss : List Stream) {t : Label} → In t (labelsFrom n i e ss) → LabelIs n i e ss t
 unfolding labelsFrom total
 labels-are n i e [] j = elim j [ ]
-labels-are n i e (s ∷ ss) {t} j = go (List·Memᴰ·append-cases (map (label i e s) (entries n s)) j) (labels-are n (suc i) (e + length (elements n s)) ss)
+labels-are n i e (s ∷ ss) {t} j =
+    go (List·Memᴰ·append-cases (map (label i e s) (entries n s)) j) (labels-are n (suc i) (e + length (elements n s)) ss)
   where
     go : In t (map (label i e s) (entries n s)) ⊎ In t (labelsFrom n (suc i) (e + length (elements n s)) ss)
-        → (In t (labelsFrom n (suc i) (e + length (elements n s)) ss) → LabelIs n (suc i) (e + length (elements n s)) ss t) → LabelIs n i e (s ∷ ss) t
+        → (In t (labelsFrom n (suc i) (e + length (elements n s)) ss) → LabelIs n (suc i) (e + length (elements n s)) ss t)
+        → LabelIs n i e (s ∷ ss) t
     go (inl k) ih =
         let r = map-in (label i e s) (entries n s) k in
         record {
@@ -129,7 +133,8 @@ labels-in n i e (s ∷ ss) zero {y} h j =
     (Memᴰ·cast (ap₂ (λ (a b : ℕ). label a b s y) (add-zero i) (add-zero e)) (in-map (label i e s) j))
 labels-in n i e (s ∷ ss) (suc k) {y} h j =
     Memᴰ·append-right (map (label i e s) (entries n s))
-    (Memᴰ·cast (ap₂ (λ (a b : ℕ). label a b (getD ss k noStream) y) (one i k) (sym (add-assoc e (length (elements n s)) (streamStart n ss k))))
+    (Memᴰ·cast
+    (ap₂ (λ (a b : ℕ). label a b (getD ss k noStream) y) (one i k) (sym (add-assoc e (length (elements n s)) (streamStart n ss k))))
     (labels-in n (suc i) (e + length (elements n s)) ss k (omega arith) j))
   where
     one : (i k : ℕ) → i + suc k ≡ suc i + k
@@ -144,7 +149,8 @@ unfolding labelsFrom
 labels-apart n i e [] = none
 labels-apart n i e (s ∷ ss) =
     sorted-append
-    (sorted-by-map (label i e s) (λ y y' f p q. f q) (sorted-filter (λ y. isEntry n s y && isPipe n s y) (row-distinct (points-sorted (space n)))))
+    (sorted-by-map (label i e s) (λ y y' f p q. f q)
+    (sorted-filter (λ y. isEntry n s y && isPipe n s y) (row-distinct (points-sorted (space n)))))
     (labels-apart n (suc i) (e + length (elements n s)) ss)
     (λ t t' j j' p q.
     let r = map-in (label i e s) (entries n s) j in
@@ -216,7 +222,8 @@ module _ (d : Description) where
 
   -- and every entry of every stream has its pipe
   pub pipe-of : (k : ℕ) (y : V2) → k < length (streamsOf d) → In y (entries (d .nest) (streamAt d k))
-      → (q : ℕ) × (q < pipeNumber (arrayOf d)) × (pipeAt (arrayOf d) q ≡ pipeOf (d .nest) k (streamStart (d .nest) (streamsOf d) k) (streamAt d k) y)
+      → (q : ℕ) × (q < pipeNumber (arrayOf d))
+      × (pipeAt (arrayOf d) q ≡ pipeOf (d .nest) k (streamStart (d .nest) (streamsOf d) k) (streamAt d k) y)
   pipe-of k y h i =
       let r = found noLabel (labels-in (d .nest) 0 0 (streamsOf d) k h i) in (
         r .at,
@@ -279,7 +286,8 @@ module _ {d : Description} (laid : Laid d) where
     passing w = eqb (w .stream) k && any (isStop (rowIndex (space n) p)) (w .stops)
 
     stops-here : T (any (isStop (rowIndex (space n) p)) (map (stopOf n s) (pipe n s y)))
-    stops-here = yes-any (isStop (rowIndex (space n) p)) (in-map (stopOf n s) (getD-in (pipe n s y) i zero2 l)) (eqb-refl (rowIndex (space n) p))
+    stops-here =
+        yes-any (isStop (rowIndex (space n) p)) (in-map (stopOf n s) (getD-in (pipe n s y) i zero2 l)) (eqb-refl (rowIndex (space n) p))
 
     not-sooner : (j : ℕ) → j < q → T (passing (pipeAt (arrayOf d) j)) → ⊥
     not-sooner j c t =

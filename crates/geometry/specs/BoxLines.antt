@@ -1,5 +1,5 @@
--- The points of a box on a line: `lineIn` lists them, each once, in the order of the line. Assumes that the line's vector d is not zero and that
--- its point p is in the box.
+-- The points of a box on a line: `lineIn` lists them, each once, in the order of the line. Assumes that the line's vector d is not zero and
+-- that its point p is in the box.
 use mathlib.Core.Path.{_≡_, refl, sym, _∙_, ap, ap₂, subst}
 use mathlib.Core.Bool.{Bool, true, false, not, cond, _&&_, _||_}
 use mathlib.Core.List.{List·Memᴰ as In, List·Memᴰ·head as here, List·Memᴰ·tail as there}
@@ -20,7 +20,8 @@ use Rattle.meaning.specs.Space.{eq2, Box}
 use Rattle.meaning.specs.Pipes.{reach, march, lineIn, backward}
 use Rattle.meaning.specs.Points.{Inside, RowOrder as Row, RowOrder.by-a, RowOrder.by-b}
 use Rattle.meaning.specs.Sorted.{Sorted, Sorted.none, Sorted.more, Distinct}
-use Rattle.geometry.specs.Numbers.{eqZ-eq, eq-eqZ, eq2-eq, eq-eq2, not-zero, beyond, below, stay, zero-shift, shift-shift, shift-next, shift-neg, shift-undo, shift-turn, shift-one, neg-not, back-and-on, back-and-past, back-to-start}
+use Rattle.geometry.specs.Numbers.{eqZ-eq, eq-eqZ, eq2-eq, eq-eq2, not-zero, beyond, below, stay, zero-shift, shift-shift, shift-next}
+use Rattle.geometry.specs.Numbers.{shift-neg, shift-undo, shift-turn, shift-one, neg-not, back-and-on, back-and-past, back-to-start}
 use Rattle.geometry.specs.Places.{ahead}
 use Rattle.geometry.specs.Boxes.{row-distinct, row-distinct'}
 use Rattle.geometry.specs.Reach.{reach-in, reach-le, reach-shift}
@@ -37,7 +38,8 @@ unfolding march
 march-in p d zero h = elim h [ ]
 march-in p d (suc n) (here e) = record { at = 0; lt = omega arith; eq = e ∙ sym (zero-shift p d) }
 march-in p d (suc n) (there k) =
-    let r = march-in (shift2 p (pos 1) d) d n k in record { at = suc (r .at); lt = omega (arith, r .lt); eq = r .eq ∙ shift-next p d (r .at) }
+    let r = march-in (shift2 p (pos 1) d) d n k in
+    record { at = suc (r .at); lt = omega (arith, r .lt); eq = r .eq ∙ shift-next p d (r .at) }
 
 in-march : (p d : V2) (n i : ℕ) {q : V2} → i < n → q ≡ shift2 p (pos i) d → In q (march p d n)
 unfolding march
@@ -97,7 +99,8 @@ pub march-back : (d : V2) → Row d zero2 → (p : V2) (n : ℕ) → Sorted (λ 
 unfolding march
 march-back d r p zero = none
 march-back d r p (suc n) =
-    more (λ y k. let s = march-in (shift2 p (pos 1) d) d n k in subst (λ w. Row w p) (sym (s .eq ∙ shift-next p d (s .at))) (row-back p d (s .at) r))
+    more (λ y k. let s = march-in (shift2 p (pos 1) d) d n k in
+    subst (λ w. Row w p) (sym (s .eq ∙ shift-next p d (s .at))) (row-back p d (s .at) r))
     (march-back d r (shift2 p (pos 1) d) n)
 
 -- each point of it is so many steps before all behind it
@@ -105,7 +108,8 @@ pub march-sorted : (p d : V2) (n : ℕ) → Sorted (λ q q'. (k : ℕ) × (q' �
 unfolding march
 march-sorted p d zero = none
 march-sorted p d (suc n) =
-    more (λ y i. let s = march-in (shift2 p (pos 1) d) d n i in (s .at, s .eq ∙ shift-next p d (s .at))) (march-sorted (shift2 p (pos 1) d) d n)
+    more (λ y i. let s = march-in (shift2 p (pos 1) d) d n i in (s .at, s .eq ∙ shift-next p d (s .at)))
+    (march-sorted (shift2 p (pos 1) d) d n)
 
 pub line-distinct : (k : Box) (d : V2) → (d ≡ zero2 → ⊥) → (p : V2) → Distinct (lineIn k d p)
 unfolding lineIn

@@ -17,7 +17,8 @@ use Rattle.integers.specs.declared.Matrix.{Matrix}
 use Rattle.meaning.specs.declared.Nest.{Nest}
 use Rattle.meaning.specs.Loops.{loop, instances}
 use Rattle.meaning.specs.Space.{Box, inside, points, minZ, maxZ, widen, widenAll, around, boxOf}
-use Rattle.meaning.specs.Points.{Direction.onward, Between, Precedes, Directed, Within, Inside, RowOrder as Row, RowOrder.by-a, RowOrder.by-b}
+use Rattle.meaning.specs.Points.{Direction.onward, Between, Precedes, Directed, Within, Inside, RowOrder as Row, RowOrder.by-a}
+use Rattle.meaning.specs.Points.{RowOrder.by-b}
 use Rattle.meaning.specs.Sorted.{Sorted, Distinct}
 use Rattle.lists.specs.Members.{Mapped, map-in, in-each, each-in}
 use Rattle.geometry.specs.Sorting.{sorted-map, sorted-by-map, sorted-each}
@@ -125,7 +126,8 @@ module _ (k : Box) where
   pub points-sorted : Sorted Row (points k)
   unfolding points
   points-sorted =
-      sorted-each {R = Precedes (pos 1)} row (λ i. sorted-by-map (at i) (λ u v r. by-b refl (runs-lt u v r)) (progression-sorted onward _ _))
+      sorted-each {R = Precedes (pos 1)} row
+      (λ i. sorted-by-map (at i) (λ u v r. by-b refl (runs-lt u v r)) (progression-sorted onward _ _))
       (λ i j p q r u w.
       by-a (subst (λ (z : ℤ). z <ℤ q .a) (sym (row-a i p u)) (subst (λ (z : ℤ). i <ℤ z) (sym (row-a j q w)) (runs-lt i j r))))
       (progression-sorted onward _ _)
@@ -245,8 +247,8 @@ pub record Greatest (n : Nest) (f : V3 → ℤ) (v : ℤ) : Type 0 where
   pub is : v ≡ f by
   pub bound : (x : V3) → Within n x → f x ≤ℤ v
 
--- the report's equation (2), of place: the process space's corners are the least and greatest coordinates of the places of all instances. Here of any
--- matrix, where the nest has an instance
+-- the report's equation (2), of place: the process space's corners are the least and greatest coordinates of the places of all instances.
+-- Here of any matrix, where the nest has an instance
 pub record Basis (n : Nest) (m : Matrix) (k : Box) : Type 0 where
   pub loa : Least n (λ x. image m x .a) (k .lo .a)
   pub lob : Least n (λ x. image m x .b) (k .lo .b)

@@ -83,11 +83,12 @@ module _ {n : Nest} {s : Stream} (h : Accepted n s) (moves : T (not (stationary 
         theta = stepOf n (first n y) -ℤ pos (before n s y) *ℤ pos (hop n s) -ℤ pos (soak n s y) *ℤ stepOf n (increment n);
         step = λ y' hy' o t i.
             dot-shift (n .step) (first n y') (increment n) (pos i)
-            ∙ together (stepOf n (first n y)) (stepOf n (first n y')) (pos (before n s y)) (pos (before n s y')) (pos (soak n s y)) (pos (soak n s y'))
-            (o .by) (pos (hop n s)) (stepOf n (line n s)) (stepOf n (increment n)) (pos i) hop-is
+            ∙ together (stepOf n (first n y)) (stepOf n (first n y')) (pos (before n s y)) (pos (before n s y')) (pos (soak n s y))
+            (pos (soak n s y')) (o .by) (pos (hop n s)) (stepOf n (line n s)) (stepOf n (increment n)) (pos i) hop-is
             (first-steps a (computes (h .layout) y' t) o) (before-shift (in-space h a) hy' o);
       }
     where
       together : (f f' b b' q q' k c l g i : ℤ) → c ≡ l → f' ≡ f +ℤ k *ℤ l +ℤ (q' -ℤ q) *ℤ g → b' ≡ b +ℤ k
           → f' +ℤ i *ℤ g ≡ (f -ℤ b *ℤ c -ℤ q *ℤ g) +ℤ b' *ℤ c +ℤ (q' +ℤ i) *ℤ g
-      together = ring 0 11 _ λ ρ. simp quotes (λ d e k. solve-by _ _ (given (plain 1) e also given (minus (var 6)) d also given (minus (var 7)) k) tt)
+      together = ring 0 11 _ λ ρ.
+          simp quotes (λ d e k. solve-by _ _ (given (plain 1) e also given (minus (var 6)) d also given (minus (var 7)) k) tt)

@@ -2,7 +2,8 @@
 use mathlib.Core.Path.{_≡_, refl, sym, subst}
 use mathlib.Core.Logic.{_⊎_, inl, inr}
 use mathlib.Core.Bool.{Bool, true, false, not, cond, _&&_, _||_}
-use mathlib.Core.List.{List, [], _∷_, _++_, List·Memᴰ as In, List·Memᴰ·head as here, List·Memᴰ·tail as there, Memᴰ·append-left, Memᴰ·append-right}
+use mathlib.Core.List.{List, [], _∷_, _++_, List·Memᴰ as In, List·Memᴰ·head as here, List·Memᴰ·tail as there, Memᴰ·append-left}
+use mathlib.Core.List.{Memᴰ·append-right}
 use Prim.Native.Nat.{ℕ, zero, suc, _+_, _-_, _≤_, _<_}
 use native.Mathlib.Nat.{add-zero, zero-add}
 use native.Mathlib.Omega.{arith}
@@ -20,7 +21,8 @@ use Rattle.meaning.specs.declared.Description.{Description}
 use Rattle.meaning.specs.declared.Stream.{Stream}
 use Rattle.meaning.specs.Lists.{every, numbersFrom}
 use Rattle.meaning.specs.Streams.{line}
-use Rattle.meaning.specs.Description.{sizesOf, directionAt, stepAt, wordsOf, inRange, nestOf, noStream, descriptionOf, streamsOf, written, refused2, refused4, refused5}
+use Rattle.meaning.specs.Description.{sizesOf, directionAt, stepAt, wordsOf, inRange, nestOf, noStream, descriptionOf, streamsOf, written}
+use Rattle.meaning.specs.Description.{refused2, refused4, refused5}
 use Rattle.meaning.specs.Accept.{refused33, against, streamTests, testsFrom, nestTests, byteTests, refusalOf}
 use Rattle.meaning.specs.Tests.{Test, _if_, refusal}
 use Rattle.meaning.specs.Walk.{walkTests, walkRefusal}
@@ -64,7 +66,8 @@ every-append (t ∷ l) l' p q = go (numbered t) p (λ r. every-append l l' r q)
 streams-numbered : (l : Limits) (d : Description) (i : ℕ) (ss : List Stream) → T (every numbered (testsFrom l d i ss))
 unfolding testsFrom every
 streams-numbered l d i [] = tt
-streams-numbered l d i (s ∷ ss) = every-append (streamTests l (d .nest) (written d i) s) (testsFrom l d (suc i) ss) tt (streams-numbered l d (suc i) ss)
+streams-numbered l d i (s ∷ ss) =
+    every-append (streamTests l (d .nest) (written d i) s) (testsFrom l d (suc i) ss) tt (streams-numbered l d (suc i) ss)
 
 -- the tests of stream i + k are among those from i on
 in-tests : (l : Limits) (d : Description) (i : ℕ) (ss : List Stream) (k : ℕ) → k < length ss → {t : Test}
@@ -75,7 +78,8 @@ in-tests l d i (s ∷ ss) zero h {t} j =
     Memᴰ·append-left (testsFrom l d (suc i) ss) (subst (λ (k : ℕ). In t (streamTests l (d .nest) (written d k) s)) (add-zero i) j)
 in-tests l d i (s ∷ ss) (suc k) h {t} j =
     Memᴰ·append-right (streamTests l (d .nest) (written d i) s)
-    (in-tests l d (suc i) ss k (omega arith) (subst (λ (c : ℕ). In t (streamTests l (d .nest) (written d c) (getD ss k noStream))) (one i k) j))
+    (in-tests l d (suc i) ss k (omega arith)
+    (subst (λ (c : ℕ). In t (streamTests l (d .nest) (written d c) (getD ss k noStream))) (one i k) j))
   where
     one : (i k : ℕ) → i + suc k ≡ suc i + k
     one i k = omega arith
@@ -122,7 +126,8 @@ directed s z r2 r4 =
     record {
       outer = at (directionAt z) (omega arith) (omega (arith, loops .0));
       middle = at (directionAt z + 1) (omega arith) (omega (arith, loops .0));
-      inner = third (eqb (z .loops) 2) (λ t. eqb→eq (z .loops) 2 t) (λ t e. T-not (eqb (z .loops) 2) t (subst (λ (r : ℕ). T (eqb r 2)) (sym e) tt));
+      inner = third (eqb (z .loops) 2) (λ t. eqb→eq (z .loops) 2 t)
+          (λ t e. T-not (eqb (z .loops) 2) t (subst (λ (r : ℕ). T (eqb r 2)) (sym e) tt));
     }
   where
     loops : (2 ≤ z .loops) × (z .loops ≤ 3)
@@ -183,7 +188,8 @@ pub walk-layout : (l : Limits) (s : List ℕ) → walkRefusal l s ≡ 0 → Layo
 unfolding descriptionOf
 walk-layout l s e =
     layout-of (directed s (sizesOf s) (of (there (there (here refl)))) (of (there (there (there (there (here refl)))))))
-    (of (there (there (there (there (there (there (there (here refl))))))))) (of (there (there (there (there (there (there (there (there (here refl))))))))))
+    (of (there (there (there (there (there (there (there (here refl)))))))))
+    (of (there (there (there (there (there (there (there (there (here refl))))))))))
   where
     of : {t : Test} → In t (walkTests l s) → T (not (t .applies))
     of i = walk-tests l s e i
@@ -237,7 +243,8 @@ laid l s e =
         → In t (streamTests l n (written d i) (getD (streamsOf d) i noStream)) → T (not (t .applies))
     of-stream i k {t} j =
         unrefused all all-numbered e (Memᴰ·append-right before (Memᴰ·append-right (nestTests l n)
-        (in-tests l d 0 (streamsOf d) i k (subst (λ (c : ℕ). In t (streamTests l n (written d c) (getD (streamsOf d) i noStream))) (sym (zero-add i)) j))))
+        (in-tests l d 0 (streamsOf d) i k
+        (subst (λ (c : ℕ). In t (streamTests l n (written d c) (getD (streamsOf d) i noStream))) (sym (zero-add i)) j))))
 
     flat : Layout n
     flat = walk-layout l s (walk-passes l s e)

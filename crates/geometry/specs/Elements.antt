@@ -1,5 +1,5 @@
--- The pipes' elements are the stream's elements, each once: every element of the box is on one pipe at one index, and pipe order is a rearrangement
--- of element order. Assumes an accepted stream.
+-- The pipes' elements are the stream's elements, each once: every element of the box is on one pipe at one index, and pipe order is a
+-- rearrangement of element order. Assumes an accepted stream.
 use mathlib.Core.Path.{_≡_, refl, sym, _∙_, ap, subst}
 use mathlib.Core.Bool.{Bool, true, false, not, cond, _&&_}
 use mathlib.Core.List.{List, reverse, List·Memᴰ as In}
@@ -73,7 +73,10 @@ module _ {n : Nest} {s : Stream} (h : Accepted n s) where
 
   pub entry-is : {y : V2} → Inside (space n) y → Entry n s (entryOf n s y)
   entry-is {y} hy =
-      record { inside = i; zero = nil (before n s (entryOf n s y)) (before n s y) (back-shift (space n) (h .goes) (negℤ (pos (before n s y))) hy i refl) }
+      record {
+        inside = i;
+        zero = nil (before n s (entryOf n s y)) (before n s y) (back-shift (space n) (h .goes) (negℤ (pos (before n s y))) hy i refl);
+      }
     where
       i : Inside (space n) (entryOf n s y)
       i = back-in (space n) (h .goes) hy (before n s y) (omega arith)
@@ -87,11 +90,13 @@ module _ {n : Nest} {s : Stream} (h : Accepted n s) where
 
   -- no process stands before one whose predecessor lies outside the process space
   pub entry-before : {y : V2} → Inside (space n) y → isEntry n s y ≡ eqb (before n s y) 0
-  entry-before {y} hy = go (inside (space n) (shift2 y (negsuc 0) (move n s))) (before n s y) (inside-yes (space n) _) (inside-in (space n) _)
+  entry-before {y} hy =
+      go (inside (space n) (shift2 y (negsuc 0) (move n s))) (before n s y) (inside-yes (space n) _) (inside-in (space n) _)
       (λ i. reach-le (space n) (neg-not (h .goes)) hy 1 (subst (Inside (space n)) (sym (shift-neg y (move n s) (pos 1))) i))
       (λ l. subst (Inside (space n)) (shift-neg y (move n s) (pos 1)) (reach-in (space n) (neg-not (h .goes)) hy 1 l))
     where
-      go : (b : Bool) (k : ℕ) → (T b → Inside (space n) (shift2 y (negsuc 0) (move n s))) → (Inside (space n) (shift2 y (negsuc 0) (move n s)) → T b)
+      go : (b : Bool) (k : ℕ) → (T b → Inside (space n) (shift2 y (negsuc 0) (move n s)))
+          → (Inside (space n) (shift2 y (negsuc 0) (move n s)) → T b)
           → (Inside (space n) (shift2 y (negsuc 0) (move n s)) → 1 ≤ k) → (1 ≤ k → Inside (space n) (shift2 y (negsuc 0) (move n s)))
           → not b ≡ eqb k 0
       go true zero i j f g = absurd (omega (arith, f (i tt)))
@@ -106,7 +111,8 @@ module _ {n : Nest} {s : Stream} (h : Accepted n s) where
   pub one-entry : {y y' : V2} → Entry n s y → Entry n s y' → OnePipe n s y y' → y ≡ y'
   one-entry {y} {y'} a a' o =
       sym (o .eq ∙ ap (λ (w : ℤ). shift2 y w (move n s))
-      (nil (o .by) (before n s y') (before n s y) (a' .zero) (a .zero) (back-shift (space n) (h .goes) (o .by) (a .inside) (a' .inside) (o .eq)))
+      (nil (o .by) (before n s y') (before n s y) (a' .zero) (a .zero)
+      (back-shift (space n) (h .goes) (o .by) (a .inside) (a' .inside) (o .eq)))
       ∙ zero-shift y (move n s))
     where
       none : (j : ℤ) → pos 0 ≡ pos 0 +ℤ j → j ≡ pos 0
@@ -121,7 +127,8 @@ module _ {n : Nest} {s : Stream} (h : Accepted n s) where
       let k = filter-in (λ y. isEntry n s y && isPipe n s y) (processes n) i in
       record {
         inside = points-inside (space n) y (k .mem);
-        zero = eqb→eq (before n s y) 0 (subst T (entry-before (points-inside (space n) y (k .mem))) (and-left (isEntry n s y) (isPipe n s y) (k .ok)));
+        zero = eqb→eq (before n s y) 0
+            (subst T (entry-before (points-inside (space n) y (k .mem))) (and-left (isEntry n s y) (isPipe n s y) (k .ok)));
       }
 
   -- a line on which a process computes is a pipe, with this entry
@@ -144,7 +151,8 @@ module _ {n : Nest} {s : Stream} (h : Accepted n s) where
       row : Sorted Row (usedOn n s y)
       row = sorted-filter (λ e. any (λ p. uses n s p e) (pipe n s y)) (points-sorted (boxOf n (s .map)))
 
-      go : (b : Bool) → (T b → T (stationary n s)) → (c : Bool) → Distinct (cond b (held n s y) (cond c (reverse (usedOn n s y)) (usedOn n s y)))
+      go : (b : Bool) → (T b → T (stationary n s)) → (c : Bool)
+          → Distinct (cond b (held n s y) (cond c (reverse (usedOn n s y)) (usedOn n s y)))
       go true t c =
           distinct-map (λ p. image (s .map) (first n p)) (sorted-filter (computing n) (line-distinct (space n) (move n s) (h .goes) y))
           (λ p q i j e. held-one h (t tt) p q (filter-in (computing n) (pipe n s y) i .ok) (filter-in (computing n) (pipe n s y) j .ok) e)

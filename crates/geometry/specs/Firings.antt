@@ -1,5 +1,5 @@
--- The instances of a process in step order, as it fires them: first, first + increment, .., last, with no gap. Assumes directions of 1 or −1 and an
--- increment of positive step, which `Layout` says.
+-- The instances of a process in step order, as it fires them: first, first + increment, .., last, with no gap. Assumes directions of 1 or
+-- −1 and an increment of positive step, which `Layout` says.
 use mathlib.Core.Path.{_≡_, refl, sym, _∙_, ap, subst, subst₂}
 use mathlib.Core.Bool.{Bool, true, false, not, cond}
 use mathlib.Core.List.{List, [], _∷_, map, List·Memᴰ as In, List·Memᴰ·head as here, List·Memᴰ·tail as there, Memᴰ·cast, Memᴰ·map as in-map}
@@ -95,7 +95,8 @@ insert-sorted : (n : Nest) (x : V3) {l : List V3} → Sorted (Sooner n) l → ((
 unfolding insertByStep
 insert-sorted n x none f = more {x = x} {l = []} (λ y k. elim k [ ]) none
 insert-sorted n x (more {x = y} {l} h s) f =
-    go (ltZ (stepOf n y) (stepOf n x)) (λ t. record { lt = t }) (sooner-or n x y (f y (here refl))) (insert-sorted n x s (λ z k. f z (there k)))
+    go (ltZ (stepOf n y) (stepOf n x)) (λ t. record { lt = t }) (sooner-or n x y (f y (here refl)))
+    (insert-sorted n x s (λ z k. f z (there k)))
   where
     first-of : Sooner n y x → (z : V3) → In z (x ∷ l) → Sooner n y z
     first-of r z (here e) = subst (Sooner n y) (sym e) r
@@ -135,7 +136,8 @@ module _ {n : Nest} (layout : Layout n) where
 
   pub sooner-later : (y : V2) (i j : ℕ) → i < j → Sooner n (runAt n y i) (runAt n y j)
   sooner-later y i j h =
-      subst₂ _<ℤ_ (sym (dot-shift (n .step) (first n y) (increment n) (pos i))) (sym (dot-shift (n .step) (first n y) (increment n) (pos j)))
+      subst₂ _<ℤ_ (sym (dot-shift (n .step) (first n y) (increment n) (pos i)))
+      (sym (dot-shift (n .step) (first n y) (increment n) (pos j)))
       (on-less (pos i) (pos j) (stepOf n (increment n)) (stepOf n (first n y)) (layout .inc .ahead) (lt-in (omega arith)))
 
   -- in step order they are the firings 0, 1, .., count − 1
@@ -149,7 +151,8 @@ module _ {n : Nest} (layout : Layout n) where
       (λ x i.
       let r = map-in (runAt n y) (numbers (count n y)) i in
       Memᴰ·cast (r .is)
-      (in-by-step n (instancesAt n y) (at-in (layout .dirs) (instance-at layout y (r .from) (omega (arith, numbers-in 0 (count n y) (r .mem) .1))))))
+      (in-by-step n (instancesAt n y)
+      (at-in (layout .dirs) (instance-at layout y (r .from) (omega (arith, numbers-in 0 (count n y) (r .mem) .1))))))
 
   pub runs-length : (y : V2) → length (runs n y) ≡ count n y
   runs-length y = ap length (runs-are y) ∙ length-map (numbers (count n y)) (runAt n y) ∙ numbers-length 0 (count n y)

@@ -12,7 +12,8 @@ use Rattle.integers.specs.declared.V3.{V3}
 use Rattle.meaning.specs.declared.Nest.{Nest}
 use Rattle.meaning.specs.Lists.{each}
 use Rattle.meaning.specs.Loops.{progression, size, loop, instances}
-use Rattle.meaning.specs.Points.{Direction, Direction.onward, Direction.back, Between, Precedes, Directed, Within, Earlier, Earlier.by-outer, Earlier.by-middle, Earlier.by-inner}
+use Rattle.meaning.specs.Points.{Direction, Direction.onward, Direction.back, Between, Precedes, Directed, Within, Earlier}
+use Rattle.meaning.specs.Points.{Earlier.by-outer, Earlier.by-middle, Earlier.by-inner}
 use Rattle.meaning.specs.Sorted.{Sorted, Sorted.none, Sorted.more, Distinct}
 use Rattle.lists.specs.Members.{map-in, in-each, each-in, each-length}
 use Rattle.lists.specs.Sums.{total-same}
@@ -57,11 +58,13 @@ progression-at a d (suc n) (suc i) z h = progression-at (a +ℤ d) d n i z (omeg
 
 -- its values are the whole numbers in the bounds
 pub loop-in : (l r : ℤ) {d x : ℤ} → Direction d → In x (loop l r d) → Between l r x
-loop-in l r {x} onward h = let k = progression-in l (pos 1) (size l r) h in let b = go (k .at) l r x (k .lt) (k .eq) in record { lo = b .0; hi = b .1 }
+loop-in l r {x} onward h = let k = progression-in l (pos 1) (size l r) h in
+    let b = go (k .at) l r x (k .lt) (k .eq) in record { lo = b .0; hi = b .1 }
   where
     go : (i : ℕ) (l r x : ℤ) → i < size l r → x ≡ l +ℤ pos i *ℤ pos 1 → (l ≤ℤ x) × (x ≤ℤ r)
     go i = linear 0 3 _ λ p m. simp (gaps, parts) (λ h e. (omega arith, omega arith))
-loop-in l r {x} back h = let k = progression-in r (negsuc 0) (size l r) h in let b = go (k .at) l r x (k .lt) (k .eq) in record { lo = b .0; hi = b .1 }
+loop-in l r {x} back h = let k = progression-in r (negsuc 0) (size l r) h in
+    let b = go (k .at) l r x (k .lt) (k .eq) in record { lo = b .0; hi = b .1 }
   where
     go : (i : ℕ) (l r x : ℤ) → i < size l r → x ≡ r +ℤ pos i *ℤ negsuc 0 → (l ≤ℤ x) × (x ≤ℤ r)
     go i = linear 0 3 _ λ p m. simp (gaps, parts) (λ h e. (omega arith, omega arith))
@@ -79,7 +82,8 @@ in-loop l r {x} back h = in-progression r (negsuc 0) (size l r) (up (r -ℤ x)) 
 pub progression-sorted : {d : ℤ} → Direction d → (a : ℤ) (n : ℕ) → Sorted (Precedes d) (progression a d n)
 unfolding progression
 progression-sorted p a zero = none
-progression-sorted {d} p a (suc n) = more (λ y k. let r = progression-in (a +ℤ d) d n k in go p a y (r .at) (r .eq)) (progression-sorted p (a +ℤ d) n)
+progression-sorted {d} p a (suc n) =
+    more (λ y k. let r = progression-in (a +ℤ d) d n k in go p a y (r .at) (r .eq)) (progression-sorted p (a +ℤ d) n)
   where
     f : (i : ℕ) (a y : ℤ) → y ≡ (a +ℤ pos 1) +ℤ pos i *ℤ pos 1 → (pos 1 *ℤ a) <ℤ (pos 1 *ℤ y)
     f i = linear 0 2 _ λ p m. simp gaps (omega arith)
@@ -163,8 +167,8 @@ pub instances-length : (n : Nest) → length (instances n)
     ≡ (size (n .left .x) (n .right .x) * size (n .left .y) (n .right .y)) * size (n .left .z) (n .right .z)
 unfolding instances
 instances-length n =
-    each-length (λ i. plane i) lx ∙ total-same (λ i. length (plane i)) (b * c) plane-length lx ∙ ap (λ (k : ℕ). k * (b * c)) (progression-length _ _ a)
-    ∙ regroup a b c
+    each-length (λ i. plane i) lx ∙ total-same (λ i. length (plane i)) (b * c) plane-length lx
+    ∙ ap (λ (k : ℕ). k * (b * c)) (progression-length _ _ a) ∙ regroup a b c
   where
     a : ℕ
     a = size (n .left .x) (n .right .x)

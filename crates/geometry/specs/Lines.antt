@@ -1,5 +1,6 @@
--- Lines: the shortest vector that a matrix sends to zero, turned so that its step is positive. A matrix has one line, and what it sends to one
--- point lies along it. Of two matrices either each sends the other's line to zero, and then they have one line, or neither does. Assumes nothing.
+-- Lines: the shortest vector that a matrix sends to zero, turned so that its step is positive. A matrix has one line, and what it sends to
+-- one point lies along it. Of two matrices either each sends the other's line to zero, and then they have one line, or neither does.
+-- Assumes nothing.
 use mathlib.Core.Path.{_≡_, sym, _∙_, ap, subst₂}
 use mathlib.Core.Bool.{Bool, true, false, not, cond}
 use Prim.Native.Nat.{ℕ, zero, suc, _≤_}
@@ -11,7 +12,8 @@ use Rattle.integers.specs.Differences.{gaps, le-out, lt-out, eq-out}
 use Rattle.integers.specs.Variables.{linear}
 use Rattle.integers.specs.Ring.{ring, quotes, literal, solve, solve3, solve-by, given, _also_, Ex.var, Ex.minus, Ex.plain}
 use Rattle.integers.specs.Order.{mul-reflects, cancel, cancel-zero}
-use Rattle.integers.specs.Vectors.{zero3, sub3, neg3, scale3, shift3, dot, zero2, shift2, image, same2, dot-shift, dot-sub, dot-neg, dot-scale, image-shift, sub-add}
+use Rattle.integers.specs.Vectors.{zero3, sub3, neg3, scale3, shift3, dot, zero2, shift2, image, same2, dot-shift, dot-sub, dot-neg}
+use Rattle.integers.specs.Vectors.{dot-scale, image-shift, sub-add}
 use Rattle.lattice.specs.Shorten.{shortens}
 use Rattle.lattice.specs.Lattice.{Null, Shortest, Independent, shortest, shortest-neg, no-shorter, NoLonger}
 use Rattle.integers.specs.declared.V3.{V3}
@@ -98,7 +100,8 @@ module _ {n : Nest} {m : Matrix} {u : V3} (line : Line n m u) where
   -- and what is sent to one point lies along the line
   pub on-line : (f x : V3) → image m f ≡ image m x → Off u f x
   on-line f x e =
-      let r = line .short .all (sub3 x f) (record { top = none (m .top) (ap (λ (w : V2). w .a) e); low = none (m .low) (ap (λ (w : V2). w .b) e) }) in
+      let r = line .short .all (sub3 x f)
+      (record { top = none (m .top) (ap (λ (w : V2). w .a) e); low = none (m .low) (ap (λ (w : V2). w .b) e) }) in
       record { by = r .by; eq = sub-add x f (scale3 (r .by) u) (r .eq) }
     where
       none : (p : V3) → dot p f ≡ dot p x → dot p (sub3 x f) ≡ pos 0
@@ -174,7 +177,8 @@ module _ {n : Nest} {m m' : Matrix} {u u' : V3} (line : Line n m u) (line' : Lin
     where
       go : (t : ℤ) → u ≡ scale3 t u' → ⊥
       go t e =
-          let z : pos 0 <ℤ t = factor (stepOf n u) (stepOf n u') t (line .ahead) (line' .ahead) (ap (stepOf n) e ∙ dot-scale (n .step) u' t) in
+          let z : pos 0 <ℤ t = factor (stepOf n u) (stepOf n u') t (line .ahead) (line' .ahead)
+          (ap (stepOf n) e ∙ dot-scale (n .step) u' t) in
           f (same2 (row z (m .top) (line .short .null .top)) (row z (m .low) (line .short .null .low)))
         where
           row : pos 0 <ℤ t → (p : V3) → dot p u ≡ pos 0 → dot p u' ≡ pos 0

@@ -1,5 +1,5 @@
--- Moving pipes: their elements are the points of the stream's box on one line, and the elements of a process's instances follow each other on it.
--- Assumes an accepted stream that moves.
+-- Moving pipes: their elements are the points of the stream's box on one line, and the elements of a process's instances follow each other
+-- on it. Assumes an accepted stream that moves.
 use mathlib.Core.Path.{_≡_, sym, _∙_, ap, ap₂}
 use mathlib.Core.Bool.{Bool, true, false, not, cond}
 use mathlib.Core.List.{reverse, List·Memᴰ as In}
@@ -29,7 +29,8 @@ use Rattle.geometry.specs.Boxes.{row-irr, row-asym, points-sorted, box-h
 use Rattle.geometry.specs.Segments.{at-box, first-at}
 use Rattle.geometry.specs.Processes.{RunAt, runAt}
 use Rattle.geometry.specs.Reach.{back-shift}
-use Rattle.geometry.specs.BoxLines.{Way, Way.on, Way.back, way, march-on, march-back, OnLine, line-length, line-on, on-line-in, ahead-line}
+use Rattle.geometry.specs.BoxLines.{Way, Way.on, Way.back, way, march-on, march-back, OnLine, line-length, line-on, on-line-in}
+use Rattle.geometry.specs.BoxLines.{ahead-line}
 use Rattle.geometry.specs.Pipes.{Accepted, On, moving-move, moving-elements, passes, in-space, used-in, in-used}
 
 module _ {n : Nest} {s : Stream} (h : Accepted n s) (moves : T (not (stationary n s))) where
@@ -56,7 +57,8 @@ module _ {n : Nest} {s : Stream} (h : Accepted n s) (moves : T (not (stationary 
   used-line {x} a o =
       let k = o .place .by in
       let c =
-      coordinates (h .layout .inc) (h .lin) x (o .by) k (o .place .eq ∙ ap₂ (λ (p d : V2). shift2 p k d) (sym (a .to)) (moving-move h moves)) in
+      coordinates (h .layout .inc) (h .lin) x (o .by) k
+      (o .place .eq ∙ ap₂ (λ (p d : V2). shift2 p k d) (sym (a .to)) (moving-move h moves)) in
       record {
         inside = at-box (h .layout .dirs) (o .at);
         by = c .by;
@@ -90,7 +92,8 @@ module _ {n : Nest} {s : Stream} (h : Accepted n s) (moves : T (not (stationary 
   -- where the element of an instance stands, and how many there are
   pub index-is : {y : V2} {x : V3} → RunAt n y x
       → ahead (image (s .map) x) (pipeElements n s y) ≡ reach (boxOf n (s .map)) (neg2 (pass n s)) (image (s .map) x)
-  index-is {x} a = ap (ahead (image (s .map) x)) (pipe-line a) ∙ ahead-line (boxOf n (s .map)) (pass n s) (passes h moves) (image (s .map) x)
+  index-is {x} a =
+      ap (ahead (image (s .map) x)) (pipe-line a) ∙ ahead-line (boxOf n (s .map)) (pass n s) (passes h moves) (image (s .map) x)
 
   pub length-is : {y : V2} {x : V3} → RunAt n y x
       → length (pipeElements n s y)

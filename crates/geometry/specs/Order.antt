@@ -1,5 +1,5 @@
--- Along the line of a written stream the written order and the order of steps are one. Assumes directions of 1 or −1, and that the line leads on in
--- the written order, which refusal 15 leaves.
+-- Along the line of a written stream the written order and the order of steps are one. Assumes directions of 1 or −1, and that the line
+-- leads on in the written order, which refusal 15 leaves.
 use mathlib.Core.Path.{_≡_, sym, _∙_, ap, subst}
 use mathlib.Core.Logic.{_⊎_, inl, inr}
 use mathlib.Core.Bool.{not}
@@ -44,7 +44,8 @@ pub on-later : (d u x : V3) (t : ℕ) → Earlier d zero3 u → Earlier d x (shi
 on-later d u x t (by-outer r) = by-outer (runs-on (d .x) (u .x) (x .x) t r)
 on-later d u x t (by-middle e r) = by-middle (sym (stay (pos (suc t)) (u .x) (x .x) (sym e))) (runs-on (d .y) (u .y) (x .y) t r)
 on-later d u x t (by-inner e f r) =
-    by-inner (sym (stay (pos (suc t)) (u .x) (x .x) (sym e))) (sym (stay (pos (suc t)) (u .y) (x .y) (sym f))) (runs-on (d .z) (u .z) (x .z) t r)
+    by-inner (sym (stay (pos (suc t)) (u .x) (x .x) (sym e))) (sym (stay (pos (suc t)) (u .y) (x .y) (sym f)))
+    (runs-on (d .z) (u .z) (x .z) t r)
 
 -- G9: of two instances that touch one element, the one of smaller step is the earlier in the written order, and the other way round
 module _ {n : Nest} {m : Matrix} {u : V3} (lin : Line n m u) (leads : Earlier (n .direction) zero3 u) where
@@ -60,15 +61,16 @@ module _ {n : Nest} {m : Matrix} {u : V3} (lin : Line n m u) (leads : Earlier (n
     where
       not-ahead : (i : ℕ) → x ≡ shift3 x' (pos i) u → ⊥
       not-ahead zero e = earlier-irr (n .direction) x (subst (Earlier (n .direction) x) (sym (e ∙ zero-shift3 x' u)) k)
-      not-ahead (suc t) e = earlier-asym (n .direction) x x' k (subst (Earlier (n .direction) x') (sym e) (on-later (n .direction) u x' t leads))
+      not-ahead (suc t) e =
+          earlier-asym (n .direction) x x' k (subst (Earlier (n .direction) x') (sym e) (on-later (n .direction) u x' t leads))
 
       go : T (ltZ (stepOf n x) (stepOf n x')) ⊎ T (not (ltZ (stepOf n x) (stepOf n x'))) → stepOf n x <ℤ stepOf n x'
       go (inl t) = record { lt = t }
       go (inr t) = let r = ahead-of lin x' x (sym e) (ltZ-no t) in absurd (not-ahead (r .at) (r .eq))
 
 -- G9 on the network: of two instances that touch one element of a written stream, the earlier in the written order
-module _ {n : Nest} {s : Stream} (h : Accepted n s) (leads : Earlier (n .direction) zero3 (line n s)) {x x' : V3} (w : Within n x) (w' : Within n x')
-    (one : image (s .map) x ≡ image (s .map) x') (earlier : Earlier (n .direction) x x') where
+module _ {n : Nest} {s : Stream} (h : Accepted n s) (leads : Earlier (n .direction) zero3 (line n s)) {x x' : V3} (w : Within n x)
+    (w' : Within n x') (one : image (s .map) x ≡ image (s .map) x') (earlier : Earlier (n .direction) x x') where
   -- is some lines behind the other
   behind : (t : ℕ) × (x' ≡ shift3 x (pos (suc t)) (line n s))
   behind = go (r .at) (r .eq)
@@ -87,8 +89,8 @@ module _ {n : Nest} {s : Stream} (h : Accepted n s) (leads : Earlier (n .directi
   pub written-moving : T (not (stationary n s)) → before n s (placeOf n x) < before n s (placeOf n x')
   written-moving moves =
       natural (before n s (placeOf n x)) (before n s (placeOf n x')) (behind .0)
-      (back-shift (space n) (h .goes) (pos (suc (behind .0))) (box-has (h .layout .dirs) (n .place) w) (box-has (h .layout .dirs) (n .place) w')
-      (ap (placeOf n) (behind .1) ∙ image-shift (n .place) x (line n s) (pos (suc (behind .0)))
+      (back-shift (space n) (h .goes) (pos (suc (behind .0))) (box-has (h .layout .dirs) (n .place) w)
+      (box-has (h .layout .dirs) (n .place) w') (ap (placeOf n) (behind .1) ∙ image-shift (n .place) x (line n s) (pos (suc (behind .0)))
       ∙ ap (shift2 (placeOf n x) (pos (suc (behind .0)))) (sym (moving-move h moves))))
     where
       natural : (p q t : ℕ) → pos q ≡ pos p +ℤ pos (suc t) → p < q

@@ -1,5 +1,6 @@
--- Every pass of the loops is run by one processor, once, and no processor runs anything else: by rows that say of each process its point, count, first and
--- last, and by what Fire runs. Assumes directions of 1 or −1 and an increment of positive step, which `Layout` says and every accepted description has.
+-- Every pass of the loops is run by one processor, once, and no processor runs anything else: by rows that say of each process its point,
+-- count, first and last, and by what Fire runs. Assumes directions of 1 or −1 and an increment of positive step, which `Layout` says and
+-- every accepted description has.
 use mathlib.Core.Path.{_≡_, refl, sym, _∙_, ap, subst, subst₂}
 use mathlib.Core.Bool.{true}
 use mathlib.Core.List.{List, []}
@@ -42,7 +43,8 @@ module _ (d : Description) (layout : Layout (d .nest)) where
 
   -- firing f of process p
   pub instance-is : (p f : ℕ) → p < processCount (arrayOf d) → f < countAt (arrayOf d) p
-      → (f < count (d .nest) (getD (processes (d .nest)) p zero2)) × (instanceAt (arrayOf d) p f ≡ runAt (d .nest) (getD (processes (d .nest)) p zero2) f)
+      → (f < count (d .nest) (getD (processes (d .nest)) p zero2))
+      × (instanceAt (arrayOf d) p f ≡ runAt (d .nest) (getD (processes (d .nest)) p zero2) f)
   instance-is p f h k =
       let y = getD (processes (d .nest)) p zero2 in
       let e = at-number p (omega (arith, process-count)) in

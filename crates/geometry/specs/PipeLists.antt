@@ -1,5 +1,5 @@
--- A pipe's elements as demand 2 speaks of them: those that its processes use, in order; its two ends; the three parts of its list that a process passes
--- before its own, uses, and passes after them. Assumes an accepted stream.
+-- A pipe's elements as demand 2 speaks of them: those that its processes use, in order; its two ends; the three parts of its list that a
+-- process passes before its own, uses, and passes after them. Assumes an accepted stream.
 use mathlib.Core.Path.{_≡_, refl, sym, _∙_, ap, subst, subst₂}
 use mathlib.Core.Logic.{_⊎_, inl, inr}
 use mathlib.Core.Bool.{not}
@@ -91,20 +91,23 @@ module _ {n : Nest} {s : Stream} (h : Accepted n s) {y : V2} (hy : Inside (space
   on-used : (e : V2) → (k : ℤ) × (y' : V2) × Ahead n s k y y' × Uses n s y' e → In e es
   on-used e u =
       let x = u .3 in
-      on-in h hy (record { by = x .0; at = record { within = x .1 .within; to = x .2 }; place = record { by = u .0; eq = x .1 .to ∙ u .2 } })
+      on-in h hy
+      (record { by = x .0; at = record { within = x .1 .within; to = x .2 }; place = record { by = u .0; eq = x .1 .to ∙ u .2 } })
 
   -- how far along those of a moving pipe lie
   along-at : T (not (stationary n s)) → (i : ℕ) → i < length es
       → along (pass n s) (getD es i zero2) ≡ along (pass n s) (firstElement n s y) +ℤ pos i *ℤ along (pass n s) (pass n s)
   along-at t i l = ap (along (pass n s)) (element-from h t hy i l) ∙ along-shift (pass n s) (firstElement n s y) (pos i)
 
-  along-less : T (not (stationary n s)) → (i j : ℕ) → i < j → j < length es → along (pass n s) (getD es i zero2) <ℤ along (pass n s) (getD es j zero2)
+  along-less : T (not (stationary n s)) → (i j : ℕ) → i < j → j < length es
+      → along (pass n s) (getD es i zero2) <ℤ along (pass n s) (getD es j zero2)
   along-less t i j l k =
       subst₂ _<ℤ_ (sym (along-at t i (omega arith))) (sym (along-at t j k))
-      (on-less (pos i) (pos j) (along (pass n s) (pass n s)) (along (pass n s) (firstElement n s y)) (along-positive (pass n s) (passes h t))
-      (lt-in (omega arith)))
+      (on-less (pos i) (pos j) (along (pass n s) (pass n s)) (along (pass n s) (firstElement n s y))
+      (along-positive (pass n s) (passes h t)) (lt-in (omega arith)))
 
-  along-le : T (not (stationary n s)) → (i j : ℕ) → i ≤ j → j < length es → along (pass n s) (getD es i zero2) ≤ℤ along (pass n s) (getD es j zero2)
+  along-le : T (not (stationary n s)) → (i j : ℕ) → i ≤ j → j < length es
+      → along (pass n s) (getD es i zero2) ≤ℤ along (pass n s) (getD es j zero2)
   along-le t i j l k = go (eq-or-lt-of-le l)
     where
       go : (i ≡ j) ⊎ (i < j) → along (pass n s) (getD es i zero2) ≤ℤ along (pass n s) (getD es j zero2)
@@ -115,11 +118,13 @@ module _ {n : Nest} {s : Stream} (h : Accepted n s) {y : V2} (hy : Inside (space
   still-sorted : T (stationary n s)
       → Sorted (λ e e'. (k : ℕ) × (p : V2) × (p' : V2) × Uses n s p e × Uses n s p' e' × Ahead n s (pos (suc k)) p p') es
   still-sorted t =
-      subst (λ (l : List V2). Sorted (λ e e'. (k : ℕ) × (p : V2) × (p' : V2) × Uses n s p e × Uses n s p' e' × Ahead n s (pos (suc k)) p p') l)
+      subst (λ (l : List V2).
+      Sorted (λ e e'. (k : ℕ) × (p : V2) × (p' : V2) × Uses n s p e × Uses n s p' e' × Ahead n s (pos (suc k)) p p') l)
       (sym (still-elements h t y))
       (sorted-by-map {R = λ p p'. T (computing n p) × T (computing n p') × ((k : ℕ) × (p' ≡ shift2 p (pos (suc k)) (move n s)))}
       (λ p. image (s .map) (first n p)) (λ p p' r. (r .2 .0, p, p', holds p (r .0), holds p' (r .1), r .2 .1))
-      (sorted-with (λ p. T (computing n p)) (λ p i. filter-in (computing n) (pipe n s y) i .ok) (sorted-filter (computing n) (pipe-sorted h y))))
+      (sorted-with (λ p. T (computing n p)) (λ p i. filter-in (computing n) (pipe n s y) i .ok)
+      (sorted-filter (computing n) (pipe-sorted h y))))
     where
       holds : (p : V2) → T (computing n p) → Uses n s p (image (s .map) (first n p))
       holds p c = (first n p, computes (h .layout) p c, refl)
@@ -139,7 +144,8 @@ module _ {n : Nest} {s : Stream} (h : Accepted n s) {y : V2} (hy : Inside (space
       record {
         first-in = getD-in es 0 zero2 c;
         first-least = λ e i. let r = found zero2 i in
-            subst (λ (w : V2). along (pass n s) (firstElement n s y) ≤ℤ along (pass n s) w) (r .is) (along-le t 0 (r .at) (omega arith) (r .lt));
+            subst (λ (w : V2). along (pass n s) (firstElement n s y) ≤ℤ along (pass n s) w) (r .is)
+            (along-le t 0 (r .at) (omega arith) (r .lt));
         last-in = getD-in es (length es - 1) zero2 (omega arith);
         last-greatest = λ e i. let r = found zero2 i in
             subst (λ (w : V2). along (pass n s) w ≤ℤ along (pass n s) (lastElement n s y)) (r .is)
@@ -151,7 +157,8 @@ module _ {n : Nest} {s : Stream} (h : Accepted n s) {y : V2} (hy : Inside (space
               element-from h t hy (length es - 1) (omega arith)
                   ∙ ap (λ (k : ℕ). shift2 (firstElement n s y) (pos k) (pass n s)) (sum (length es) (r .at) (r .lt))
                   ∙ sym (shift-shift (firstElement n s y) (pass n s) (pos (r .at)) (pos (length es - suc (r .at))))
-                  ∙ ap (λ (w : V2). shift2 w (pos (length es - suc (r .at))) (pass n s)) (sym (element-from h t hy (r .at) (r .lt)) ∙ r .is),
+                  ∙ ap (λ (w : V2). shift2 w (pos (length es - suc (r .at))) (pass n s))
+                  (sym (element-from h t hy (r .at) (r .lt)) ∙ r .is),
             );
       }
     where
@@ -186,7 +193,8 @@ module _ {n : Nest} {s : Stream} (h : Accepted n s) {y : V2} {x : V3} (a : RunAt
             uses = λ i l. (
               first n y,
               f,
-              sym (ap (λ (k : ℕ). getD all k zero2) (one (soak n s y) i l ∙ soak-first h a) ∙ getD-ahead (image (s .map) (first n y)) zero2 (touched-in h f)),
+              sym (ap (λ (k : ℕ). getD all k zero2) (one (soak n s y) i l ∙ soak-first h a)
+                  ∙ getD-ahead (image (s .map) (first n y)) zero2 (touched-in h f)),
             );
           }
         where
@@ -232,7 +240,8 @@ module _ {n : Nest} {s : Stream} (h : Accepted n s) {y : V2} {x : V3} (a : RunAt
         uses = λ e i.
             let r = found zero2 i in
             let l : r .at < c = omega (arith, r .lt, length-take-le c (drop k all) (omega arith)) in
-            subst (Uses n s y) (sym (getD-take c (drop k all) (r .at) zero2 l ∙ getD-drop k all (r .at) zero2) ∙ r .is) (used .uses (r .at) l);
+            subst (Uses n s y) (sym (getD-take c (drop k all) (r .at) zero2 l ∙ getD-drop k all (r .at) zero2) ∙ r .is)
+            (used .uses (r .at) l);
         not-before = λ e i u.
             let r = found zero2 i in
             let l : r .at < k = omega (arith, r .lt, length-take-le k all (omega (arith, used .total))) in
@@ -240,6 +249,7 @@ module _ {n : Nest} {s : Stream} (h : Accepted n s) {y : V2} {x : V3} (a : RunAt
             omega (arith, z .0);
         not-after = λ e i u.
             let r = found zero2 i in
-            let z = used-index (k + c + r .at) (omega (arith, r .lt, length-drop (k + c) all)) (sym (getD-drop (k + c) all (r .at) zero2) ∙ r .is) u in
+            let z = used-index (k + c + r .at) (omega (arith, r .lt, length-drop (k + c) all))
+            (sym (getD-drop (k + c) all (r .at) zero2) ∙ r .is) u in
             omega (arith, z .1);
       }

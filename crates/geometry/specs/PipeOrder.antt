@@ -1,8 +1,9 @@
--- Pipe order is a rearrangement of element order, over all streams: the waiting list's numbers are 0, .., E − 1, each once. Assumes a description
--- that is not refused.
+-- Pipe order is a rearrangement of element order, over all streams: the waiting list's numbers are 0, .., E − 1, each once. Assumes a
+-- description that is not refused.
 use mathlib.Core.Path.{_≡_, refl, sym, _∙_, ap, subst}
 use mathlib.Core.Logic.{_⊎_, inl, inr}
-use mathlib.Core.List.{List, [], _∷_, _++_, append-assoc, map, List·Memᴰ as In, Memᴰ·cast, Memᴰ·map as in-map, map-append, Memᴰ·append-left, Memᴰ·append-right, List·Memᴰ·append-cases}
+use mathlib.Core.List.{List, [], _∷_, _++_, append-assoc, map, List·Memᴰ as In, Memᴰ·cast, Memᴰ·map as in-map, map-append, Memᴰ·append-left}
+use mathlib.Core.List.{Memᴰ·append-right, List·Memᴰ·append-cases}
 use Prim.Native.Nat.{ℕ, suc, _+_, _-_, _≤_, _<_}
 use native.Mathlib.Nat.{add-left-cancel}
 use native.Mathlib.Omega.{arith}
@@ -64,7 +65,8 @@ module _ {n : Nest} {s : Stream} (h : Accepted n s) (e : ℕ) where
   in-part : (j : ℕ) → e ≤ j → j < e + length (elements n s) → In j (part n e s)
   in-part j l k =
       let c : j - e < length (elements n s) = omega arith in
-      Memᴰ·cast (sum e j (rowIndex (boxOf n (s .map)) (getD (elements n s) (j - e) zero2)) l (row-number (boxOf n (s .map)) (j - e) zero2 c))
+      Memᴰ·cast
+      (sum e j (rowIndex (boxOf n (s .map)) (getD (elements n s) (j - e) zero2)) l (row-number (boxOf n (s .map)) (j - e) zero2 c))
       (in-map (λ p. e + rowIndex (boxOf n (s .map)) p) (elements-in h _ (getD-in (elements n s) (j - e) zero2 c)))
     where
       sum : (e j r : ℕ) → e ≤ j → r ≡ j - e → j ≡ e + r
@@ -99,7 +101,8 @@ order-in : (n : Nest) (i e : ℕ) (ss : List Stream) → All n ss → {j : ℕ} 
 unfolding total pipesFrom each
 order-in n i e [] a k = elim k [ ]
 order-in n i e (s ∷ ss) a {j} k =
-    go (List·Memᴰ·append-cases (part n e s) (subst (In j) (order-split n i e s ss) k)) (order-in n (suc i) (e + length (elements n s)) ss (rest-all ss a))
+    go (List·Memᴰ·append-cases (part n e s) (subst (In j) (order-split n i e s ss) k))
+    (order-in n (suc i) (e + length (elements n s)) ss (rest-all ss a))
   where
     go : In j (part n e s) ⊎ In j (orderFrom n (suc i) (e + length (elements n s)) ss)
         → (In j (orderFrom n (suc i) (e + length (elements n s)) ss)

@@ -30,8 +30,8 @@ pub record Touched (n : Nest) (s : Stream) (e : V2) : Type 0 where
   pub by : V3
   pub at : At n (s .map) e by
 
--- what the theorems ask of a stream: its nest is laid out, its line's step is positive, its move or loading vector is not zero, and its whole box is
--- touched
+-- what the theorems ask of a stream: its nest is laid out, its line's step is positive, its move or loading vector is not zero, and its
+-- whole box is touched
 pub record Accepted (n : Nest) (s : Stream) : Type 0 where
   pub layout : Layout n
   pub lin : Line n (s .map) (line n s)
@@ -143,7 +143,8 @@ module _ {n : Nest} {s : Stream} (h : Accepted n s) where
     where
       go : T (stationary n s) ⊎ T (not (stationary n s)) → (j : ℤ) → placeOf n x' ≡ shift2 (placeOf n x) j (placeOf n (line n s))
           → OnePipe n s (placeOf n x) (placeOf n x')
-      go (inl t) j e = record { by = pos 0; eq = e ∙ shift-still (placeOf n x) j (still-move t) ∙ sym (zero-shift (placeOf n x) (move n s)) }
+      go (inl t) j e =
+          record { by = pos 0; eq = e ∙ shift-still (placeOf n x) j (still-move t) ∙ sym (zero-shift (placeOf n x) (move n s)) }
       go (inr t) j e = record { by = j; eq = e ∙ ap (shift2 (placeOf n x) j) (sym (moving-move t)) }
 
   -- of a stationary stream: one element, one process, and one process, one element
@@ -188,7 +189,8 @@ module _ {n : Nest} {s : Stream} (h : Accepted n s) where
           let p = placeOf n (o .by) in
           let a : RunAt n p (o .by) = record { within = o .at .within; to = refl } in
           let i : In (image (s .map) (first n p)) (held n s y) =
-          in-map (λ p. image (s .map) (first n p)) (in-filter (computing n) (pipe-in hy (in-space a) (o .place)) (is-computing (h .layout) a)) in
+          in-map (λ p. image (s .map) (first n p))
+          (in-filter (computing n) (pipe-in hy (in-space a) (o .place)) (is-computing (h .layout) a)) in
           subst (In e) (sym (still-elements t y))
           (Memᴰ·cast (sym (o .at .to) ∙ still-element t (first n p) (o .by) (first-at (h .layout .dirs) a .to)) i)
       go (inr t) = subst (In e) (sym (moving-elements t y)) (turned (backward (pass n s)) (used-in hy o))
@@ -235,7 +237,8 @@ module _ {n : Nest} {s : Stream} (h : Accepted n s) where
           T-not (isPipe n s y) t (yes-any (computing n) (pipe-in hy (in-space a) (o .place)) (is-computing (h .layout) a))
 
   -- G7, one half: an element is on one pipe only
-  pub one-home : {y y' e : V2} → Inside (space n) y → Inside (space n) y' → In e (pipeElements n s y) → In e (pipeElements n s y') → OnePipe n s y y'
+  pub one-home : {y y' e : V2} → Inside (space n) y → Inside (space n) y' → In e (pipeElements n s y) → In e (pipeElements n s y')
+      → OnePipe n s y y'
   one-home hy hy' i i' =
       let o = in-on hy i in
       let o' = in-on hy' i' in

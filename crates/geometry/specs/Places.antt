@@ -45,7 +45,8 @@ module _ {A : Type 0} where
   sorted-at (more {x} {l} f s) zero (suc j) d h k = f (getD l j d) (getD-in l j d (omega arith))
   sorted-at (more f s) (suc i) (suc j) d h k = sorted-at s i j d (omega arith) (omega arith)
 
-  pub sorted-from : {R : A → A → Type 0} (l : List A) (d : A) → ((i j : ℕ) → i < j → j < length l → R (getD l i d) (getD l j d)) → Sorted R l
+  pub sorted-from : {R : A → A → Type 0} (l : List A) (d : A)
+      → ((i j : ℕ) → i < j → j < length l → R (getD l i d) (getD l j d)) → Sorted R l
   sorted-from [] d f = none
   sorted-from {R} (x ∷ l) d f =
       more {x = x} {l = l} (λ y k. let r = found d k in subst (R x) (r .is) (f 0 (suc (r .at)) (omega arith) (omega (arith, r .lt))))
@@ -64,8 +65,8 @@ module _ {A : Type 0} where
           other (inr f) = f
 
   -- the place of the first member that passes a test
-  pub position-is : (f : A → Bool) (l : List A) (q : ℕ) (d : A) → q < length l → T (f (getD l q d)) → ((j : ℕ) → j < q → T (f (getD l j d)) → ⊥)
-      → position f l ≡ q
+  pub position-is : (f : A → Bool) (l : List A) (q : ℕ) (d : A) → q < length l → T (f (getD l q d))
+      → ((j : ℕ) → j < q → T (f (getD l j d)) → ⊥) → position f l ≡ q
   unfolding position
   position-is f [] q d h t g = absurd (omega arith)
   position-is f (x ∷ l) zero d h t g = yes-cond (f x) 0 (suc (position f l)) t
@@ -75,7 +76,8 @@ module _ {A : Type 0} where
 
 module _ {A : Type 0} where
   -- and in the list reversed: of what is put before the rest, none passes
-  pub position-past : (f : A → Bool) (l m : List A) → ((x : A) → In x l → T (f x) → ⊥) → position f (reverseAux l m) ≡ length l + position f m
+  pub position-past : (f : A → Bool) (l m : List A) → ((x : A) → In x l → T (f x) → ⊥)
+      → position f (reverseAux l m) ≡ length l + position f m
   unfolding position
   position-past f [] m g = sym (zero-add (position f m))
   position-past f (x ∷ l) m g =
@@ -95,7 +97,8 @@ module _ {A : Type 0} where
           → position f (reverseAux l m) ≡ length l - suc q
       go [] m q h t g = absurd (omega arith)
       go (x ∷ l) m zero h t g =
-          position-past f l (x ∷ m) (λ y i u. let r = found d i in g (suc (r .at)) (omega arith) (omega (arith, r .lt)) (subst (λ z. T (f z)) (sym (r .is)) u))
+          position-past f l (x ∷ m)
+          (λ y i u. let r = found d i in g (suc (r .at)) (omega arith) (omega (arith, r .lt)) (subst (λ z. T (f z)) (sym (r .is)) u))
           ∙ ap (λ (c : ℕ). length l + c) (yes-cond (f x) 0 (suc (position f m)) t) ∙ omega arith
       go (x ∷ l) m (suc q) h t g = go l (x ∷ m) q (omega arith) t (λ j a b. g (suc j) (omega arith) (omega arith)) ∙ omega arith
 
@@ -202,5 +205,6 @@ ahead-filter f (more {x} {l} g s) (suc k) d h t = go (f x) (ahead-filter f s k d
     go : (b : Bool) → ahead p (filter f l) ≡ rank f k l
         → ahead p (cond b (x ∷ filter f l) (filter f l)) ≡ length (cond b (x ∷ filter f (take k l)) (filter f (take k l)))
     go true e =
-        no-cond (eq2 x p) 0 (suc (ahead p (filter f l))) (not-T (eq2 x p) (λ q. g p (getD-in l k d (omega arith)) (eq2-eq x p q))) ∙ ap suc e
+        no-cond (eq2 x p) 0 (suc (ahead p (filter f l))) (not-T (eq2 x p) (λ q. g p (getD-in l k d (omega arith)) (eq2-eq x p q)))
+        ∙ ap suc e
     go false e = e

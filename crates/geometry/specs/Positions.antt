@@ -42,7 +42,8 @@ module _ {n : Nest} {s : Stream} (h : Accepted n s) where
   pipe-length y = line-length (space n) (move n s) y
 
   -- what stands at position k
-  pub pipe-at : (y : V2) (k : ℕ) (d : V2) → k < length (pipe n s y) → getD (pipe n s y) k d ≡ shift2 y (pos k -ℤ pos (before n s y)) (move n s)
+  pub pipe-at : (y : V2) (k : ℕ) (d : V2) → k < length (pipe n s y)
+      → getD (pipe n s y) k d ≡ shift2 y (pos k -ℤ pos (before n s y)) (move n s)
   unfolding pipe
   pipe-at y k d l = line-at (space n) (move n s) y k d l
 
@@ -59,17 +60,20 @@ module _ {n : Nest} {s : Stream} (h : Accepted n s) where
       (back-shift (space n) (h .goes) (pos k -ℤ pos (before n s y)) hy (at-inside hy k d l) (pipe-at y k d l))
     where
       natural : (p q k : ℕ) → pos p ≡ pos q +ℤ (pos k -ℤ pos q) → p ≡ k
-      natural p q k e = omega (arith, eq-out (e ∙ Is-eq (Is-add (Is-pos q) (Is-add (Is-pos k) (Is-neg (Is-pos q)))) (Is-pos k) (omega arith)))
+      natural p q k e =
+          omega (arith, eq-out (e ∙ Is-eq (Is-add (Is-pos q) (Is-add (Is-pos k) (Is-neg (Is-pos q)))) (Is-pos k) (omega arith)))
 
   -- and the next is a move on
   pub pipe-next : (y : V2) (k : ℕ) (d : V2) → suc k < length (pipe n s y)
       → getD (pipe n s y) (suc k) d ≡ shift2 (getD (pipe n s y) k d) (pos 1) (move n s)
   pipe-next y k d l =
       pipe-at y (suc k) d l ∙ ap (λ (w : ℤ). shift2 y w (move n s)) (one k (before n s y))
-      ∙ sym (ap (λ (w : V2). shift2 w (pos 1) (move n s)) (pipe-at y k d (omega arith)) ∙ shift-shift y (move n s) (pos k -ℤ pos (before n s y)) (pos 1))
+      ∙ sym (ap (λ (w : V2). shift2 w (pos 1) (move n s)) (pipe-at y k d (omega arith))
+      ∙ shift-shift y (move n s) (pos k -ℤ pos (before n s y)) (pos 1))
     where
       one : (k p : ℕ) → pos (suc k) -ℤ pos p ≡ (pos k -ℤ pos p) +ℤ pos 1
-      one k p = Is-eq (Is-add (Is-pos (suc k)) (Is-neg (Is-pos p))) (Is-add (Is-add (Is-pos k) (Is-neg (Is-pos p))) (Is-pos 1)) (omega arith)
+      one k p =
+          Is-eq (Is-add (Is-pos (suc k)) (Is-neg (Is-pos p))) (Is-add (Is-add (Is-pos k) (Is-neg (Is-pos p))) (Is-pos 1)) (omega arith)
 
   -- every link has a place
   pub hop-positive : 0 < hop n s

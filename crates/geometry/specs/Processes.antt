@@ -1,5 +1,5 @@
--- Instances, and pairs of a process and a number below its count, are the same thing: every instance is run by one process, as one firing of it,
--- and a process runs nothing else. Assumes directions of 1 or −1 and an increment of positive step, which `Layout` says.
+-- Instances, and pairs of a process and a number below its count, are the same thing: every instance is run by one process, as one firing
+-- of it, and a process runs nothing else. Assumes directions of 1 or −1 and an increment of positive step, which `Layout` says.
 use mathlib.Core.Path.{_≡_, refl, sym, _∙_, ap, subst}
 use mathlib.Core.Bool.{not}
 use mathlib.Core.List.{List, [], _∷_, List·Memᴰ as In}
@@ -73,7 +73,8 @@ module _ {n : Nest} (layout : Layout n) where
   firing-instance y i h = firing-is y i (runAt n y i) (instance-at y i h .to) refl
 
   -- an instance so many increments on is that many firings later
-  pub firing-shift : {x x' : V3} → Within n x → Within n x' → (i : ℕ) → x' ≡ shift3 x (pos i) (increment n) → firingOf n x' ≡ firingOf n x + i
+  pub firing-shift : {x x' : V3} → Within n x → Within n x' → (i : ℕ) → x' ≡ shift3 x (pos i) (increment n)
+      → firingOf n x' ≡ firingOf n x + i
   firing-shift {x} {x'} w w' i e =
       let y = placeOf n x in
       let p : placeOf n x' ≡ y = ap (placeOf n) e ∙ along (layout .inc) x (pos i) in

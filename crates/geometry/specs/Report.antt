@@ -1,6 +1,6 @@
--- The report's equations (2), (3), (4), (8), (9) and (10) for document 01's words. (2), the process space, is `box-basis` of Boxes. The report's
--- v // u is the k with v = k u; and first_s and last_s are the first and the last element of a pipe. Assumes, of the nest, `Layout`; of the stream,
--- that it is accepted and moves.
+-- The report's equations (2), (3), (4), (8), (9) and (10) for document 01's words. (2), the process space, is `box-basis` of Boxes. The
+-- report's v // u is the k with v = k u; and first_s and last_s are the first and the last element of a pipe. Assumes, of the nest,
+-- `Layout`; of the stream, that it is accepted and moves.
 use mathlib.Core.Path.{_≡_, refl, sym, _∙_, ap, subst, subst₂}
 use mathlib.Core.Bool.{not}
 use mathlib.Core.List.{List}
@@ -44,7 +44,8 @@ module _ {n : Nest} (layout : Layout n) where
       r : Ahead (increment n) w z
       r = ahead-of (layout .inc) w z (a .from .to ∙ sym (a .to .to)) (lt-le (a .before))
 
-      more : (i : ℕ) (s : V3) → pos 0 <ℤ dot s (increment n) → dot s (shift3 w (pos i) (increment n)) <ℤ dot s (shift3 w (pos (suc i)) (increment n))
+      more : (i : ℕ) (s : V3) → pos 0 <ℤ dot s (increment n)
+          → dot s (shift3 w (pos i) (increment n)) <ℤ dot s (shift3 w (pos (suc i)) (increment n))
       more i s h =
           subst₂ _<ℤ_ (sym (dot-shift s w (increment n) (pos i))) (sym (dot-shift s w (increment n) (pos (suc i))))
           (on i (dot s w) (dot s (increment n)) h)
@@ -62,7 +63,8 @@ module _ {n : Nest} (layout : Layout n) where
             to = along (layout .inc) w (pos (suc i)) ∙ a .from .to;
           } in
           absurd (a .none (shift3 w (pos (suc i)) (increment n)) b (ahead-step i)
-          (subst (λ (x : V3). stepOf n (shift3 w (pos (suc i)) (increment n)) <ℤ stepOf n x) (sym e) (more (suc i) (n .step) (layout .inc .ahead))))
+          (subst (λ (x : V3). stepOf n (shift3 w (pos (suc i)) (increment n)) <ℤ stepOf n x) (sym e)
+          (more (suc i) (n .step) (layout .inc .ahead))))
         where
           ahead-step : (i : ℕ) → stepOf n w <ℤ stepOf n (shift3 w (pos (suc i)) (increment n))
           ahead-step i =
@@ -70,7 +72,8 @@ module _ {n : Nest} (layout : Layout n) where
               (beyond i (stepOf n (increment n)) (stepOf n w) (layout .inc .ahead))
 
   -- (4): count = ((last − first) // increment) + 1
-  pub count-is : {y : V2} {x : V3} → RunAt n y x → (k : ℕ) × (sub3 (last n y) (first n y) ≡ scale3 (pos k) (increment n)) × (count n y ≡ k + 1)
+  pub count-is : {y : V2} {x : V3} → RunAt n y x
+      → (k : ℕ) × (sub3 (last n y) (first n y) ≡ scale3 (pos k) (increment n)) × (count n y ≡ k + 1)
   count-is {y} a =
       let w = segment (layout .dirs) (layout .inc) a in
       (w .span, ap (λ (l : V3). sub3 l (first n y)) (w .end) ∙ cut (first n y) (increment n) (pos (w .span)), omega (arith, w .size))
@@ -79,9 +82,9 @@ module _ {n : Nest} (layout : Layout n) where
       cut = ring 2 1 _ λ ρ. simp quotes (solve3 (solve ρ _ _ tt) (solve ρ _ _ tt) (solve ρ _ _ tt))
 
 -- ---- a pipe
--- The report gives these for moving and stationary streams alike, with an increment_s taken from the loading vector. Document 01 orders a stationary
--- pipe's elements by the processes that hold them: its soak and drain are ranks, `soak-rank` and `still-total` of Pipes. That every element is used,
--- which the report assumes, is refusal 17.
+-- The report gives these for moving and stationary streams alike, with an increment_s taken from the loading vector. Document 01 orders a
+-- stationary pipe's elements by the processes that hold them: its soak and drain are ranks, `soak-rank` and `still-total` of Pipes. That
+-- every element is used, which the report assumes, is refusal 17.
 
 -- its first and its last element
 abbrev pub firstElement : Nest → Stream → V2 → V2
@@ -112,7 +115,8 @@ module _ {n : Nest} {s : Stream} (h : Accepted n s) (moves : T (not (stationary 
       split : (i r : ℤ) → i -ℤ r ≡ (pos 0 -ℤ r) +ℤ i
       split = linear 0 2 _ λ p m. simp gaps (omega arith)
 
-  element-of : {y : V2} {x : V3} → RunAt n y x → getD (pipeElements n s y) (ahead (image (s .map) x) (pipeElements n s y)) zero2 ≡ image (s .map) x
+  element-of : {y : V2} {x : V3} → RunAt n y x
+      → getD (pipeElements n s y) (ahead (image (s .map) x) (pipeElements n s y)) zero2 ≡ image (s .map) x
   element-of {x} a = getD-ahead (image (s .map) x) zero2 (touched-in h a)
 
   -- (8): soak = (M first − first_s) // increment_s
@@ -130,7 +134,8 @@ module _ {n : Nest} {s : Stream} (h : Accepted n s) (moves : T (not (stationary 
       = omega (arith, index-is h moves l, length-is h moves l) in
       let i = ahead (image (s .map) (last n y)) (pipeElements n s y) in
       element-on a (length (pipeElements n s y) - 1) (omega arith)
-      ∙ ap (λ (k : ℕ). shift2 (firstElement n s y) (pos k) (pass n s)) (sum (length (pipeElements n s y)) i (drain n s y) c (drain-last h a))
+      ∙ ap (λ (k : ℕ). shift2 (firstElement n s y) (pos k) (pass n s))
+      (sum (length (pipeElements n s y)) i (drain n s y) c (drain-last h a))
       ∙ sym (shift-shift (firstElement n s y) (pass n s) (pos i) (pos (drain n s y)))
       ∙ ap (λ (w : V2). shift2 w (pos (drain n s y)) (pass n s)) (sym (element-on a i c) ∙ element-of l)
     where
@@ -146,8 +151,8 @@ module _ {n : Nest} {s : Stream} (h : Accepted n s) (moves : T (not (stationary 
       subst (λ (es : List V2). (i : ℕ) → i < length es → getD es i zero2 ≡ shift2 (getD es 0 zero2) (pos i) (pass n s))
       (same-elements h hy (in-space h a) (o .place)) (element-on a) i l
 
-  -- (10): the soak of a null process, which is the number of its pipe's elements, = ((last_s − first_s) // increment_s) + 1. Where its line has no
-  -- computing process there is no pipe: document 01 has 0 there, `no-pipe` of Pipes, and the report says nothing
+  -- (10): the soak of a null process, which is the number of its pipe's elements, = ((last_s − first_s) // increment_s) + 1. Where its line
+  -- has no computing process there is no pipe: document 01 has 0 there, `no-pipe` of Pipes, and the report says nothing
   pub null-report : {y : V2} → Inside (space n) y → 0 < length (pipeElements n s y)
       → (k : ℕ) × (lastElement n s y ≡ shift2 (firstElement n s y) (pos k) (pass n s)) × (length (pipeElements n s y) ≡ suc k)
   null-report {y} hy c = (length (pipeElements n s y) - 1, element-from hy (length (pipeElements n s y) - 1) (omega arith), omega arith)

@@ -68,7 +68,8 @@ module _ (k : Box) where
   pub row-lt : (p : V2) → Inside k p → rowIndex k p < length (points k)
   row-lt p h =
       subst (λ (c : ℕ). rowIndex k p < c) (sym points-length)
-      (go _ _ _ _ (in-size (k .lo .a) (k .hi .a) (p .a) (h .ina .lo) (h .ina .hi)) (in-size (k .lo .b) (k .hi .b) (p .b) (h .inb .lo) (h .inb .hi)))
+      (go _ _ _ _ (in-size (k .lo .a) (k .hi .a) (p .a) (h .ina .lo) (h .ina .hi))
+      (in-size (k .lo .b) (k .hi .b) (p .b) (h .inb .lo) (h .inb .hi)))
     where
       go : (i j a b : ℕ) → i < a → j < b → i * b + j < a * b
       go i j a b h k = omega (arith, mul-le-mul-right b h)

@@ -1,6 +1,6 @@
--- The instances that a matrix sends to one point: first, first + u, .., last, with u the matrix's line, and no other. For place they are those of
--- a process, for an index map those that touch an element. The components of u may be any numbers, so first and last lie on a face of the bounds or not.
--- Assumes directions of 1 or −1.
+-- The instances that a matrix sends to one point: first, first + u, .., last, with u the matrix's line, and no other. For place they are
+-- those of a process, for an index map those that touch an element. The components of u may be any numbers, so first and last lie on a face
+-- of the bounds or not. Assumes directions of 1 or −1.
 use mathlib.Core.Path.{_≡_, refl, sym, _∙_, ap, subst}
 use mathlib.Core.List.{List, [], _∷_, List·Memᴰ as In, List·Memᴰ·head as here}
 use Prim.Native.Nat.{ℕ, suc, _≤_, _<_}

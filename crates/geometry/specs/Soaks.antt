@@ -1,5 +1,5 @@
--- Soak and drain: the first and the last element that a process uses are those of its first and last instance; of a moving stream they are steps inside the
--- box, and firing m uses element soak + m; of a stationary one the process's rank. Assumes an accepted stream.
+-- Soak and drain: the first and the last element that a process uses are those of its first and last instance; of a moving stream they are
+-- steps inside the box, and firing m uses element soak + m; of a stationary one the process's rank. Assumes an accepted stream.
 use mathlib.Core.Path.{_≡_, refl, sym, _∙_, ap, subst}
 use mathlib.Core.Logic.{_⊎_, inl, inr}
 use mathlib.Core.Bool.{not}
@@ -53,7 +53,8 @@ module _ {n : Nest} {s : Stream} (h : Accepted n s) where
       go (inl t) =
           omega (
             arith,
-            ap (λ (e : V2). ahead e (pipeElements n s y)) (still-element h t (first n y) x (first-at (h .layout .dirs) a .to ∙ sym (a .to))),
+            ap (λ (e : V2). ahead e (pipeElements n s y))
+                (still-element h t (first n y) x (first-at (h .layout .dirs) a .to ∙ sym (a .to))),
           )
       go (inr t) =
           let r = numbered (h .layout .dirs) (h .layout .inc) a in
@@ -103,7 +104,8 @@ module _ {n : Nest} {s : Stream} (h : Accepted n s) where
       let z = standing (first-at (h .layout .dirs) a) in
       position-is (uses n s y) es _ zero2 (z .0) (z .1)
       (λ j k t. let u = uses-by t in
-      omega (arith, first-index (u .1), ap (λ (w : V2). ahead w es) (u .2), ahead-getD es j zero2 (elements-distinct h y) (omega (arith, z .0))))
+      omega
+      (arith, first-index (u .1), ap (λ (w : V2). ahead w es) (u .2), ahead-getD es j zero2 (elements-distinct h y) (omega (arith, z .0))))
 
   pub drain-last : {y : V2} {x : V3} → RunAt n y x
       → drain n s y ≡ length (pipeElements n s y) - suc (ahead (image (s .map) (last n y)) (pipeElements n s y))
@@ -111,12 +113,14 @@ module _ {n : Nest} {s : Stream} (h : Accepted n s) where
       let es = pipeElements n s y in
       let z = standing (last-at (h .layout .dirs) a) in
       position-last (uses n s y) es _ zero2 (z .0) (z .1)
-      (λ j k b t. let u = uses-by t in omega (arith, last-index (u .1), ap (λ (w : V2). ahead w es) (u .2), ahead-getD es j zero2 (elements-distinct h y) b))
+      (λ j k b t. let u = uses-by t in
+      omega (arith, last-index (u .1), ap (λ (w : V2). ahead w es) (u .2), ahead-getD es j zero2 (elements-distinct h y) b))
 
   -- ---- G6: of a stationary stream
 
   -- the soak is the process's rank: the number of computing processes before it on the pipe
-  pub soak-rank : T (stationary n s) → {y : V2} → Inside (space n) y → T (computing n y) → soak n s y ≡ ahead y (filter (computing n) (pipe n s y))
+  pub soak-rank : T (stationary n s) → {y : V2} → Inside (space n) y → T (computing n y)
+      → soak n s y ≡ ahead y (filter (computing n) (pipe n s y))
   soak-rank t {y} hy c =
       soak-first (computes (h .layout) y c) ∙ ap (ahead (image (s .map) (first n y))) (still-elements h t y)
       ∙ ahead-map (λ p. image (s .map) (first n p)) y (filter (computing n) (pipe n s y)) (in-filter (computing n) (pipe-self h hy) c)
@@ -128,7 +132,8 @@ module _ {n : Nest} {s : Stream} (h : Accepted n s) where
       let f = first-at (h .layout .dirs) a in
       let l = last-at (h .layout .dirs) a in
       go (ahead-lt (image (s .map) (first n y)) (touched-in h f))
-      (ap (λ (e : V2). ahead e (pipeElements n s y)) (still-element h t (first n y) (last n y) (f .to ∙ sym (l .to)))) (soak-first a) (drain-last a)
+      (ap (λ (e : V2). ahead e (pipeElements n s y)) (still-element h t (first n y) (last n y) (f .to ∙ sym (l .to))))
+      (soak-first a) (drain-last a)
     where
       go : {i j c k d : ℕ} → i < c → j ≡ i → k ≡ i → d ≡ c - suc j → k + 1 + d ≡ c
       go h e f g = omega arith
@@ -155,7 +160,8 @@ module _ {n : Nest} {s : Stream} (h : Accepted n s) (moves : T (not (stationary 
   pub element-at : (y : V2) (i : ℕ) (d : V2) → i < count n y → getD (pipeElements n s y) (soak n s y + i) d ≡ image (s .map) (runAt n y i)
   element-at y i d k =
       let a = instance-at (h .layout) y i k in
-      ap (λ (c : ℕ). getD (pipeElements n s y) c d) (sym (element-index i a a)) ∙ getD-ahead (image (s .map) (runAt n y i)) d (touched-in h a)
+      ap (λ (c : ℕ). getD (pipeElements n s y) c d) (sym (element-index i a a))
+      ∙ getD-ahead (image (s .map) (runAt n y i)) d (touched-in h a)
 
   -- soak + count + drain is the pipe's number of elements, at each of its computing processes
   pub total-is : {y : V2} {x : V3} → RunAt n y x → length (pipeElements n s y) ≡ soak n s y + count n y + drain n s y

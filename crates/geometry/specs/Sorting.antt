@@ -1,9 +1,12 @@
--- Sorted lists, and lists without repetition: a sorted list is determined by its members, and one without repetition is as long as it has members.
--- Assumes nothing.
+-- Sorted lists, and lists without repetition: a sorted list is determined by its members, and one without repetition is as long as it has
+-- members. Assumes nothing.
 use mathlib.Core.Path.{_≡_, refl, sym, _∙_, ap, subst}
 use mathlib.Core.Logic.{_⊎_, inl, inr}
 use mathlib.Core.Bool.{Bool, true, false, cond}
-use mathlib.Core.List.{List, [], _∷_, _++_, map, reverse, reverseAux, List·Memᴰ as In, List·Memᴰ·head as here, List·Memᴰ·tail as there, Memᴰ·cast, Memᴰ·map as in-map, List·Memᴰ·append-cases, List·Permᴰ as Rearranged, List·Permᴰ·nil as Rearranged·nil, List·Permᴰ·cons as Rearranged·cons, List·Permᴰ·swap as Rearranged·swap, List·Permᴰ·trans as Rearranged·trans, Permᴰ·refl as unchanged}
+use mathlib.Core.List.{List, [], _∷_, _++_, map, reverse, reverseAux, List·Memᴰ as In, List·Memᴰ·head as here, List·Memᴰ·tail as there}
+use mathlib.Core.List.{Memᴰ·cast, Memᴰ·map as in-map, List·Memᴰ·append-cases, List·Permᴰ as Rearranged, List·Permᴰ·nil as Rearranged·nil}
+use mathlib.Core.List.{List·Permᴰ·cons as Rearranged·cons, List·Permᴰ·swap as Rearranged·swap, List·Permᴰ·trans as Rearranged·trans}
+use mathlib.Core.List.{Permᴰ·refl as unchanged}
 use Prim.Native.Nat.{ℕ, zero, suc, _≤_, _<_}
 use native.Mathlib.Omega.{arith}
 use lib.ListN.{length, length-map}
@@ -18,7 +21,8 @@ module _ {A : Type 0} where
   sorted-map f (more {x} h s) = more (λ y k. f x y (h y k)) (sorted-map f s)
 
   -- with what is known of the members
-  pub sorted-with : {R : A → A → Type 0} (P : A → Type 0) {l : List A} → ((x : A) → In x l → P x) → Sorted R l → Sorted (λ x y. P x × P y × R x y) l
+  pub sorted-with : {R : A → A → Type 0} (P : A → Type 0) {l : List A} → ((x : A) → In x l → P x) → Sorted R l
+      → Sorted (λ x y. P x × P y × R x y) l
   sorted-with P f none = none
   sorted-with P f (more {x} h s) = more (λ y k. (f x (here refl), f y (there k), h y k)) (sorted-with P (λ y k. f y (there k)) s)
 
@@ -48,7 +52,8 @@ module _ {A B : Type 0} where
       → {l : List A} → Sorted R l → Sorted S (map f l)
   sorted-by-map f g none = none
   sorted-by-map {S} f g (more {x} {l} h s) =
-      more (λ y k. let r = map-in f l k in subst (λ w. S (f x) w) (sym (r .is)) (g x (r .from) (h (r .from) (r .mem)))) (sorted-by-map f g s)
+      more (λ y k. let r = map-in f l k in subst (λ w. S (f x) w) (sym (r .is)) (g x (r .from) (h (r .from) (r .mem))))
+      (sorted-by-map f g s)
 
   -- lists that are sorted, one for each member of a sorted list
   pub sorted-each : {R : A → A → Type 0} {S : B → B → Type 0} (f : A → List B) → ((x : A) → Sorted S (f x))
@@ -81,7 +86,8 @@ module _ {A : Type 0} where
 pub numbers-sorted : (i c : ℕ) → Sorted (λ a b. a < b) (numbersFrom i c)
 unfolding numbersFrom
 numbers-sorted i zero = none
-numbers-sorted i (suc c) = more {x = i} {l = numbersFrom (suc i) c} (λ j k. omega (arith, numbers-in (suc i) c k .0)) (numbers-sorted (suc i) c)
+numbers-sorted i (suc c) =
+    more {x = i} {l = numbersFrom (suc i) c} (λ j k. omega (arith, numbers-in (suc i) c k .0)) (numbers-sorted (suc i) c)
 
 -- ---- one sorted list for one set of members
 

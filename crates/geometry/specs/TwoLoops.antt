@@ -1,6 +1,6 @@
--- Two loops as three. That they are is a definition: `vectorAt`, `matrixAt` and `loadingOf` of meaning's Description put in a third loop from 0 to 0,
--- and a second row (0, 0, 1) into every matrix. Here is that this changes nothing: what document 01 says of two loops is what the definitions say of
--- the padded ones. Assumes nothing.
+-- Two loops as three. That they are is a definition: `vectorAt`, `matrixAt` and `loadingOf` of meaning's Description put in a third loop
+-- from 0 to 0, and a second row (0, 0, 1) into every matrix. Here is that this changes nothing: what document 01 says of two loops is what
+-- the definitions say of the padded ones. Assumes nothing.
 use mathlib.Core.Path.{_≡_, sym, _∙_, ap, ap₂, subst, subst₂}
 use mathlib.Core.Logic.{_⊎_, inl, inr, _↔_}
 use mathlib.Core.Bool.{cond}
@@ -23,7 +23,8 @@ use Rattle.meaning.specs.declared.Sizes.{Sizes}
 use Rattle.meaning.specs.Loops.{size}
 use Rattle.meaning.specs.Space.{Box, rowIndex, boxOf}
 use Rattle.meaning.specs.Description.{unit3, nestOf, streamOf}
-use Rattle.meaning.specs.Points.{IsLine as Line, Precedes, Directed, Within, Inside, Earlier, Earlier.by-outer, Earlier.by-middle, Earlier.by-inner}
+use Rattle.meaning.specs.Points.{IsLine as Line, Precedes, Directed, Within, Inside, Earlier, Earlier.by-outer, Earlier.by-middle}
+use Rattle.meaning.specs.Points.{Earlier.by-inner}
 use Rattle.geometry.specs.Numbers.{yes-cond}
 use Rattle.geometry.specs.Boxes.{box-basis}
 
@@ -72,10 +73,13 @@ no-second f x = ap (λ (w : V3). dot w x) (f .low) ∙ third x
 pub low-box : {n : Nest} {m : Matrix} → Planar n → Flat m → Directed n → {x : V3} → Within n x
     → (boxOf n m .lo .b ≡ pos 0) × (boxOf n m .hi .b ≡ pos 0)
 low-box {n} {m} h f d w =
-    let k = box-basis d m w in
-    (k .lob .is ∙ no-second f (k .lob .by) ∙ no-third h (k .lob .within), k .hib .is ∙ no-second f (k .hib .by) ∙ no-third h (k .hib .within))
+    let k = box-basis d m w in (
+      k .lob .is ∙ no-second f (k .lob .by) ∙ no-third h (k .lob .within),
+      k .hib .is ∙ no-second f (k .hib .by) ∙ no-third h (k .hib .within),
+    )
 
-pub low-point : {n : Nest} {m : Matrix} → Planar n → Flat m → Directed n → {x : V3} → Within n x → {p : V2} → Inside (boxOf n m) p → p .b ≡ pos 0
+pub low-point : {n : Nest} {m : Matrix} → Planar n → Flat m → Directed n → {x : V3} → Within n x → {p : V2}
+    → Inside (boxOf n m) p → p .b ≡ pos 0
 low-point h f d w {p} i = let k = low-box h f d w in pinched (p .b) _ _ (k .0) (k .1) (i .inb .lo) (i .inb .hi)
 
 -- and row order is the order of the first coordinate

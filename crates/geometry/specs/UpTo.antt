@@ -1,4 +1,5 @@
--- What is accepted under some limits is accepted under higher ones: of two lists of tests the second applies only where the first does. Assumes nothing.
+-- What is accepted under some limits is accepted under higher ones: of two lists of tests the second applies only where the first does.
+-- Assumes nothing.
 use mathlib.Core.Path.{_≡_}
 use mathlib.Core.Bool.{Bool, true, false, not, cond, _&&_}
 use mathlib.Core.List.{List, [], _∷_, _++_}
@@ -93,7 +94,8 @@ by-gauge u s e = up-to u (omega arith) s e
 -- no board's limits are above the gauge's
 pub limits-up-to : (board : ℕ) → UpTo (limitsOf board) gaugeLimits
 limits-up-to board =
-    let b = eqb board 1 in record { instances = least b 1024 4096 (omega arith); processes = least b 256 1024 (omega arith); hop = omega arith }
+    let b = eqb board 1 in
+    record { instances = least b 1024 4096 (omega arith); processes = least b 256 1024 (omega arith); hop = omega arith }
   where
     least : (b : Bool) (m n : ℕ) → m ≤ n → cond b m n ≤ n
     least true m n h = h

@@ -1,5 +1,5 @@
--- A whole walk by process comes to every instance exactly once and to nothing else, process by process in row order and along each process's own line from first
--- to last. Assumes directions of 1 or −1 and an increment of positive step, which `Layout` says.
+-- A whole walk by process comes to every instance exactly once and to nothing else, process by process in row order and along each
+-- process's own line from first to last. Assumes directions of 1 or −1 and an increment of positive step, which `Layout` says.
 use mathlib.Core.Path.{_≡_, refl, sym, _∙_, ap, subst}
 use mathlib.Core.Bool.{Bool}
 use mathlib.Core.List.{List·Memᴰ as In, Memᴰ·cast, Memᴰ·map as in-map}
@@ -38,7 +38,8 @@ module _ {n : Nest} (layout : Layout n) where
   line-has : {x : V3} → Within n x → In x (ownLine n (placeOf n x))
   line-has {x} w =
       Memᴰ·cast (sym (instance-firing layout w))
-      (in-map (runAt n (placeOf n x)) (in-numbers 0 (count n (placeOf n x)) (firingOf n x) (omega arith) (omega (arith, firing-lt layout w))))
+      (in-map (runAt n (placeOf n x))
+      (in-numbers 0 (count n (placeOf n x)) (firingOf n x) (omega arith) (omega (arith, firing-lt layout w))))
 
   line-sorted : (y : V2) → Sorted (Sooner n) (ownLine n y)
   line-sorted y = sorted-by-map (runAt n y) (sooner-later layout y) (numbers-sorted 0 (count n y))
@@ -52,7 +53,8 @@ module _ {n : Nest} (layout : Layout n) where
   every : (x : V3) → Within n x → In x (walk n)
   unfolding walk
   every x w =
-      in-each (ownLine n) (inside-points (space n) (placeOf n x) (at-box (layout .dirs) {m = n .place} (record { within = w; to = refl }))) (line-has w)
+      in-each (ownLine n)
+      (inside-points (space n) (placeOf n x) (at-box (layout .dirs) {m = n .place} (record { within = w; to = refl }))) (line-has w)
 
   in-order : Sorted (ComesBefore n) (walk n)
   unfolding walk

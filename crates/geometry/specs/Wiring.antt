@@ -1,5 +1,5 @@
--- What the network asks of the geometry for one stream: pipes by their entries, processes by their positions, elements by their indices, firings by
--- their numbers. Assumes an accepted stream.
+-- What the network asks of the geometry for one stream: pipes by their entries, processes by their positions, elements by their indices,
+-- firings by their numbers. Assumes an accepted stream.
 use mathlib.Core.Path.{_≡_, refl, sym, _∙_, ap, subst}
 use mathlib.Core.Bool.{not, _&&_}
 use mathlib.Core.List.{List, List·Memᴰ as In, List·Memᴰ·head as here, List·Memᴰ·tail as there}
@@ -27,11 +27,14 @@ use Rattle.geometry.specs.Instances.{in-within, number-earlier}
 use Rattle.geometry.specs.Boxes.{inside-points}
 use Rattle.geometry.specs.Segments.{at-box, first-at}
 use Rattle.geometry.specs.Processes.{RunAt, runAt, firingOf, firing-lt, instance-firing, instance-at, computes}
-use Rattle.geometry.specs.Pipes.{Accepted, OnePipe, flip-pipe, join-pipe, in-space, in-pipe, pipe-self, same-pipe, same-elements, still-element, in-on, touched-in, still-length}
+use Rattle.geometry.specs.Pipes.{Accepted, OnePipe, flip-pipe, join-pipe, in-space, in-pipe, pipe-self, same-pipe, same-elements}
+use Rattle.geometry.specs.Pipes.{still-element, in-on, touched-in, still-length}
 use Rattle.geometry.specs.Soaks.{soak-first, soak-rank, still-total, element-index, element-at, total-is}
-use Rattle.geometry.specs.Positions.{pipe-distinct, before-is, pipe-length, pipe-at, at-inside, at-pipe, before-at, pipe-next, hop-positive}
+use Rattle.geometry.specs.Positions.{pipe-distinct, before-is, pipe-length, pipe-at, at-inside, at-pipe, before-at, pipe-next}
+use Rattle.geometry.specs.Positions.{hop-positive}
 use Rattle.geometry.specs.Clock.{Clock, clock-from, clock}
-use Rattle.geometry.specs.Elements.{entryOf, homeOf, indexOf, entry-pipe, entry-is, entry-same, one-entry, entries-entry, entry-in, elements-distinct, home-in, home-is, pipes-total, index-lt, element-home, home-element}
+use Rattle.geometry.specs.Elements.{entryOf, homeOf, indexOf, entry-pipe, entry-is, entry-same, one-entry, entries-entry, entry-in}
+use Rattle.geometry.specs.Elements.{elements-distinct, home-in, home-is, pipes-total, index-lt, element-home, home-element}
 use Rattle.geometry.specs.Order.{written-moving, written-still}
 
 -- the process at position k of the pipe that enters at y, and its element of index j
@@ -54,12 +57,14 @@ pub record Wired (n : Nest) (s : Stream) : Type 0 where
       → processAt n s y (suc k) ≡ shift2 (processAt n s y k) (pos 1) (move n s)
   -- a computing process is on a pipe
   pub on : (p : V2) → T (computing n p)
-      → In (entryOf n s p) (entries n s) × (before n s p < length (pipe n s (entryOf n s p))) × (processAt n s (entryOf n s p) (before n s p) ≡ p)
+      → In (entryOf n s p) (entries n s) × (before n s p < length (pipe n s (entryOf n s p)))
+      × (processAt n s (entryOf n s p) (before n s p) ≡ p)
   -- every link has a place
   pub places : 0 < hop n s
   -- every element of the stream is on one pipe at one index
   pub home : (e : V2) → In e (elements n s)
-      → In (homeOf n s e) (entries n s) × (indexOf n s e < length (pipeElements n s (homeOf n s e))) × (elementAt n s (homeOf n s e) (indexOf n s e) ≡ e)
+      → In (homeOf n s e) (entries n s) × (indexOf n s e < length (pipeElements n s (homeOf n s e)))
+      × (elementAt n s (homeOf n s e) (indexOf n s e) ≡ e)
   pub element : (y : V2) (j : ℕ) → In y (entries n s) → j < length (pipeElements n s y)
       → In (elementAt n s y j) (elements n s) × (homeOf n s (elementAt n s y j) ≡ y) × (indexOf n s (elementAt n s y j) ≡ j)
   -- pipes have as many elements as the stream
@@ -92,7 +97,8 @@ pub record Keeping (n : Nest) (s : Stream) : Type 0 where
       → image (s .map) x ≡ elementAt n s y j
       → (entryOf n s (placeOf n x) ≡ y) × (soak n s (placeOf n x) ≡ j)
 
--- ---- a written stream: of two instances that touch one element, by their numbers in the written order, the earlier is earlier on the network
+-- ---- a written stream: of two instances that touch one element, by their numbers in the written order, the earlier is earlier on the
+-- network
 
 pub record Meeting (n : Nest) (s : Stream) : Type 0 where
   pub meets-flowing : T (not (stationary n s)) → (i i' : ℕ) → i < i' → i' < length (instances n)
@@ -149,8 +155,11 @@ module _ {n : Nest} {s : Stream} (h : Accepted n s) where
         home = λ e i. (home-in h i .0, index-lt h i, element-home h zero2 i);
         element = λ y j i l.
             let m = getD-in (pipeElements n s y) j zero2 l in
-            let o = in-on h (entries-entry h i .inside) m in
-            (inside-points (boxOf n (s .map)) _ (at-box (h .layout .dirs) (o .at)), home-element h y j zero2 i l .0, home-element h y j zero2 i l .1);
+            let o = in-on h (entries-entry h i .inside) m in (
+              inside-points (boxOf n (s .map)) _ (at-box (h .layout .dirs) (o .at)),
+              home-element h y j zero2 i l .0,
+              home-element h y j zero2 i l .1,
+            );
         total-elements = pipes-total h;
       }
     where
@@ -168,11 +177,13 @@ module _ {n : Nest} {s : Stream} (h : Accepted n s) where
       subst (In (image (s .map) x)) (sym (entry-elements (in-space h b))) (touched-in h b)
 
   -- so it determines the pipe and the index
-  there-is : (x : V3) (y : V2) (j : ℕ) → Within n x → In y (entries n s) → j < length (pipeElements n s y) → image (s .map) x ≡ elementAt n s y j
+  there-is : (x : V3) (y : V2) (j : ℕ) → Within n x → In y (entries n s) → j < length (pipeElements n s y)
+      → image (s .map) x ≡ elementAt n s y j
       → (entryOf n s (placeOf n x) ≡ y) × (ahead (image (s .map) x) (pipeElements n s (placeOf n x)) ≡ j)
   there-is x y j w i l e =
       let b : RunAt n (placeOf n x) x = record { within = w; to = refl } in
-      let q : entryOf n s (placeOf n x) ≡ y = sym (home-is h (entry-in h b) (here-in w)) ∙ ap (homeOf n s) e ∙ home-element h y j zero2 i l .0 in (
+      let q : entryOf n s (placeOf n x) ≡ y = sym (home-is h (entry-in h b) (here-in w)) ∙ ap (homeOf n s) e
+      ∙ home-element h y j zero2 i l .0 in (
         q,
         ap (λ (l : List V2). ahead (image (s .map) x) l) (sym (entry-elements (in-space h b)) ∙ ap (pipeElements n s) q)
             ∙ ap (λ (e : V2). ahead e (pipeElements n s y)) e ∙ ahead-getD (pipeElements n s y) j zero2 (elements-distinct h y) l,
@@ -224,7 +235,8 @@ module _ {n : Nest} {s : Stream} (h : Accepted n s) where
             let b : RunAt n p x = record { within = w; to = refl } in (
               r .0,
               soak-first h b
-                  ∙ ap (λ (e : V2). ahead e (pipeElements n s p)) (sym (still-element h still (first n p) x (first-at (h .layout .dirs) b .to))) ∙ r .1,
+                  ∙ ap (λ (e : V2). ahead e (pipeElements n s p))
+                  (sym (still-element h still (first n p) x (first-at (h .layout .dirs) b .to))) ∙ r .1,
             );
       }
 
@@ -238,5 +250,6 @@ module _ {n : Nest} {s : Stream} (h : Accepted n s) where
       inside : (i : ℕ) → i < length (instances n) → Within n (getD (instances n) i zero3)
       inside i l = in-within (h .layout .dirs) (getD-in (instances n) i zero3 l)
 
-      order : (i i' : ℕ) → i < i' → i' < length (instances n) → Earlier (n .direction) (getD (instances n) i zero3) (getD (instances n) i' zero3)
+      order : (i i' : ℕ) → i < i' → i' < length (instances n)
+          → Earlier (n .direction) (getD (instances n) i zero3) (getD (instances n) i' zero3)
       order i i' k l = number-earlier (h .layout .dirs) i i' zero3 k l

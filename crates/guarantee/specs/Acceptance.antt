@@ -20,11 +20,16 @@ use Rattle.meaning.specs.Points.{Directed, Within}
 use Rattle.meaning.specs.Description.{sizesOf, descriptionOf, streamsOf, streamOf as decoded, noStream, written}
 use Rattle.meaning.specs.Accept.{streamTests, testsFrom, allTests, refusalOf, figures, divisors, accept, Accepts}
 use Rattle.meaning.specs.Answers.{acceptNumber}
-use Rattle.meaning.specs.Conditions.{streamOf, Meets, StreamMeets, AcceptedExactly, Condition, Condition.Board, Condition.Begins, Condition.Sizes-fit, Condition.Long, Condition.Words-fit, Condition.Bounds-fit, Condition.Instances, Condition.Place-rank, Condition.Increment, Condition.Processes, Condition.Rank, Condition.Line, Condition.Move, Condition.Hop, Condition.Order, Condition.Loading, Condition.Touched, Asks, ofStream, conditions, RefusedExactly}
+use Rattle.meaning.specs.Conditions.{streamOf, Meets, StreamMeets, AcceptedExactly, Condition, Condition.Board, Condition.Begins}
+use Rattle.meaning.specs.Conditions.{Condition.Sizes-fit, Condition.Long, Condition.Words-fit, Condition.Bounds-fit, Condition.Instances}
+use Rattle.meaning.specs.Conditions.{Condition.Place-rank, Condition.Increment, Condition.Processes, Condition.Rank, Condition.Line}
+use Rattle.meaning.specs.Conditions.{Condition.Move, Condition.Hop, Condition.Order, Condition.Loading, Condition.Touched, Asks, ofStream}
+use Rattle.meaning.specs.Conditions.{conditions, RefusedExactly}
 use Rattle.lists.specs.Members.{in-each, each-in, in-numbers, numbers-in}
 use Rattle.lists.specs.Rows.{length-numbers}
 use Rattle.network.specs.Declined.{numbers-are}
-use Rattle.guarantee.specs.Refusals.{refuses-less, Tries, Tries.none, Tries.next, numbered, all-hold, none-refuses, first-fails, refuses-first}
+use Rattle.guarantee.specs.Refusals.{refuses-less, Tries, Tries.none, Tries.next, numbered, all-hold, none-refuses, first-fails}
+use Rattle.guarantee.specs.Refusals.{refuses-first}
 use Rattle.guarantee.specs.WordConditions.{refuses2, refuses3, refuses4, directed}
 use Rattle.guarantee.specs.NestConditions.{refuses5, some-instance, refuses6, refuses-rank, refuses-line, line-found, refuses10}
 use Rattle.guarantee.specs.StreamConditions.{says-written, refuses13, refuses14, refuses15, refuses16, refuses17}
@@ -174,7 +179,8 @@ refused-exactly l s k = (
   λ f. back (refusalOf l s) (refuses-first (tries l s) f) (subst (λ (k : ℕ). 0 < k) (f .number) (numbered (f .failed) .0)),
 )
   where
-    go : (b : Bool) → (b ≡ false → refusalOf l s ≡ 0 → ⊥) → cond b (Accepted (figures (descriptionOf s)) (divisors (descriptionOf s))) (Refused (refusalOf l s)) ≡ Refused k
+    go : (b : Bool) → (b ≡ false → refusalOf l s ≡ 0 → ⊥)
+        → cond b (Accepted (figures (descriptionOf s)) (divisors (descriptionOf s))) (Refused (refusalOf l s)) ≡ Refused k
         → (refusalOf l s ≡ k) × (0 < k)
     go true h e = absurd (let z : _≡_ {A = ℕ} 0 1 = cc in omega arith)
     go false h e = let z : refusalOf l s ≡ k = cc in (z, positive (refusalOf l s) z (h refl))
@@ -182,7 +188,8 @@ refused-exactly l s k = (
         positive : (r : ℕ) → r ≡ k → (r ≡ 0 → ⊥) → 0 < k
         positive r e n = omega arith
 
-    back : (r : ℕ) → r ≡ k → 0 < k → cond (eqb r 0) (Accepted (figures (descriptionOf s)) (divisors (descriptionOf s))) (Refused r) ≡ Refused k
+    back : (r : ℕ) → r ≡ k → 0 < k
+        → cond (eqb r 0) (Accepted (figures (descriptionOf s)) (divisors (descriptionOf s))) (Refused r) ≡ Refused k
     back r e h = rw (ne-eqb r 0 (λ g. omega arith)) (ap Refused e)
 
 -- ---- an accepted description has a stream

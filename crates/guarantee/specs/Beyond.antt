@@ -13,7 +13,8 @@ use Rattle.guarantee.specs.Wired.{wired}
 
 module _ (l : Limits) (s : List ℕ) where
   pub step-beyond : (kind number stream : ℕ) (M : Memory)
-      → drop (stateLength (descriptionOf s)) (step l s kind number stream M .memory .state) ≡ drop (stateLength (descriptionOf s)) (M .state)
+      → drop (stateLength (descriptionOf s)) (step l s kind number stream M .memory .state)
+      ≡ drop (stateLength (descriptionOf s)) (M .state)
   step-beyond kind number stream M = call-beyond l s (wired l s) M (CallStep kind number stream)
 
   pub run-beyond : (n : ℕ) (M : Memory)

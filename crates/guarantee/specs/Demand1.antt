@@ -1,4 +1,5 @@
--- Demand 1: the numbers and values of answers, that a declined call changes nothing, and that no word beyond the named length changes. Assumes nothing.
+-- Demand 1: the numbers and values of answers, that a declined call changes nothing, and that no word beyond the named length changes.
+-- Assumes nothing.
 use mathlib.Core.Path.{_≡_, refl, sym, _∙_, subst}
 use mathlib.Core.Bool.{Bool, true, false, cond}
 use mathlib.Core.List.{List, _++_, map}
@@ -15,7 +16,9 @@ use Rattle.meaning.specs.Space.{processes}
 use Rattle.meaning.specs.Description.{descriptionOf}
 use Rattle.meaning.specs.Accept.{refusalOf, accept}
 use Rattle.meaning.specs.Rules.{Memory}
-use Rattle.meaning.specs.Calls.{stateLength, refusedBy, memoryTests, tableTests, startTests, stepTests, readyTests, windowTests, resultTests, plainTests, started, stepOf, readyWord, table, start, step, run, readyCall, window, result, plainRun, rowOf}
+use Rattle.meaning.specs.Calls.{stateLength, refusedBy, memoryTests, tableTests, startTests, stepTests, readyTests, windowTests}
+use Rattle.meaning.specs.Calls.{resultTests, plainTests, started, stepOf, readyWord, table, start, step, run, readyCall, window, result}
+use Rattle.meaning.specs.Calls.{plainRun, rowOf}
 use Rattle.meaning.specs.Demand1.{Values, Declined, NothingChanged, DemandOne}
 use Rattle.network.specs.Declined.{numbers-are}
 use Rattle.guarantee.specs.Beyond.{step-beyond, run-beyond}
@@ -53,12 +56,14 @@ module _ (l : Limits) (s : List ℕ) where
         table = λ rows h. rw (not-zero (refusedBy l s (tableTests l s rows)) (λ e. h (numbers-are l s .table rows ∙ e)));
         start = λ values M h. rw (not-zero (refusedBy l s (startTests l s values M)) (λ e. h (numbers-are l s .start values M ∙ e)));
         step = λ kind number stream M h.
-            rw (not-zero (refusedBy l s (stepTests l s (stepOf l s kind number stream) M)) (λ e. h (numbers-are l s .step kind number stream M ∙ e)));
+            rw (not-zero (refusedBy l s (stepTests l s (stepOf l s kind number stream) M))
+            (λ e. h (numbers-are l s .step kind number stream M ∙ e)));
         run = λ n M h. rw (not-zero (refusedBy l s (memoryTests (descriptionOf s) M)) (λ e. h (numbers-are l s .run n M ∙ e)));
         ready = λ words M h. rw (not-zero (refusedBy l s (readyTests l s words M)) (λ e. h (numbers-are l s .ready words M ∙ e)));
         window = λ pipe side waiting received h. rw (not-zero (refusedBy l s (windowTests l s pipe side waiting received)) h);
         result = λ output M h. rw (not-zero (refusedBy l s (resultTests l s output M)) (λ e. h (numbers-are l s .result output M ∙ e)));
-        plain = λ values output h. rw (not-zero (refusedBy l s (plainTests l s values output)) (λ e. h (numbers-are l s .plain values output ∙ e)));
+        plain = λ values output h.
+            rw (not-zero (refusedBy l s (plainTests l s values output)) (λ e. h (numbers-are l s .plain values output ∙ e)));
       }
 
   -- ---- beyond the named length
@@ -103,5 +108,11 @@ demand-one l s =
       values = values-are l s;
       unchanged = unchanged l s;
       beyond =
-          record { table = table-beyond l s; start = start-beyond l s; step = step-beyond l s; run = run-beyond l s; ready = ready-beyond l s };
+          record {
+            table = table-beyond l s;
+            start = start-beyond l s;
+            step = step-beyond l s;
+            run = run-beyond l s;
+            ready = ready-beyond l s;
+          };
     }

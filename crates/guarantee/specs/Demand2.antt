@@ -1,5 +1,5 @@
--- Demand 2 beside the conditions, for every description that Accept accepts: what Table leaves, that every pass of the loops is run by one processor, and
--- what Plain run leaves. Assumes nothing.
+-- Demand 2 beside the conditions, for every description that Accept accepts: what Table leaves, that every pass of the loops is run by one
+-- processor, and what Plain run leaves. Assumes nothing.
 use mathlib.Core.Path.{_≡_, sym, _∙_, ap, ap₂, subst}
 use mathlib.Core.Bool.{Bool, not, cond}
 use mathlib.Core.List.{List, [], _∷_}
@@ -34,7 +34,8 @@ module _ (l : Limits) (s : List ℕ) (ok : refusalOf l s ≡ 0) where
   not-declined ts e = ap (λ (k : ℕ). cond (eqb k 0) (refusal ts) k) ok ∙ e
 
   of-table : (lent : List Row) → length (processes n) ≤ length lent
-      → (table l s lent .answer ≡ Done) × TableSays (descriptionOf s) lent (table l s lent .rows) × EveryPass (descriptionOf s) (table l s lent .rows)
+      → (table l s lent .answer ≡ Done) × TableSays (descriptionOf s) lent (table l s lent .rows)
+      × EveryPass (descriptionOf s) (table l s lent .rows)
   unfolding table refusal
   of-table lent h =
       let ts : List Test = (18 if ltb (length lent) (length (processes n))) ∷ [] in
@@ -59,8 +60,10 @@ module _ (l : Limits) (s : List ℕ) (ok : refusalOf l s ≡ 0) where
       let m = lengthOf (descriptionOf s) in
       let ts : List Test = (20 if not (eqb (length values) m)) ∷ (28 if not (eqb (length output) m)) ∷ [] in
       let e =
-      not-declined ts (ap₂ (λ (b c : Bool). cond (not b) 20 (cond (not c) 28 0)) (eq-eqb (length values) m h) (eq-eqb (length output) m k)) in
-      ap {B = Written l s} (λ (k : ℕ). record { answer = answer k; output = cond (eqb k 0) (finalValues (descriptionOf s) values) output }) e
+      not-declined ts
+      (ap₂ (λ (b c : Bool). cond (not b) 20 (cond (not c) 28 0)) (eq-eqb (length values) m h) (eq-eqb (length output) m k)) in
+      ap {B = Written l s}
+      (λ (k : ℕ). record { answer = answer k; output = cond (eqb k 0) (finalValues (descriptionOf s) values) output }) e
 
   of-plain : (values output : List ℕ) → length values ≡ lengthOf (descriptionOf s) → length output ≡ lengthOf (descriptionOf s)
       → (plainRun l s values output .answer ≡ Done) × PlainSays (descriptionOf s) values (plainRun l s values output .output)

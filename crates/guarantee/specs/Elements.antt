@@ -1,5 +1,5 @@
--- The numbers of a stream's elements lie in that stream's range: those that an instance touches, and those of its pipes. Assumes a description that is
--- not refused.
+-- The numbers of a stream's elements lie in that stream's range: those that an instance touches, and those of its pipes. Assumes a
+-- description that is not refused.
 use mathlib.Core.Path.{sym, subst}
 use Prim.Native.Nat.{ℕ, _+_, _<_}
 use native.Mathlib.Omega.{arith}
@@ -34,7 +34,11 @@ module _ {d : Description} (laid : Laid d) where
       record {
         from = omega arith;
         below =
-            omega (arith, total-next (λ s. length (elements (d .nest) s)) (streamsOf d) k noStream h, row-lt (boxOf (d .nest) (streamAt d k .map)) p i);
+            omega (
+              arith,
+              total-next (λ s. length (elements (d .nest) s)) (streamsOf d) k noStream h,
+              row-lt (boxOf (d .nest) (streamAt d k .map)) p i,
+            );
       }
 
   pub touched-among : (i k : ℕ) → i < instanceCount d → k < length (streamsOf d) → Among d k (touchedAt d (instanceNumber d i) k)
@@ -44,6 +48,7 @@ module _ {d : Description} (laid : Laid d) where
   pub element-among : (q j : ℕ) → j < elementsOn (arrayOf d) q → Among d (streamOn (arrayOf d) q) (elementAt (arrayOf d) q j)
   element-among q j h =
       let P = pipe-is d q (element-pipe (arrayOf d) q j h) in
-      let i = wired (laid .stream (P .stream) (P .stream-lt)) .element (P .entry) j (P .entry-in) (omega (arith, elements-length laid P)) .0 in
+      let i = wired (laid .stream (P .stream) (P .stream-lt)) .element (P .entry) j (P .entry-in)
+      (omega (arith, elements-length laid P)) .0 in
       subst (λ (k : ℕ). Among d k (elementAt (arrayOf d) q j)) (sym (stream-is laid P))
       (subst (Among d (P .stream)) (sym (element-is laid P j h)) (in-range (P .stream) (P .stream-lt) _ (points-inside _ _ i)))

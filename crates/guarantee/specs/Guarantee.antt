@@ -29,7 +29,8 @@ described l s e =
       instance-is = wired-instance l s e;
       touched-is = λ i k h m. sym (wired-touched l s e i k (omega (arith, streams-are (descriptionOf s))));
       touched-among = λ i k h m.
-          subst (Among (descriptionOf s) k) (sym (wired-number l s e i k)) (touched-among (laid l s e) i k (omega (arith, wired-instances l s e)) m);
+          subst (Among (descriptionOf s) k) (sym (wired-number l s e i k))
+          (touched-among (laid l s e) i k (omega (arith, wired-instances l s e)) m);
       elements-add = list-length (laid l s e);
       element-among = element-among (laid l s e);
       element-waits = λ k h.

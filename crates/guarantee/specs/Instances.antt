@@ -68,7 +68,8 @@ module _ {d : Description} (laid : Laid d) where
   -- the process with a point's number runs that point's instances
   runs-of : {p : V2} → Inside (space n) p → runsOf A (rowIndex (space n) p) ≡ runs n p
   unfolding arrayOf
-  runs-of {p} h = map-at (runs n) (processes n) (rowIndex (space n) p) zero2 [] (row-lt (space n) p h) ∙ ap (runs n) (row-at (space n) p zero2 h)
+  runs-of {p} h =
+      map-at (runs n) (processes n) (rowIndex (space n) p) zero2 [] (row-lt (space n) p h) ∙ ap (runs n) (row-at (space n) p zero2 h)
 
   pub count-at : {p : V2} → Inside (space n) p → countAt A (rowIndex (space n) p) ≡ count n p
   count-at {p} h = ap length (runs-of h) ∙ runs-length (laid .layout) p
@@ -114,7 +115,8 @@ module _ {d : Description} (laid : Laid d) where
   instance-of i h = (
     subst (λ (c : ℕ). firing d i < c) (sym (count-at (owner-inside i h))) (firing-lt (laid .layout) (within i h)),
     position-is is (numbers (instanceCount d)) i 0 (omega (arith, numbers-length 0 (instanceCount d)))
-        (subst (λ (j : ℕ). T (is j)) (sym (number-at i h)) (both (eqb (owner d i) (owner d i)) (eqb (firing d i) (firing d i)) (eqb-refl (owner d i)) (eqb-refl (firing d i))))
+        (subst (λ (j : ℕ). T (is j)) (sym (number-at i h))
+        (both (eqb (owner d i) (owner d i)) (eqb (firing d i) (firing d i)) (eqb-refl (owner d i)) (eqb-refl (firing d i))))
         (λ j l t. not-sooner j l (subst (λ (j : ℕ). T (is j)) (number-at j (omega arith)) t)),
   )
     where
@@ -124,7 +126,8 @@ module _ {d : Description} (laid : Laid d) where
       not-sooner : (j : ℕ) → j < i → T (is j) → ⊥
       not-sooner j l t =
           let e : j ≡ i =
-          one-instance j i (omega arith) h (eqb→eq (owner d j) (owner d i) (and-left (eqb (owner d j) (owner d i)) (eqb (firing d j) (firing d i)) t))
+          one-instance j i (omega arith) h
+          (eqb→eq (owner d j) (owner d i) (and-left (eqb (owner d j) (owner d i)) (eqb (firing d j) (firing d i)) t))
           (eqb→eq (firing d j) (firing d i) (and-right (eqb (owner d j) (owner d i)) (eqb (firing d j) (firing d i)) t)) in
           omega arith
 
@@ -136,7 +139,8 @@ module _ {d : Description} (laid : Laid d) where
       let c = instance-is d (laid .layout) p f l h .0 in
       let w = instance-at (laid .layout) y f c in
       let r = found zero3 (within-in (laid .layout .dirs) (w .within)) in
-      let o : owner d (r .at) ≡ p = ap (λ (x : V3). rowIndex (space n) (placeOf n x)) (r .is) ∙ ap (rowIndex (space n)) (w .to) ∙ point-number p l in
+      let o : owner d (r .at) ≡ p = ap (λ (x : V3). rowIndex (space n) (placeOf n x)) (r .is) ∙ ap (rowIndex (space n)) (w .to)
+      ∙ point-number p l in
       let g : firing d (r .at) ≡ f = ap (firingOf n) (r .is) ∙ firing-instance (laid .layout) y f c in
       let e : instanceOf d p f ≡ r .at = ap₂ (instanceOf d) (sym o) (sym g) ∙ instance-of (r .at) (r .lt) .1 in
       (subst (λ (i : ℕ). i < instanceCount d) (sym e) (r .lt), ap (owner d) e ∙ o, ap (firing d) e ∙ g)

@@ -1,4 +1,5 @@
--- Conditions 5 to 8 and 10, of the bounds, the instances and place, against their tests. What is said of place holds of an index map too. Assumes nothing.
+-- Conditions 5 to 8 and 10, of the bounds, the instances and place, against their tests. What is said of place holds of an index map too.
+-- Assumes nothing.
 use mathlib.Core.Path.{_≡_, sym, _∙_, ap, ap₂, subst}
 use mathlib.Core.Bool.{Bool}
 use Prim.Native.Nat.{ℕ, _≤_}
@@ -28,7 +29,8 @@ use Rattle.geometry.specs.Instances.{instances-length}
 use Rattle.geometry.specs.Boxes.{le-trans, box-has, box-least}
 use Rattle.geometry.specs.RowOrder.{points-length}
 use Rattle.network.specs.Decide.{Says, says-as, says-and}
-use Rattle.guarantee.specs.Refusals.{Refuses, Refuses.met, Refuses.broken, refuses-as, refuses-or, refuses-if, says-eqZ, refuses-less, refuses-lessZ}
+use Rattle.guarantee.specs.Refusals.{Refuses, Refuses.met, Refuses.broken, refuses-as, refuses-or, refuses-if, says-eqZ, refuses-less}
+use Rattle.guarantee.specs.Refusals.{refuses-lessZ}
 
 -- ---- 5 and 6
 
@@ -126,9 +128,11 @@ module _ {n : Nest} (d : Directed n) {x : V3} (w : Within n x) (m : Matrix) wher
   area-is =
       let k = boxOf n m in
       let i = box-has d m w in
-      ap₂ _*ℤ_ (extent-is (k .lo .a) (k .hi .a) (le-trans (i .ina .lo) (i .ina .hi))) (extent-is (k .lo .b) (k .hi .b) (le-trans (i .inb .lo) (i .inb .hi)))
+      ap₂ _*ℤ_ (extent-is (k .lo .a) (k .hi .a) (le-trans (i .ina .lo) (i .ina .hi)))
+      (extent-is (k .lo .b) (k .hi .b) (le-trans (i .inb .lo) (i .inb .hi)))
       ∙ ap pos (sym (points-length k))
 
 pub refuses10 : (l : Limits) {n : Nest} → Directed n → {x : V3} → Within n x → Refuses (FewProcesses l n) (refused10 l n)
 refuses10 l {n} d w =
-    refuses-box d w (n .place) (λ k. area k ≤ℤ pos (l .processes)) (refuses-over (l .processes) (length (processes n)) (area-is d w (n .place)))
+    refuses-box d w (n .place) (λ k. area k ≤ℤ pos (l .processes))
+    (refuses-over (l .processes) (length (processes n)) (area-is d w (n .place)))

@@ -1,4 +1,5 @@
--- How many stops before a place of a stationary stream's pipe keep an element: as many as compute. Assumes a description that is not refused.
+-- How many stops before a place of a stationary stream's pipe keep an element: as many as compute. Assumes a description that is not
+-- refused.
 use mathlib.Core.Path.{_≡_, refl, sym, _∙_, ap}
 use mathlib.Core.Bool.{Bool, true, false, cond, _&&_}
 use mathlib.Core.List.{List, [], _∷_, map}
@@ -31,10 +32,12 @@ module _ {X : Type 0} (stop : X → Stop) where
   kept f g [] zero = refl
   kept f g [] (suc k) = refl
   kept f g (x ∷ l) zero = refl
-  kept f g (x ∷ l) (suc k) = ap (λ (b : Bool). cond b 1 0 + total (λ t. cond (t .keeps) 1 0) (take k (map stop l))) (g x) ∙ go (f x) (kept f g l k)
+  kept f g (x ∷ l) (suc k) =
+      ap (λ (b : Bool). cond b 1 0 + total (λ t. cond (t .keeps) 1 0) (take k (map stop l))) (g x) ∙ go (f x) (kept f g l k)
     where
       go : (b : Bool) → total (λ t. cond (t .keeps) 1 0) (take k (map stop l)) ≡ rank f k l
-          → cond b 1 0 + total (λ t. cond (t .keeps) 1 0) (take k (map stop l)) ≡ length (cond b (x ∷ filter f (take k l)) (filter f (take k l)))
+          → cond b 1 0 + total (λ t. cond (t .keeps) 1 0) (take k (map stop l))
+          ≡ length (cond b (x ∷ filter f (take k l)) (filter f (take k l)))
       go true e = omega arith
       go false e = omega arith
 
@@ -64,7 +67,8 @@ module _ {d : Description} (laid : Laid d) {q : ℕ} (P : PipeIs d q) where
     -- the element that a stop keeps has the index that its soak says
     pub rank-soak : T (stationary n s) → T (computing n (processAt n s (P .entry) k))
         → rankAt A q k ≡ soak n s (processAt n s (P .entry) k)
-    rank-soak t c = still-rank t k ∙ sym (keeping (accepted laid P) t .ranked (P .entry) k (P .entry-in) (omega (arith, stops-length laid P)) c)
+    rank-soak t c =
+        still-rank t k ∙ sym (keeping (accepted laid P) t .ranked (P .entry) k (P .entry-in) (omega (arith, stops-length laid P)) c)
 
     -- and is one of the pipe's
     pub rank-lt : T (stationary n s) → T (computing n (processAt n s (P .entry) k)) → rankAt A q k < elementsOn A q

@@ -1,5 +1,5 @@
--- Refusals against conditions: a test refuses exactly where its condition fails, and a list of tests tried in order answers the number of the first
--- condition that fails. Assumes nothing.
+-- Refusals against conditions: a test refuses exactly where its condition fails, and a list of tests tried in order answers the number of
+-- the first condition that fails. Assumes nothing.
 use mathlib.Core.Path.{_≡_, refl, sym, _∙_, ap, subst}
 use mathlib.Core.Bool.{Bool, true, false, not, _&&_, _||_}
 use mathlib.Core.List.{List, [], _∷_, _++_, List·Memᴰ as In, List·Memᴰ·head as here, List·Memᴰ·tail as there}
@@ -16,7 +16,10 @@ use Rattle.meaning.specs.Space.{eq2}
 use Rattle.meaning.specs.Tests.{Test, _if_, refusal}
 use Rattle.meaning.specs.Points.{Between}
 use Rattle.meaning.specs.Accept.{small}
-use Rattle.meaning.specs.Conditions.{Small, Condition, Condition.Board, Condition.Begins, Condition.Sizes-fit, Condition.Long, Condition.Words-fit, Condition.Bounds-fit, Condition.Instances, Condition.Place-rank, Condition.Increment, Condition.Processes, Condition.Rank, Condition.Line, Condition.Move, Condition.Hop, Condition.Order, Condition.Loading, Condition.Touched, numberOf, First}
+use Rattle.meaning.specs.Conditions.{Small, Condition, Condition.Board, Condition.Begins, Condition.Sizes-fit, Condition.Long}
+use Rattle.meaning.specs.Conditions.{Condition.Words-fit, Condition.Bounds-fit, Condition.Instances, Condition.Place-rank}
+use Rattle.meaning.specs.Conditions.{Condition.Increment, Condition.Processes, Condition.Rank, Condition.Line, Condition.Move}
+use Rattle.meaning.specs.Conditions.{Condition.Hop, Condition.Order, Condition.Loading, Condition.Touched, numberOf, First}
 use Rattle.geometry.specs.Numbers.{eqZ-eq, eq-eqZ, eq2-eq, eq-eq2}
 use Rattle.network.specs.Decide.{Says, Says.holds, Says.fails, says-as, says-and}
 
@@ -148,7 +151,8 @@ module _ {A : Condition → Type 0} where
 
   pub refuses-first : {cs : List Condition} {ts : List Test} {k : ℕ} → Tries A cs ts → First A cs k → refusal ts ≡ k
   unfolding refusal
-  refuses-first {ts} t r = go (r .passed) (r .rest) (r .holds) (r .fails) (subst (λ (l : List Condition). Tries A l ts) (r .order) t) ∙ r .number
+  refuses-first {ts} t r =
+      go (r .passed) (r .rest) (r .holds) (r .fails) (subst (λ (l : List Condition). Tries A l ts) (r .order) t) ∙ r .number
     where
       go : {c : Condition} {ts : List Test} (p l : List Condition) → ((d : Condition) → In d p → A d) → (A c → ⊥)
           → Tries A (p ++ (c ∷ l)) ts → refusal ts ≡ numberOf c

@@ -1,5 +1,5 @@
--- The pipes of an array by number: their stops and elements in the words of the geometry, and how processes stand on them. Assumes a description that
--- is not refused.
+-- The pipes of an array by number: their stops and elements in the words of the geometry, and how processes stand on them. Assumes a
+-- description that is not refused.
 use mathlib.Core.Path.{_≡_, sym, _∙_, ap, ap₂, subst}
 use mathlib.Core.Logic.{_⊎_, inl, inr}
 use mathlib.Core.Bool.{Bool, true, false, not, _&&_}
@@ -20,7 +20,8 @@ use Rattle.meaning.specs.Streams.{stationary, hop}
 use Rattle.meaning.specs.Pipes.{pipe, before, pipeElements, soak}
 use Rattle.meaning.specs.Description.{noStream, streamsOf}
 use Rattle.meaning.specs.Body.{streamStart}
-use Rattle.meaning.specs.Array.{Stop, Pipe, stopOf, pipeOf, Array, arrayOf, countAt, instanceAt, processCount, streamCount, pipeNumber, noStop, pipeAt, stopsOn, elementsOn, stopAt, isStop, pipeThrough, onPipe, placeOn}
+use Rattle.meaning.specs.Array.{Stop, Pipe, stopOf, pipeOf, Array, arrayOf, countAt, instanceAt, processCount, streamCount, pipeNumber}
+use Rattle.meaning.specs.Array.{noStop, pipeAt, stopsOn, elementsOn, stopAt, isStop, pipeThrough, onPipe, placeOn}
 use Rattle.meaning.specs.Rules.{processOn, streamOn}
 use Rattle.meaning.specs.Points.{Inside}
 use Rattle.lists.specs.Members.{map-at, yes-any}
@@ -92,7 +93,8 @@ module _ {d : Description} (laid : Laid d) where
         → elementOn A q j ≡ streamStart n (streamsOf d) (P .stream) + rowIndex (boxOf n (s .map)) (elementAt n s y j)
     element-is j h =
         ap (λ (r : Pipe). getD (r .elements) j 0) (P .is)
-        ∙ map-at (λ p. streamStart n (streamsOf d) (P .stream) + rowIndex (boxOf n (s .map)) p) (pipeElements n s y) j zero2 0 (omega (arith, elements-length))
+        ∙ map-at (λ p. streamStart n (streamsOf d) (P .stream) + rowIndex (boxOf n (s .map)) p) (pipeElements n s y) j zero2 0
+        (omega (arith, elements-length))
 
     pub some-element : 0 < elementsOn A q
     some-element = omega (arith, elements-length, wired accepted .enters y (P .entry-in) .2)
@@ -138,7 +140,8 @@ module _ {d : Description} (laid : Laid d) where
       soak-null : T (not (computing n p)) → stopAt A q k .soak ≡ elementsOn A q
       soak-null t =
           ap (λ (t : Stop). t .soak) stop-is ∙ no-cond (computing n p) (soak n s p) (length (pipeElements n s p)) t
-          ∙ ap length (same-elements accepted (entries-entry accepted (P .entry-in) .inside) stop-inside (at-pipe accepted y k zero2 on-pipe))
+          ∙ ap length
+          (same-elements accepted (entries-entry accepted (P .entry-in) .inside) stop-inside (at-pipe accepted y k zero2 on-pipe))
           ∙ sym elements-length
 
       -- of a moving stream no stop keeps; of a stationary one those keep that compute

@@ -30,7 +30,8 @@ use Rattle.geometry.specs.Instances.{within-in}
 use Rattle.geometry.specs.Boxes.{points-inside}
 use Rattle.geometry.specs.Accept.{touch, line-onward, onward-not}
 use Rattle.network.specs.Decide.{Says, Says.holds, Says.fails, says-and}
-use Rattle.guarantee.specs.Refusals.{Refuses, Refuses.met, Refuses.broken, refuses-as, refuses-not, says-by, says-eq2, says-small, refuses-less}
+use Rattle.guarantee.specs.Refusals.{Refuses, Refuses.met, Refuses.broken, refuses-as, refuses-not, says-by, says-eq2, says-small}
+use Rattle.guarantee.specs.Refusals.{refuses-less}
 use Rattle.guarantee.specs.NestConditions.{refuses-each, refuses-box}
 
 -- some line has k for a word of its own
@@ -101,7 +102,8 @@ module _ {n : Nest} (s : Stream) (h : IsLine n (s .map) (line n s)) where
 -- ---- 17
 
 pub refuses17 : {n : Nest} → Directed n → {x : V3} → Within n x → (s : Stream) → Refuses (AllTouched n s) (refused17 n s)
-refuses17 {n} d w s = refuses-box d w (s .map) (λ k. (e : V2) → Inside k e → (x : V3) × At n (s .map) e x) (go (refused17 n s) (λ t. t) (λ t. t))
+refuses17 {n} d w s =
+    refuses-box d w (s .map) (λ k. (e : V2) → Inside k e → (x : V3) × At n (s .map) e x) (go (refused17 n s) (λ t. t) (λ t. t))
   where
     Full : Type 0
     Full = (e : V2) → Inside (boxOf n (s .map)) e → (x : V3) × At n (s .map) e x

@@ -1,5 +1,5 @@
--- What the rows of the table say: point, count, first and last of each process and its words for each stream; the rows that Table leaves. Assumes a
--- description that is not refused.
+-- What the rows of the table say: point, count, first and last of each process and its words for each stream; the rows that Table leaves.
+-- Assumes a description that is not refused.
 use mathlib.Core.Path.{_≡_, refl, sym, _∙_, ap, subst, subst₂}
 use mathlib.Core.Logic.{_⊎_, inl, inr}
 use mathlib.Core.Bool.{not, cond}
@@ -26,7 +26,8 @@ use Rattle.meaning.specs.Accept.{refusalOf}
 use Rattle.meaning.specs.Conditions.{streamOf}
 use Rattle.meaning.specs.Array.{rowSoak}
 use Rattle.meaning.specs.Calls.{byStream, rowOf}
-use Rattle.meaning.specs.Demand2.{ProcessSpace, InstancesOf, StreamWords, ComputingRow, NullWords, NullRow, RowSays, noRow, rowAt, TableSays}
+use Rattle.meaning.specs.Demand2.{ProcessSpace, InstancesOf, StreamWords, ComputingRow, NullWords, NullRow, RowSays, noRow, rowAt}
+use Rattle.meaning.specs.Demand2.{TableSays}
 use Rattle.lists.specs.Members.{map-at}
 use Rattle.lists.specs.Stores.{replicated}
 use Rattle.geometry.specs.Numbers.{decide, yes-cond, no-cond}
@@ -107,12 +108,14 @@ module _ (l : Limits) (s : List ℕ) (ok : refusalOf l s ≡ 0) where
   -- a stream's word in a row, and the zeros after them
   word-at : (f : Stream → ℕ) (i : ℕ) → i < d .sizes .streams → getD (byStream l s f) i 0 ≡ f (streamOf d i)
   word-at f i h =
-      List·getD-append (map f (streamsOf d)) (replicate (6 - length (streamsOf d)) 0) 0 i (omega (arith, streams-are, length-map (streamsOf d) f))
+      List·getD-append (map f (streamsOf d)) (replicate (6 - length (streamsOf d)) 0) 0 i
+      (omega (arith, streams-are, length-map (streamsOf d) f))
       ∙ map-at f (streamsOf d) i noStream 0 (omega (arith, streams-are))
 
   word-past : (f : Stream → ℕ) (i : ℕ) → d .sizes .streams ≤ i → getD (byStream l s f) i 0 ≡ 0
   word-past f i h =
-      ap (λ (k : ℕ). getD (byStream l s f) k 0) (sum (length (map f (streamsOf d))) i (omega (arith, streams-are, length-map (streamsOf d) f)))
+      ap (λ (k : ℕ). getD (byStream l s f) k 0)
+      (sum (length (map f (streamsOf d))) i (omega (arith, streams-are, length-map (streamsOf d) f)))
       ∙ getD-append-add (map f (streamsOf d)) (replicate (6 - length (streamsOf d)) 0) (i - length (map f (streamsOf d))) 0
       ∙ replicated 0 (6 - length (streamsOf d)) (i - length (map f (streamsOf d)))
     where
@@ -191,14 +194,16 @@ module _ (l : Limits) (s : List ℕ) (ok : refusalOf l s ≡ 0) where
 
     row-is : (p : ℕ) → p < length (processes n) → rowAt left p ≡ rowOf l s (getD (processes n) p zero2)
     row-is p h =
-        List·getD-append (map (rowOf l s) (processes n)) (drop (length (processes n)) lent) noRow p (omega (arith, length-map (processes n) (rowOf l s)))
+        List·getD-append (map (rowOf l s) (processes n)) (drop (length (processes n)) lent) noRow p
+        (omega (arith, length-map (processes n) (rowOf l s)))
         ∙ map-at (rowOf l s) (processes n) p zero2 noRow h
 
     point-inside : (p : ℕ) → p < length (processes n) → Inside (space n) (getD (processes n) p zero2)
     point-inside p h = points-inside (space n) (getD (processes n) p zero2) (getD-in (processes n) p zero2 h)
 
     pub rows-are : (p : ℕ) → p < length (processes n) → RowOf n (getD (processes n) p zero2) (rowAt left p)
-    rows-are p h = subst (RowOf n (getD (processes n) p zero2)) (sym (row-is p h)) (record { point = refl; count = refl; first = refl; last = refl })
+    rows-are p h =
+        subst (RowOf n (getD (processes n) p zero2)) (sym (row-is p h)) (record { point = refl; count = refl; first = refl; last = refl })
 
     pub table-says : TableSays d lent left
     table-says =
@@ -209,7 +214,9 @@ module _ (l : Limits) (s : List ℕ) (ok : refusalOf l s ≡ 0) where
           long =
               length-append (map (rowOf l s) (processes n)) (drop (length (processes n)) lent)
               ∙ omega (arith, length-map (processes n) (rowOf l s), length-drop (length (processes n)) lent);
-          rows = λ p h. subst (RowSays d (getD (processes n) p zero2)) (sym (row-is p h)) (row-says (getD (processes n) p zero2) (point-inside p h));
+          rows = λ p h. subst (RowSays d (getD (processes n) p zero2)) (sym (row-is p h))
+              (row-says (getD (processes n) p zero2) (point-inside p h));
           beyond =
-              drop-at (map (rowOf l s) (processes n)) (drop (length (processes n)) lent) (length (processes n)) (length-map (processes n) (rowOf l s));
+              drop-at (map (rowOf l s) (processes n)) (drop (length (processes n)) lent) (length (processes n))
+              (length-map (processes n) (rowOf l s));
         }

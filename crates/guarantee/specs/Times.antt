@@ -1,5 +1,5 @@
--- The times of the firings: their steps, counted from so early a step on that none is negative and that what stays is loaded before. Assumes a
--- description that is not refused.
+-- The times of the firings: their steps, counted from so early a step on that none is negative and that what stays is loaded before.
+-- Assumes a description that is not refused.
 use mathlib.Core.Path.{_≡_, refl, sym, _∙_, ap, ap₂, subst}
 use mathlib.Core.Logic.{_⊎_, inl, inr}
 use mathlib.Core.Bool.{Bool, false, not}
@@ -37,7 +37,8 @@ use Rattle.network.specs.Cases.{Order, less, atLeast, order}
 use Rattle.network.specs.Wiring.{Course, moving, stationary as still}
 use Rattle.lists.specs.Sums.{total-member}
 use Rattle.guarantee.specs.Instances.{counted-lt}
-use Rattle.guarantee.specs.Stops.{some-count, null-count, accepted, hop-of, stops-length, stop-inside, stop-place, count-is, run-is, soak-computing, moving-keeps, still-keeps}
+use Rattle.guarantee.specs.Stops.{some-count, null-count, accepted, hop-of, stops-length, stop-inside, stop-place, count-is, run-is}
+use Rattle.guarantee.specs.Stops.{soak-computing, moving-keeps, still-keeps}
 use Rattle.guarantee.specs.Ranks.{still-ranks}
 
 module _ (d : Description) where
@@ -85,8 +86,8 @@ module _ {d : Description} (laid : Laid d) where
           → stepOf n (instanceAt A p f) ≡ stepOf n (first n (getD (processes n) p zero2)) +ℤ pos f *ℤ pos (pace d)
       step-at f c =
           let y = getD (processes n) p zero2 in
-          ap (stepOf n) (instance-is d (laid .layout) p f (counted-lt laid p f c) c .1) ∙ dot-shift (n .step) (first n y) (increment n) (pos f)
-          ∙ ap (λ (w : ℤ). stepOf n (first n y) +ℤ pos f *ℤ w) (sym pace-is)
+          ap (stepOf n) (instance-is d (laid .layout) p f (counted-lt laid p f c) c .1)
+          ∙ dot-shift (n .step) (first n y) (increment n) (pos f) ∙ ap (λ (w : ℤ). stepOf n (first n y) +ℤ pos f *ℤ w) (sym pace-is)
 
       rises : (o σ i j : ℕ) → i ≤ j → (a : ℤ) → up (pos o +ℤ (a +ℤ pos i *ℤ pos σ)) ≤ up (pos o +ℤ (a +ℤ pos j *ℤ pos σ))
       rises o σ i j l = linear 0 1 _ λ p m. simp (gaps, parts) (omega (arith, mul-le-mul-right σ l))
@@ -101,7 +102,10 @@ module _ {d : Description} (laid : Laid d) where
     -- ---- a moving stream's pipe
 
     moving-early : T (not (stationary n s)) → (b : ℕ) × Early d q b
-    moving-early t = (natAbs (c .theta) + hop n s, λ o l. moving (up (pos o +ℤ c .theta) - hop n s) positive (λ k h. moving-keeps laid P k h t) (at-stop o l))
+    moving-early t = (
+      natAbs (c .theta) + hop n s,
+      λ o l. moving (up (pos o +ℤ c .theta) - hop n s) positive (λ k h. moving-keeps laid P k h t) (at-stop o l),
+    )
       where
         c : Clock n s y
         c = flowing (accepted laid P) t .clocked y (P .entry-in)
@@ -130,7 +134,8 @@ module _ {d : Description} (laid : Laid d) where
                 ≡ c .theta +ℤ pos k *ℤ pos (hop n s) +ℤ pos (stopAt A q k .soak + m) *ℤ pos (pace d) =
                 ap (stepOf n) (run-is laid P k h m g)
                 ∙ c .step p (stop-inside laid P k h) (at-pipe (accepted laid P) y k zero2 (omega (arith, stops-length laid P))) u m
-                ∙ ap₂ (λ (a : ℕ) (w : ℤ). c .theta +ℤ pos a *ℤ pos (hop n s) +ℤ pos (soak n s p + m) *ℤ w) (stop-place laid P k h) (sym pace-is)
+                ∙ ap₂ (λ (a : ℕ) (w : ℤ). c .theta +ℤ pos a *ℤ pos (hop n s) +ℤ pos (soak n s p + m) *ℤ w)
+                (stop-place laid P k h) (sym pace-is)
                 ∙ ap (λ (a : ℕ). c .theta +ℤ pos k *ℤ pos (hop n s) +ℤ pos (a + m) *ℤ pos (pace d)) (sym (soak-computing laid P k h u)) in
                 ap (λ (w : ℤ). up (pos o +ℤ w)) r
                 ∙ natural o (hop n s) k (stopAt A q k .soak + m) (pace d) (c .theta) l
@@ -155,14 +160,16 @@ module _ {d : Description} (laid : Laid d) where
         rests : (k : ℕ) → k < stopsOn A q → stopAt A q k .keeps ≡ false → countAt A (processOn A q k) ≡ 0
         rests k h e =
             count-is laid P k h
-            ∙ null-count n (processAt n s y k) (subst (λ (v : Bool). T (not v)) (still-keeps laid P k h t) (subst (λ (v : Bool). T (not v)) (sym e) tt))
+            ∙ null-count n (processAt n s y k)
+            (subst (λ (v : Bool). T (not v)) (still-keeps laid P k h t) (subst (λ (v : Bool). T (not v)) (sym e) tt))
 
         within-reach : (k m : ℕ) → k < stopsOn A q → m < countAt A (processOn A q k)
             → natAbs (stepOf n (instanceAt A (processOn A q k) m)) ≤ reach
         within-reach k m h g =
             rw (run-is laid P k h m g)
             (total-member (λ x. natAbs (stepOf n x))
-            (within-in (laid .layout .dirs) (instance-at (laid .layout) (processAt n s y k) m (omega (arith, count-is laid P k h)) .within)))
+            (within-in (laid .layout .dirs)
+            (instance-at (laid .layout) (processAt n s y k) m (omega (arith, count-is laid P k h)) .within)))
 
         between : (o c : ℕ) (a : ℤ) → natAbs a ≤ c → c ≤ o → (o ≤ up (pos o +ℤ a) + c) × (up (pos o +ℤ a) ≤ o + c)
         between o c a h k = (above o c a h k, below o c a h k)

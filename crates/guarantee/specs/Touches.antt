@@ -1,5 +1,5 @@
--- The elements by number that the instances touch: those that their processes use, and in the written order where a stream is written. Assumes a
--- description that is not refused.
+-- The elements by number that the instances touch: those that their processes use, and in the written order where a stream is written.
+-- Assumes a description that is not refused.
 use mathlib.Core.Path.{_≡_, sym, _∙_, ap, ap₂, subst}
 use mathlib.Core.Logic.{_⊎_, inl, inr}
 use mathlib.Core.Bool.{Bool, true, false, not, cond}
@@ -35,7 +35,8 @@ use Rattle.geometry.specs.Arrays.{streamAt, PipeIs, pipe-is, pipe-of, one-numbe
 use Rattle.network.specs.Turns.{Before, upstream, sooner}
 use Rattle.network.specs.Wiring.{kindOf, netOf, rankAt, usedIndex, UsedAt, stop-pipe, element-pipe, elementAt as elementOn}
 use Rattle.guarantee.specs.Instances.{instanceNumber, instanceCount, owner, firing, within, owner-inside}
-use Rattle.guarantee.specs.Stops.{some-count, accepted, stream-is, stops-length, elements-length, element-is, process-is, stop-inside, stop-entry, count-is, soak-computing, moving-keeps, still-keeps, uses-within}
+use Rattle.guarantee.specs.Stops.{some-count, accepted, stream-is, stops-length, elements-length, element-is, process-is, stop-inside}
+use Rattle.guarantee.specs.Stops.{stop-entry, count-is, soak-computing, moving-keeps, still-keeps, uses-within}
 use Rattle.guarantee.specs.Ranks.{rank-soak, rank-lt}
 
 -- ---- the element that an instance touches
@@ -59,7 +60,8 @@ touched-from n e (s ∷ ss) x (suc k) h =
 pub touched-by : (d : Description) (x : V3) (k : ℕ) → k < length (streamsOf d) → getD (touchedBy d x) k 0 ≡ touchedAt d x k
 touched-by d x k h =
     touched-from (d .nest) 0 (streamsOf d) x k h
-    ∙ ap (λ (c : ℕ). c + rowIndex (boxOf (d .nest) (streamAt d k .map)) (image (streamAt d k .map) x)) (zero-add (streamStart (d .nest) (streamsOf d) k))
+    ∙ ap (λ (c : ℕ). c + rowIndex (boxOf (d .nest) (streamAt d k .map)) (image (streamAt d k .map) x))
+    (zero-add (streamStart (d .nest) (streamsOf d) k))
 
 module _ {d : Description} (laid : Laid d) where
   abbrev n : Nest
@@ -102,7 +104,8 @@ module _ {d : Description} (laid : Laid d) where
           one-number (boxOf n (s .map)) (box-has (laid .layout .dirs) (s .map) (within laid i hi))
           (points-inside (boxOf n (s .map)) (elementAt n s y j)
           (wired (accepted laid P) .element y j (P .entry-in) (omega (arith, elements-length laid P)) .0))
-          (add-left-cancel (streamStart n (streamsOf d) (P .stream)) (sym (ap (touchedAt d x) (stream-is laid P)) ∙ e ∙ element-is laid P j h))
+          (add-left-cancel (streamStart n (streamsOf d) (P .stream))
+          (sym (ap (touchedAt d x) (stream-is laid P)) ∙ e ∙ element-is laid P j h))
 
       -- the index that a stop uses, by whether it keeps
       index-kept : (k : ℕ) → stopAt A q k .keeps ≡ true → usedIndex A q k (firing d i) ≡ rankAt A q k
@@ -158,8 +161,12 @@ module _ {d : Description} (laid : Laid d) where
 
         use-on : place < stopsOn A q
         use-on =
-            omega
-            (arith, stops-length laid P, wired (accepted laid P) .on (placeOf n x) owner-computing .1, ap (λ (w : V2). length (pipe n s w)) here)
+            omega (
+              arith,
+              stops-length laid P,
+              wired (accepted laid P) .on (placeOf n x) owner-computing .1,
+              ap (λ (w : V2). length (pipe n s w)) here,
+            )
 
         use-at : processAt n s y place ≡ placeOf n x
         use-at = ap (λ (w : V2). processAt n s w place) (sym here) ∙ wired (accepted laid P) .on (placeOf n x) owner-computing .2
@@ -177,7 +184,8 @@ module _ {d : Description} (laid : Laid d) where
         use-index : T (not (stationary n s)) → j ≡ stopAt A q place .soak + firing d i
         use-index t =
             sym (ap (λ (a : ℕ). a + firing d i) use-soak
-            ∙ flowing (accepted laid P) t .touches-element x y j (within laid i hi) (P .entry-in) (omega (arith, elements-length laid P)) e .1)
+            ∙ flowing (accepted laid P) t .touches-element x y j (within laid i hi) (P .entry-in)
+            (omega (arith, elements-length laid P)) e .1)
 
         used-index : usedIndex A q place (firing d i) ≡ j
         used-index = go (decide (stationary n s))
@@ -186,7 +194,8 @@ module _ {d : Description} (laid : Laid d) where
             go (inl t) =
                 index-kept place (still-keeps laid P place use-on t ∙ is-true (computing n (processAt n s y place)) use-computing)
                 ∙ rank-soak laid P place use-on t use-computing ∙ ap (soak n s) use-at
-                ∙ keeping (accepted laid P) t .touches-kept x y j (within laid i hi) (P .entry-in) (omega (arith, elements-length laid P)) e .1
+                ∙ keeping (accepted laid P) t .touches-kept x y j (within laid i hi) (P .entry-in)
+                (omega (arith, elements-length laid P)) e .1
             go (inr t) = index-through place (moving-keeps laid P place use-on t) ∙ sym (use-index t)
 
   -- ---- by number alone
@@ -232,7 +241,8 @@ module _ {d : Description} (laid : Laid d) where
           sooner (ap (rowIndex (space n)) (r .0)) (r .1)
       go (inr t) =
           let v = wired (laid .stream k l)
-          .home (image (s .map) x) (inside-points (boxOf n (s .map)) (image (s .map) x) (box-has (laid .layout .dirs) (s .map) (within laid i hi))) in
+          .home (image (s .map) x)
+          (inside-points (boxOf n (s .map)) (image (s .map) x) (box-has (laid .layout .dirs) (s .map) (within laid i hi))) in
           let y = homeOf n s (image (s .map) x) in
           let j = indexOf n s (image (s .map) x) in
           let r = pipe-of d k y l (v .0) in

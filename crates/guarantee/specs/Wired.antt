@@ -1,4 +1,5 @@
--- The wiring that the network asks of the geometry, for every description that Accept does not refuse, whatever the limits. Assumes nothing.
+-- The wiring that the network asks of the geometry, for every description that Accept does not refuse, whatever the limits.
+-- Assumes nothing.
 use mathlib.Core.Path.{_≡_, refl, sym, _∙_, subst}
 use mathlib.Core.List.{List}
 use Prim.Native.Nat.{ℕ, _*_, _<_}
@@ -17,7 +18,8 @@ use Rattle.geometry.specs.Arrays.{pipe-is}
 use Rattle.network.specs.Wiring.{writes, Wired, stop-pipe}
 use Rattle.network.specs.Plain.{streams-are}
 use Rattle.guarantee.specs.Acceptance.{some-stream}
-use Rattle.guarantee.specs.Instances.{instanceNumber, instanceCount, owner, firing, instanceOf, instance-of, instance-back, instance-same, instances-add}
+use Rattle.guarantee.specs.Instances.{instanceNumber, instanceCount, owner, firing, instanceOf, instance-of, instance-back}
+use Rattle.guarantee.specs.Instances.{instance-same, instances-add}
 use Rattle.guarantee.specs.Stops.{some-element, uses-within, process-lt, stream-lt, hop-is, pipe-through, place-is, on-all}
 use Rattle.guarantee.specs.Touches.{touchedAt, touched-by, touch, find, meets}
 use Rattle.guarantee.specs.Times.{timeFrom, pace, pace-positive, time-rises, early}

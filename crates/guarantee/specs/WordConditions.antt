@@ -1,4 +1,5 @@
--- Conditions 1 to 4, of the bytes, the sizes and the words, against their tests; what the fourth leaves: directions of 1 or −1. Assumes nothing.
+-- Conditions 1 to 4, of the bytes, the sizes and the words, against their tests; what the fourth leaves: directions of 1 or −1.
+-- Assumes nothing.
 use mathlib.Core.Path.{_≡_, refl, sym, _∙_, ap, subst}
 use mathlib.Core.Logic.{_⊎_, inl, inr}
 use mathlib.Core.Bool.{Bool, true, false, cond, _||_}
@@ -16,7 +17,8 @@ use Rattle.meaning.specs.declared.Sizes.{Sizes}
 use Rattle.meaning.specs.Lists.{every, numbersFrom}
 use Rattle.meaning.specs.Points.{Direction, Direction.onward, Direction.back, Between, Directed}
 use Rattle.meaning.specs.Operations.{lastOperation}
-use Rattle.meaning.specs.Description.{matrixWords, leftAt, rightAt, directionAt, stepAt, placeAt, mapAt, loadingAt, lineWords, lineAt, wordsOf, lineRange, inRange, nestOf, refused2, refused3, refused4}
+use Rattle.meaning.specs.Description.{matrixWords, leftAt, rightAt, directionAt, stepAt, placeAt, mapAt, loadingAt, lineWords, lineAt}
+use Rattle.meaning.specs.Description.{wordsOf, lineRange, inRange, nestOf, refused2, refused3, refused4}
 use Rattle.meaning.specs.Conditions.{SizesFit, wordTotal, WordsFit}
 use Rattle.lists.specs.Rows.{every-numbers, numbers-every}
 use Rattle.network.specs.Cases.{Order, less, atLeast, order}
@@ -29,7 +31,8 @@ pub refuses2 : (z : Sizes) → Refuses (SizesFit z) (refused2 z)
 refuses2 z =
     refuses-as (λ p. record { loops = p .0 .0; streams = p .0 .1; lines = p .1 }) (λ f. ((f .loops, f .streams), f .lines))
     (refuses-or (refuses-or (refuses-not (says-and (says-le 2 (z .loops)) (says-le (z .loops) 3)))
-    (refuses-not (says-and (says-le 1 (z .streams)) (says-le (z .streams) 6)))) (refuses-not (says-and (says-le 1 (z .lines)) (says-le (z .lines) 8))))
+    (refuses-not (says-and (says-le 1 (z .streams)) (says-le (z .streams) 6))))
+    (refuses-not (says-and (says-le 1 (z .lines)) (says-le (z .lines) 8))))
 
 pub refuses3 : (s : List ℕ) (z : Sizes) → Refuses (length s ≡ 4 * wordTotal z) (refused3 s z)
 refuses3 s z =
@@ -73,7 +76,8 @@ module _ (z : Sizes) (k : ℕ) (w : ℤ) where
   in-directions a b = rw (le-ltb _ _ a, lt-ltb _ _ b) (says-direction w)
 
   in-steps : stepAt z ≤ k → k < placeAt z → Says (Between (negsuc 7) (pos 8) w) (inRange z k w)
-  in-steps b c = let a : directionAt z ≤ k = omega arith in rw (le-ltb _ _ a, le-ltb _ _ b, lt-ltb _ _ c) (says-between (negsuc 7) (pos 8) w)
+  in-steps b c = let a : directionAt z ≤ k = omega arith in
+      rw (le-ltb _ _ a, le-ltb _ _ b, lt-ltb _ _ c) (says-between (negsuc 7) (pos 8) w)
 
   module _ (c : placeAt z ≤ k) where
     in-matrices : k < loadingAt z 0 → Says (Between (negsuc 3) (pos 4) w) (inRange z k w)
@@ -117,7 +121,8 @@ module _ (s : List ℕ) (z : Sizes) where
   place-word : (j : ℕ) → j < matrixWords z → Says (Between (negsuc 3) (pos 4) (wordAt s (placeAt z + j))) (ok (placeAt z + j))
   place-word j h = in-matrices z (placeAt z + j) _ (omega arith) (omega (arith, parts .0))
 
-  map-word : (i j : ℕ) → i < z .streams → j < matrixWords z → Says (Between (negsuc 3) (pos 4) (wordAt s (mapAt z i + j))) (ok (mapAt z i + j))
+  map-word : (i j : ℕ) → i < z .streams → j < matrixWords z
+      → Says (Between (negsuc 3) (pos 4) (wordAt s (mapAt z i + j))) (ok (mapAt z i + j))
   map-word i j g h = in-matrices z (mapAt z i + j) _ (omega arith) (omega (arith, part g (matrixWords z)))
 
   loading-word : (i j : ℕ) → i < z .streams → j < z .loops - 1
@@ -129,12 +134,14 @@ module _ (s : List ℕ) (z : Sizes) where
   line-word {A} i j h r =
       let k : ℕ = lineAt z i + j in
       let e : (k - lineAt z 0) % lineWords ≡ j = omega arith in
-      subst (Says A) (sym (in-lines z k (wordAt s k) (omega arith) (omega arith) (omega arith) ∙ ap (λ (n : ℕ). lineRange z n (wordAt s k)) e)) r
+      subst (Says A)
+      (sym (in-lines z k (wordAt s k) (omega arith) (omega arith) (omega arith) ∙ ap (λ (n : ℕ). lineRange z n (wordAt s k)) e)) r
 
   pub operation-word : (i : ℕ) → Says (Between (pos 0) (pos lastOperation) (wordAt s (lineAt z i))) (ok (lineAt z i))
   operation-word i =
       let e : lineAt z i + 0 ≡ lineAt z i = omega arith in
-      subst (λ (k : ℕ). Says (Between (pos 0) (pos lastOperation) (wordAt s k)) (ok k)) e (line-word i 0 (omega arith) (says-between (pos 0) (pos lastOperation) _))
+      subst (λ (k : ℕ). Says (Between (pos 0) (pos lastOperation) (wordAt s k)) (ok k)) e
+      (line-word i 0 (omega arith) (says-between (pos 0) (pos lastOperation) _))
 
   -- target, first and second operand
   operand-word : (i j : ℕ) → 1 ≤ j → j < 4 → Says (Between (pos 0) (pos (z .streams + 1)) (wordAt s (lineAt z i + j))) (ok (lineAt z i + j))
@@ -162,7 +169,8 @@ module _ (s : List ℕ) (z : Sizes) where
         step = λ j h. said (step-word j h) (f (stepAt z + j) (omega arith) (omega (arith, parts)));
         place = λ j h. said (place-word j h) (f (placeAt z + j) (omega arith) (omega (arith, parts)));
         map = λ i j g h. said (map-word i j g h) (f (mapAt z i + j) (omega arith) (omega (arith, parts, part g (matrixWords z))));
-        loading = λ i j g h. said (loading-word i j g h) (f (loadingAt z i + j) (omega arith) (omega (arith, parts, part g (z .loops - 1))));
+        loading =
+            λ i j g h. said (loading-word i j g h) (f (loadingAt z i + j) (omega arith) (omega (arith, parts, part g (z .loops - 1))));
         operation = λ i g. said (operation-word i) (f (lineAt z i) (omega arith) (omega arith));
         target = λ i g. said (operand-word i 1 (omega arith) (omega arith)) (f (lineAt z i + 1) (omega arith) (omega arith));
         first = λ i g. said (operand-word i 2 (omega arith) (omega arith)) (f (lineAt z i + 2) (omega arith) (omega arith));
@@ -181,7 +189,8 @@ module _ (s : List ℕ) (z : Sizes) where
       In-range k = ok k ≡ true
 
       line : (i j : ℕ) → i < z .lines → j < lineWords → In-range (lineAt z i + j)
-      line i zero g h = let e : lineAt z i ≡ lineAt z i + 0 = omega arith in subst In-range e (says-true (operation-word i) (f .operation i g))
+      line i zero g h = let e : lineAt z i ≡ lineAt z i + 0 = omega arith in
+          subst In-range e (says-true (operation-word i) (f .operation i g))
       line i (suc zero) g h = says-true (operand-word i 1 (omega arith) (omega arith)) (f .target i g)
       line i (suc (suc zero)) g h = says-true (operand-word i 2 (omega arith) (omega arith)) (f .first i g)
       line i (suc (suc (suc zero))) g h = says-true (operand-word i 3 (omega arith) (omega arith)) (f .second i g)

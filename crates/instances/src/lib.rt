@@ -1,4 +1,5 @@
-// The instance that a process runs as its f-th: its first one, and f times the increment on from there. In specs/, Runs says when the numbers fit.
+// The instance that a process runs as its f-th: its first one, and f times the increment on from there. In specs/, Runs says when the
+// numbers fit.
 ghost use mathlib.Core.Path.{_≡_};
 ghost use Rattle.meaning.specs.Space.{first};
 ghost use Rattle.geometry.specs.Processes.{runAt};

@@ -1,5 +1,5 @@
--- ℤ as differences of naturals: `gap p m` is p − m, shut, so that `simp` sees it. `simp gaps` turns sums, products, negations and comparisons
--- of such differences into facts on ℕ, which `omega` closes. Assumes nothing.
+-- ℤ as differences of naturals: `gap p m` is p − m, shut, so that `simp` sees it. `simp gaps` turns sums, products, negations and
+-- comparisons of such differences into facts on ℕ, which `omega` closes. Assumes nothing.
 use mathlib.Core.Path.{_≡_, refl, _∙_, ap, ap₂, subst}
 use mathlib.Core.Logic.{_↔_}
 use mathlib.Core.Bool.{Bool, true, false, not, cond}
@@ -71,7 +71,8 @@ Is-add {y = negsuc a} {z = negsuc b} h k = record { is = omega arith }
 -- a product of differences: from a + m ≡ p + b and c + n ≡ q + d
 mul-diff : (a b c d p m q n : ℕ) → a + m ≡ p + b → c + n ≡ q + d
     → (a * c + b * d) + (p * n + m * q) ≡ (p * q + m * n) + (a * d + b * c)
-mul-diff a b c d p m q n h k = omega (arith, ap (λ (x : ℕ). x * c) h, ap (λ (x : ℕ). x * d) h, ap (λ (x : ℕ). p * x) k, ap (λ (x : ℕ). m * x) k)
+mul-diff a b c d p m q n h k =
+    omega (arith, ap (λ (x : ℕ). x * c) h, ap (λ (x : ℕ). x * d) h, ap (λ (x : ℕ). p * x) k, ap (λ (x : ℕ). m * x) k)
 
 neg-pos-is : (n : ℕ) → Is (negℤ (pos n)) 0 n
 neg-pos-is n = Is-neg (Is-pos n)

@@ -46,5 +46,6 @@ in-the-middle a b c h k = omega (arith, zrules, sum-is a (pos 1))
 code-fits : (x y : ℤ) → Abs x 64 → Abs y 8 → SFits w32 (toZ w32 (ofZ w32 x) *ℤ toZ w32 (ofZ w32 y))
 code-fits x y h k = fits tt (mul (at tt h) (at tt k))
 
-code-is : (x y : ℤ) → Abs x 64 → Abs y 8 → toZ w32 (ofZ w32 (toZ w32 (ofZ w32 x) *ℤ toZ w32 (ofZ w32 y))) +ℤ toZ w32 (ofZ w32 x) ≡ x *ℤ y +ℤ x
+code-is : (x y : ℤ) → Abs x 64 → Abs y 8
+    → toZ w32 (ofZ w32 (toZ w32 (ofZ w32 x) *ℤ toZ w32 (ofZ w32 y))) +ℤ toZ w32 (ofZ w32 x) ≡ x *ℤ y +ℤ x
 code-is x y h k = add (box tt (mul (at tt h) (at tt k))) (at tt h) .eq

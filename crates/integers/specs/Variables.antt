@@ -1,6 +1,6 @@
--- Claims about n vectors and k numbers, n and k literals: to prove one, prove it where the variables' components and the numbers are the values
--- of a function on ℕ, in order. `linear` hands over differences of naturals, for `simp gaps (omega arith)`; `ring`, in its own file, expressions.
--- Assumes nothing.
+-- Claims about n vectors and k numbers, n and k literals: to prove one, prove it where the variables' components and the numbers are the
+-- values of a function on ℕ, in order. `linear` hands over differences of naturals, for `simp gaps (omega arith)`; `ring`, in its own file,
+-- expressions. Assumes nothing.
 use mathlib.Core.Path.{sym, subst}
 use Prim.Native.Nat.{ℕ, zero, suc}
 use lib.IntN.{ℤ, pos}

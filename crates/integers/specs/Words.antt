@@ -1,5 +1,6 @@
--- Signed machine words of 32 bits. The code's sums and products are towers of `toZ w32 (ofZ w32 ..)`: `Holds t z n` says that the tower t is
--- the number z, and that |z| ≤ n. It is built along the code, `box` takes a tower off, and `tt` checks each bound below 2^31. Assumes nothing.
+-- Signed machine words of 32 bits. The code's sums and products are towers of `toZ w32 (ofZ w32 ..)`: `Holds t z n` says that the tower t
+-- is the number z, and that |z| ≤ n. It is built along the code, `box` takes a tower off, and `tt` checks each bound below 2^31.
+-- Assumes nothing.
 use mathlib.Core.Path.{_≡_, refl, sym, _∙_, ap, ap₂, subst}
 use mathlib.Core.Bool.{Bool, true, false, not, true≢false}
 use Prim.Native.Nat.{ℕ, suc, _+_, _*_, _-_, _^_, _≤_, _<_}

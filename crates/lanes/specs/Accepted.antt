@@ -20,7 +20,12 @@ streams-used s =
     let z = sizesOf s in
     let l = map (streamOf s z) (numbers (z .streams)) in
     length-take-le (z .streams) _
-    (omega (arith, length-append l (replicate (6 - z .streams) noStream), length-map (numbers (z .streams)) (streamOf s z), numbers-length 0 (z .streams)))
+    (omega (
+      arith,
+      length-append l (replicate (6 - z .streams) noStream),
+      length-map (numbers (z .streams)) (streamOf s z),
+      numbers-length 0 (z .streams),
+    ))
 
 pub laid-stream : (s : List ℕ) → refusalOf gaugeLimits s ≡ 0 → (i : ℕ) → i < length (streamsOf (descriptionOf s))
     → Laid (descriptionOf s .nest) (getD (streamsOf (descriptionOf s)) i noStream)

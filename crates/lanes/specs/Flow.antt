@@ -86,7 +86,8 @@ pub record Seen (f : Flow) (spans lanes : List ℕ) : Type 0 where
   pub flows : Flows f
   pub of-spans : Spans (f .nest) spans
   pub long : 3072 ≤ length spans
-  pub of-lanes : Lanes (entryNumber (f .nest) (f .stream)) (computes (f .nest)) (length (processes (f .nest))) (length (processes (f .nest))) lanes
+  pub of-lanes : Lanes (entryNumber (f .nest) (f .stream)) (computes (f .nest)) (length (processes (f .nest)))
+      (length (processes (f .nest))) lanes
 
 -- what filling the lanes is lent
 pub record Fillable (f : Flow) (count : ℕ) (spans lanes : List ℕ) : Type 0 where
@@ -111,7 +112,8 @@ module _ {f : Flow} (h : Flows f) where
     point-is = ey ∙ ap (λ (k : Box). getD (points k) p zero2) (h .space-is)
 
     pub inside-space : Inside (space (f .nest)) y
-    inside-space = subst (Inside (space (f .nest))) (sym point-is) (points-inside (space (f .nest)) (processOf (f .nest) p) (getD-in (processes (f .nest)) p zero2 lt))
+    inside-space = subst (Inside (space (f .nest))) (sym point-is)
+        (points-inside (space (f .nest)) (processOf (f .nest) p) (getD-in (processes (f .nest)) p zero2 lt))
 
     inside-box : Inside (boxed (f .space)) y
     inside-box = subst (λ (k : Box). Inside k y) (sym (h .space-is)) inside-space
@@ -135,9 +137,11 @@ module _ {f : Flow} (h : Flows f) where
         }
 
     -- how far the line goes on from it
-    pub reach-on : {k : ℕ} → k ≡ reach (boxed (f .space)) (f .way) y → k ≡ reach (space (f .nest)) (move (f .nest) (f .stream)) (processOf (f .nest) p)
+    pub reach-on : {k : ℕ} → k ≡ reach (boxed (f .space)) (f .way) y
+        → k ≡ reach (space (f .nest)) (move (f .nest) (f .stream)) (processOf (f .nest) p)
     reach-on e =
-        e ∙ ap₂ (λ (b : Box) (d : V2). reach b d y) (h .space-is) (h .way-is) ∙ ap (reach (space (f .nest)) (move (f .nest) (f .stream))) point-is
+        e ∙ ap₂ (λ (b : Box) (d : V2). reach b d y) (h .space-is) (h .way-is)
+        ∙ ap (reach (space (f .nest)) (move (f .nest) (f .stream))) point-is
 
     pub point-small : Within2 768 y
     point-small =
@@ -149,7 +153,8 @@ module _ {f : Flow} (h : Flows f) where
     module _ {k : ℕ} (ek : k ≡ reach (boxed (f .space)) (f .back) y) {z : V2} (ez : z ≡ shift2 y (pos k) (f .back)) where
       entry-eq : z ≡ entryOf (f .nest) (f .stream) (processOf (f .nest) p)
       entry-eq =
-          ez ∙ ap₂ (λ (i : ℕ) (d : V2). shift2 y (pos i) d) (ek ∙ ap₂ (λ (b : Box) (d : V2). reach b d y) (h .space-is) (h .back-is)) (h .back-is)
+          ez ∙ ap₂ (λ (i : ℕ) (d : V2). shift2 y (pos i) d)
+          (ek ∙ ap₂ (λ (b : Box) (d : V2). reach b d y) (h .space-is) (h .back-is)) (h .back-is)
           ∙ shift-neg y (move (f .nest) (f .stream)) (pos _) ∙ ap (entryOf (f .nest) (f .stream)) point-is
 
       entry-inside : Inside (space (f .nest)) z

@@ -1,5 +1,5 @@
--- What the lanes hold of a stream's pipes: the processes that compute on a line, in row order, are those of its pipe, in the order of the move or
--- against it. Assumes an accepted stream.
+-- What the lanes hold of a stream's pipes: the processes that compute on a line, in row order, are those of its pipe, in the order of the
+-- move or against it. Assumes an accepted stream.
 use mathlib.Core.Path.{_≡_, refl, sym, _∙_, ap, subst}
 use mathlib.Core.Bool.{Bool, true, false, not, cond, _&&_}
 use mathlib.Core.List.{List, [], _∷_, reverse, reverseAux, List·Memᴰ as In, List·Memᴰ·head as here, List·Memᴰ·tail as there}
@@ -102,7 +102,8 @@ module _ {n : Nest} {s : Stream} (h : Accepted n s) where
         let k = filter-in (computing n) (pipe n s y) i in
         let l = in-pipe h hy (k .mem) in
         let hz = l .0 in
-        let q = one-entry h (entry-is h hz) (entry-is h hy) (join-pipe (flip-pipe (entry-pipe h z)) (join-pipe (flip-pipe (l .1)) (entry-pipe h y))) in
+        let q = one-entry h (entry-is h hz) (entry-is h hy)
+        (join-pipe (flip-pipe (entry-pipe h z)) (join-pipe (flip-pipe (l .1)) (entry-pipe h y))) in
         in-filter (lined number) (inside-points (space n) z hz)
         (and-both (computing n z) (eqb (rowIndex (space n) (entryOf n s z)) number) (k .ok)
         (subst T (sym (eq-eqb (rowIndex (space n) (entryOf n s z)) number (ap (rowIndex (space n)) q))) tt))
@@ -132,7 +133,8 @@ module _ {n : Nest} {s : Stream} (h : Accepted n s) where
     pub held-is : all ≡ length (filter (computing n) (pipe n s y))
     held-is = held-all number ∙ go (backward (move n s)) (by-row (backward (move n s)) (way (move n s) (h .goes)))
       where
-        go : (b : Bool) → filter (computing n) (pipe n s y) ≡ cond b (reverse (filter (lined number) (processes n))) (filter (lined number) (processes n))
+        go : (b : Bool) → filter (computing n) (pipe n s y)
+            ≡ cond b (reverse (filter (lined number) (processes n))) (filter (lined number) (processes n))
             → length (filter (lined number) (processes n)) ≡ length (filter (computing n) (pipe n s y))
         go true e = sym (ap length e ∙ length-reverse (filter (lined number) (processes n)))
         go false e = sym (ap length e)

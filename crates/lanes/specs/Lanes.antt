@@ -1,5 +1,5 @@
--- Lanes: what one pass over the processes leaves of their pipes, by numbers alone. E p is the number of the entry of process p's line, C p says
--- whether p computes. Assumes nothing.
+-- Lanes: what one pass over the processes leaves of their pipes, by numbers alone. E p is the number of the entry of process p's line, C p
+-- says whether p computes. Assumes nothing.
 use mathlib.Core.Path.{_≡_, refl, sym, _∙_, ap, subst}
 use mathlib.Core.Bool.{Bool, true, false, cond, _&&_}
 use mathlib.Core.Logic.{_⊎_, inl, inr}
@@ -14,8 +14,8 @@ use lib.Seq.{getD-set-same, getD-set-other}
 use borrow.Author.Tests.{eq-eqb, ne-eqb}
 use Rattle.integers.specs.Fill.{fillBy, fill-length, fill-at}
 
--- 1,024 words each: the entry of a process; how many before it compute on its line; for an entry, how many compute on its line, and the number plus
--- one of one of them
+-- 1,024 words each: the entry of a process; how many before it compute on its line; for an entry, how many compute on its line, and the
+-- number plus one of one of them
 abbrev pub placed : List ℕ → ℕ → ℕ → List ℕ
 placed l p e = set l p e
 
@@ -109,7 +109,8 @@ module _ (E : ℕ → ℕ) (C : ℕ → Bool) where
     unfolding heldBy
     some-step c en =
         record {
-          words = length-set l3 (3072 + E k) (k + 1) ∙ length-set l2 (2048 + E k) (x + 1) ∙ length-set l1 (1024 + k) x ∙ length-set l k (E k) ∙ h .words;
+          words = length-set l3 (3072 + E k) (k + 1) ∙ length-set l2 (2048 + E k) (x + 1) ∙ length-set l1 (1024 + k) x
+              ∙ length-set l k (E k) ∙ h .words;
           entries = λ p b. past p (omega arith) ∙ entry-of p (E k) b refl;
           running = λ p b t. run p b t (eq-or-lt-of-le (le-of-suc-le-suc b));
           held = λ e b. hold e b (ℕ-discrete e (E k));
@@ -160,7 +161,8 @@ module _ (E : ℕ → ℕ) (C : ℕ → Bool) where
             ∙ getD-set-same l2 (2048 + E k) (x + 1) 0 (omega (arith, long2)) ∙ omega (arith, h .held (E k) en, ap (heldBy k) q))
         hold e b (no f) =
             rw (c, ne-eqb (E k) e (λ r. f (sym r)))
-            (third (2048 + e) (omega arith) ∙ getD-set-other l2 (2048 + E k) (2048 + e) (x + 1) 0 (λ (r : 2048 + e ≡ 2048 + E k). f (omega arith))
+            (third (2048 + e) (omega arith)
+            ∙ getD-set-other l2 (2048 + E k) (2048 + e) (x + 1) 0 (λ (r : 2048 + e ≡ 2048 + E k). f (omega arith))
             ∙ getD-set-other l1 (1024 + k) (2048 + e) x 0 (λ (r : 2048 + e ≡ 1024 + k). omega arith)
             ∙ other (2048 + e) (E k) (λ (r : 2048 + e ≡ k). omega arith) ∙ h .held e b)
 
@@ -170,7 +172,8 @@ module _ (E : ℕ → ℕ) (C : ℕ → Bool) where
         on : (e : ℕ) → e < n → Dec (e ≡ E k) → One k e (getD l (3072 + e) 0) → One (suc k) e (getD (joined l k (E k)) (3072 + e) 0)
         on e b (yes q) o =
             somebody k
-            (ap (λ (i : ℕ). getD (joined l k (E k)) (3072 + i) 0) q ∙ getD-set-same l3 (3072 + E k) (k + 1) 0 (omega (arith, long3)) ∙ omega arith)
+            (ap (λ (i : ℕ). getD (joined l k (E k)) (3072 + i) 0) q
+            ∙ getD-set-same l3 (3072 + E k) (k + 1) 0 (omega (arith, long3)) ∙ omega arith)
             (omega arith) (subst T (sym c) tt) (sym q)
         on e b (no f) o = go o
             (getD-set-other l3 (3072 + E k) (3072 + e) (k + 1) 0 (λ (r : 3072 + e ≡ 3072 + E k). f (omega arith))

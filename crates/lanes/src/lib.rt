@@ -1,7 +1,7 @@
 // The lanes of a stream: which line of processes each process is on, and who computes there.
 //
-// One pass over the processes leaves the lanes, 1,024 words each: the entry of a process's line; how many before it compute there; for an entry,
-// how many compute on its line, and the number plus one of one of them. All else is then found at once for each process.
+// One pass over the processes leaves the lanes, 1,024 words each: the entry of a process's line; how many before it compute there; for an
+// entry, how many compute on its line, and the number plus one of one of them. All else is then found at once for each process.
 //
 // specs/, by file:
 //
@@ -35,8 +35,8 @@ pub const LANES: usize = 4 * PROCESSES;
 
 const ALL: u32 = LANES as u32;
 
-// A stream in its nest: the process space and its own box, its move and index map times increment, each also turned round; whether it moves, and
-// whether its move leads back in row order.
+// A stream in its nest: the process space and its own box, its move and index map times increment, each also turned round; whether it
+// moves, and whether its move leads back in row order.
 pub struct Flow {
     pub nest: Nest,
     pub stream: Stream,

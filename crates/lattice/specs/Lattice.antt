@@ -1,12 +1,13 @@
--- The whole vectors that two rows send to zero: the shortened cross product of the rows is one, every other is a whole multiple of it, and so
--- none is shorter. Assumes nothing.
+-- The whole vectors that two rows send to zero: the shortened cross product of the rows is one, every other is a whole multiple of it, and
+-- so none is shorter. Assumes nothing.
 use mathlib.Core.Path.{_≡_, refl, sym, _∙_, ap}
 use Prim.Native.Nat.{ℕ, zero, suc, _*_, _≤_}
 use native.Mathlib.Omega.{arith}
 use lib.IntN.{ℤ, pos, negsuc, negℤ, natAbs, _-ℤ_, _*ℤ_}
 use Rattle.integers.specs.declared.V3.{V3}
 use Rattle.integers.specs.Ring.{ring, quotes, literal, solve, solve3, solve-by, given, _also_, Ex.var, Ex.minus}
-use Rattle.integers.specs.Vectors.{zero3, scale3, sub3, neg3, dot, cross, dot-scale, dot-neg, cross-left, cross-right, cross-scale, cross-cross, cancel3}
+use Rattle.integers.specs.Vectors.{zero3, scale3, sub3, neg3, dot, cross, dot-scale, dot-neg, cross-left, cross-right, cross-scale}
+use Rattle.integers.specs.Vectors.{cross-cross, cancel3}
 use Rattle.integers.specs.Bounds.{abs-mul}
 use Rattle.integers.specs.Order.{cancel-zero}
 use Rattle.lattice.specs.declared.Short.{Short}
@@ -36,7 +37,10 @@ Independent p q = cross p q ≡ zero3 → ⊥
 -- d × u = 0, and u's components have a sum of multiples that is 1: d is that sum of its own components times u
 parallel : (d u : V3) → Bezout3 (pos 1) u → cross d u ≡ zero3 → Multiple u d
 parallel d u k e =
-    record { by = dot (k .by) d; eq = multiple (k .by) d u (k .eq) (ap (λ (w : V3). w .x) e) (ap (λ (w : V3). w .y) e) (ap (λ (w : V3). w .z) e) }
+    record {
+      by = dot (k .by) d;
+      eq = multiple (k .by) d u (k .eq) (ap (λ (w : V3). w .x) e) (ap (λ (w : V3). w .y) e) (ap (λ (w : V3). w .z) e);
+    }
   where
     multiple : (b d u : V3) → dot b u ≡ pos 1 → d .y *ℤ u .z -ℤ d .z *ℤ u .y ≡ pos 0 → d .z *ℤ u .x -ℤ d .x *ℤ u .z ≡ pos 0
         → d .x *ℤ u .y -ℤ d .y *ℤ u .x ≡ pos 0 → d ≡ scale3 (dot b d) u

@@ -1,8 +1,9 @@
--- The shortening rule, as request 2.7 says it, and the vector and divisor that answer it: one and no other. The components of a shortened vector have no
--- common divisor. Assumes nothing.
+-- The shortening rule, as request 2.7 says it, and the vector and divisor that answer it: one and no other. The components of a shortened
+-- vector have no common divisor. Assumes nothing.
 use mathlib.Core.Path.{_≡_, refl, sym, _∙_, ap, subst}
 use Prim.Native.Nat.{ℕ, zero, suc, _*_, _/_, _<_, _∣_}
-use native.Mathlib.Nat.{mul-div-cancel', dvd-trans, dvd-mul-right, dvd-antisymm, mul-dvd-mul-left, dvd-of-mul-dvd-mul-left, eq-zero-of-zero-dvd, eq-one-of-dvd-one, mul-one}
+use native.Mathlib.Nat.{mul-div-cancel', dvd-trans, dvd-mul-right, dvd-antisymm, mul-dvd-mul-left, dvd-of-mul-dvd-mul-left}
+use native.Mathlib.Nat.{eq-zero-of-zero-dvd, eq-one-of-dvd-one, mul-one}
 use native.Mathlib.Omega.{arith}
 use lib.IntN.{ℤ, pos, negsuc, negℤ, natAbs, _+ℤ_, _*ℤ_, ℤ-discrete}
 use lib.Signed.{quotZ}
@@ -90,7 +91,8 @@ shortens v =
 
 module _ {v : V3} {r : Short} (s : Shortens v r) where
   pub divisor-is : r .divisor ≡ divisorOf v
-  divisor-is = dvd-antisymm (divisor-greatest v (r .divisor) (whole-divides (r .vector) (s .times))) (s .greatest (divisorOf v) (divisor-divides v))
+  divisor-is =
+      dvd-antisymm (divisor-greatest v (r .divisor) (whole-divides (r .vector) (s .times))) (s .greatest (divisorOf v) (divisor-divides v))
 
   -- only the zero vector has divisor 0
   pub divisor-zero : r .divisor ≡ 0 → v ≡ zero3

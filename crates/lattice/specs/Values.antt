@@ -1,4 +1,5 @@
--- The values of a matrix at all whole vectors, and how far apart they lie: the divisor of the cross product of its rows tells. Assumes nothing.
+-- The values of a matrix at all whole vectors, and how far apart they lie: the divisor of the cross product of its rows tells.
+-- Assumes nothing.
 use mathlib.Core.Path.{_≡_, refl, sym, _∙_, ap, ap₂, subst}
 use mathlib.Core.Logic.{_↔_}
 use Prim.Native.Nat.{ℕ, _*_, _/_, _∣_}
@@ -15,7 +16,8 @@ use Rattle.integers.specs.Ring.{ring, quotes, literal, solve, solve3, solve-by,
 use Rattle.integers.specs.Order.{cancel, cancel-zero}
 use Rattle.integers.specs.Vectors.{zero3, sub3, scale3, shift3, shift2, dot, cross, image, cross-scale, cross-cross, image-shift, same2}
 use Rattle.lattice.specs.declared.Short.{Short}
-use Rattle.lattice.specs.Shorten.{Divides, Shortens, over, shortened, shortens, divisor-zero, exact, divides-whole, whole-divides, divides-times, Bezout3, shortened-one}
+use Rattle.lattice.specs.Shorten.{Divides, Shortens, over, shortened, shortens, divisor-zero, exact, divides-whole, whole-divides}
+use Rattle.lattice.specs.Shorten.{divides-times, Bezout3, shortened-one}
 use Rattle.lattice.specs.Lattice.{Independent, divisor-not, short-one}
 use Rattle.lattice.specs.Independence.{combined, only-trivial}
 
@@ -57,7 +59,8 @@ both-scaled : (v u : V3) (g : ℤ) → dot (scale3 g v) (scale3 g u) ≡ g *ℤ 
 both-scaled = ring 2 1 _ λ ρ. simp quotes (solve ρ _ _ tt)
 
 -- equal minors: a combination of the rows is zero
-combination : (p q : V3) (a b a' b' : ℤ) → b *ℤ p .x -ℤ a *ℤ q .x ≡ b' *ℤ p .x -ℤ a' *ℤ q .x → b *ℤ p .y -ℤ a *ℤ q .y ≡ b' *ℤ p .y -ℤ a' *ℤ q .y
+combination : (p q : V3) (a b a' b' : ℤ) → b *ℤ p .x -ℤ a *ℤ q .x ≡ b' *ℤ p .x -ℤ a' *ℤ q .x
+    → b *ℤ p .y -ℤ a *ℤ q .y ≡ b' *ℤ p .y -ℤ a' *ℤ q .y
     → b *ℤ p .z -ℤ a *ℤ q .z ≡ b' *ℤ p .z -ℤ a' *ℤ q .z → combined (b -ℤ b') (a' -ℤ a) p q ≡ zero3
 combination = ring 2 4 _ λ ρ. simp (quotes, literal ρ) (λ x y z. solve3
     (solve-by _ _ (given (plain 1) x) tt) (solve-by _ _ (given (plain 1) y) tt) (solve-by _ _ (given (plain 1) z) tt))
@@ -84,7 +87,8 @@ module _ (m : Matrix) {r : Short} (s : Shortens (cross (m .top) (m .low)) r) (h 
       let k = short-one (m .top) (m .low) s h in
       let n = divisor-not (m .top) (m .low) s h in
       let z : dot v (r .vector) ≡ pos 0 =
-      cancel-zero g _ n (cancel-zero g _ n (sym (both-scaled v (r .vector) g) ∙ ap₂ dot (divides-whole d) (s .times) ∙ minors-null (m .top) (m .low) (y .a) (y .b))) in
+      cancel-zero g _ n (cancel-zero g _ n
+      (sym (both-scaled v (r .vector) g) ∙ ap₂ dot (divides-whole d) (s .times) ∙ minors-null (m .top) (m .low) (y .a) (y .b))) in
       let x = cross (k .by) v in
       (x, one-value (image m x) y (sym (minors-of x) ∙ ap (scale3 g) (across (k .by) v (r .vector) z (k .eq)) ∙ divides-whole d))
 
@@ -155,7 +159,8 @@ module _ (m : Matrix) {r : Short} (s : Shortens (cross (m .top) (m .low)) r) (h 
 
   -- in the row of 0
   level : (t : ℤ) → minorsWith m (record { a = pos 0; b = t }) ≡ scale3 (pos (first .divisor) *ℤ t) (first .vector)
-  level t = ap (λ (w : V3). sub3 (scale3 t w) (scale3 (pos 0) (m .low))) (sym times) ∙ level-minors (first .vector) (m .low) t (pos (first .divisor))
+  level t = ap (λ (w : V3). sub3 (scale3 t w) (scale3 (pos 0) (m .low))) (sym times)
+      ∙ level-minors (first .vector) (m .low) t (pos (first .divisor))
 
   on-level : (t : ℤ) → Value m (record { a = pos 0; b = t }) ↔ (columns ∣ natAbs t)
   on-level t = (
@@ -167,7 +172,8 @@ module _ (m : Matrix) {r : Short} (s : Shortens (cross (m .top) (m .low)) r) (h 
         (ap (dot (one .by)) (ap (λ (k : ℕ). scale3 (pos k) w) product ∙ divides-whole d ∙ level t)))),
     λ k. values m s h (record { a = pos 0; b = t }) .1 (whole-divides (scale3 (quotZ t (pos columns)) (first .vector))
         (ap (λ (k : ℕ). scale3 (pos k) (scale3 (quotZ t (pos columns)) (first .vector))) (sym product)
-        ∙ regroup (first .vector) (pos (first .divisor)) (pos columns) (quotZ t (pos columns)) ∙ ap (λ (z : ℤ). scale3 (pos (first .divisor) *ℤ z) (first .vector)) (exact columns t k)
+        ∙ regroup (first .vector) (pos (first .divisor)) (pos columns) (quotZ t (pos columns))
+        ∙ ap (λ (z : ℤ). scale3 (pos (first .divisor) *ℤ z) (first .vector)) (exact columns t k)
         ∙ sym (level t))),
   )
     where

@@ -1,6 +1,6 @@
 // Euclid's rule, and the rule that shortens a vector by the greatest common divisor of its components. specs/Lattice has what the shortened
-// cross product of two rows means: the shortest whole vector that both send to zero; specs/Values what its divisor means: how far apart the values of
-// the two rows lie; specs/Independence what a cross product of zero means.
+// cross product of two rows means: the shortest whole vector that both send to zero; specs/Values what its divisor means: how far apart the
+// values of the two rows lie; specs/Independence what a cross product of zero means.
 ghost use mathlib.Core.Path.{_≡_};
 ghost use Prim.Native.Nat.{_≤_, _^_};
 ghost use lib.IntN.{pos, negℤ};

@@ -53,7 +53,8 @@ module _ {k : Box} (s : Spanning k) where
   pub point-is : {m : ℕ} (p : ℕ) → m ≡ columns → p < length (points k) → fromCorner k (p / m) (p % m) ≡ getD (points k) p zero2
   point-is p e h =
       ap (λ (m : ℕ). fromCorner k (p / m) (p % m)) e ∙ sym (row-at k q zero2 inside) ∙ ap (λ (i : ℕ). getD (points k) i zero2)
-      (ap₂ (λ (i j : ℕ). i * columns + j) (up-corner (p / columns) (k .lo .a)) (up-corner (p % columns) (k .lo .b)) ∙ div-add-mod' p columns)
+      (ap₂ (λ (i j : ℕ). i * columns + j) (up-corner (p / columns) (k .lo .a)) (up-corner (p % columns) (k .lo .b))
+      ∙ div-add-mod' p columns)
     where
       q : V2
       q = fromCorner k (p / columns) (p % columns)

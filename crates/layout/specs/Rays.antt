@@ -72,10 +72,12 @@ pub record Along (r : Ray) : Type 0 where
   pub high : Apart (r .at) (r .hi)
   pub by : Abs (r .by) 4800
 
-on-up : (i c : ℕ) (l r a : ℤ) → l ≤ℤ a → a ≤ℤ r → i * suc c ≤ up (r -ℤ a) → (l ≤ℤ (a +ℤ pos i *ℤ pos (suc c))) × ((a +ℤ pos i *ℤ pos (suc c)) ≤ℤ r)
+on-up : (i c : ℕ) (l r a : ℤ) → l ≤ℤ a → a ≤ℤ r → i * suc c ≤ up (r -ℤ a)
+    → (l ≤ℤ (a +ℤ pos i *ℤ pos (suc c))) × ((a +ℤ pos i *ℤ pos (suc c)) ≤ℤ r)
 on-up i c = linear 0 3 _ λ p m. simp (gaps, parts) (λ h k e. (omega arith, omega arith))
 
-on-down : (i c : ℕ) (l r a : ℤ) → l ≤ℤ a → a ≤ℤ r → i * suc c ≤ up (a -ℤ l) → (l ≤ℤ (a +ℤ pos i *ℤ negsuc c)) × ((a +ℤ pos i *ℤ negsuc c) ≤ℤ r)
+on-down : (i c : ℕ) (l r a : ℤ) → l ≤ℤ a → a ≤ℤ r → i * suc c ≤ up (a -ℤ l)
+    → (l ≤ℤ (a +ℤ pos i *ℤ negsuc c)) × ((a +ℤ pos i *ℤ negsuc c) ≤ℤ r)
 on-down i c = linear 0 3 _ λ p m. simp (gaps, parts) (λ h k e. (omega arith, omega arith))
 
 up-on : (i c : ℕ) (l r a : ℤ) → a ≤ℤ r → (a +ℤ pos i *ℤ pos (suc c)) ≤ℤ r → i * suc c ≤ up (r -ℤ a)
@@ -201,11 +203,15 @@ module _ {k : Box} {d p : V2} (g : Going k d p) where
     pub reach-left : a < b → (a ≡ reach k d p) × (a ≤ 1536)
     reach-left h =
         let f = ea ∙ ap roomOf eu in
-        let e = eb ∙ ap roomOf ev in
-        (omega (arith, at-least a (omega arith) (omega arith), bounds .0), omega (arith, at-least a (omega arith) (omega arith), reach-small))
+        let e = eb ∙ ap roomOf ev in (
+          omega (arith, at-least a (omega arith) (omega arith), bounds .0),
+          omega (arith, at-least a (omega arith) (omega arith), reach-small),
+        )
 
     pub reach-right : b ≤ a → (b ≡ reach k d p) × (b ≤ 1536)
     reach-right h =
         let f = ea ∙ ap roomOf eu in
-        let e = eb ∙ ap roomOf ev in
-        (omega (arith, at-least b (omega arith) (omega arith), bounds .1), omega (arith, at-least b (omega arith) (omega arith), reach-small))
+        let e = eb ∙ ap roomOf ev in (
+          omega (arith, at-least b (omega arith) (omega arith), bounds .1),
+          omega (arith, at-least b (omega arith) (omega arith), reach-small),
+        )

@@ -1,5 +1,5 @@
--- What the words of the processes say: of each, by its number, its count, and its first and its last instance by their numbers in the written
--- order plus one, 0 for none. Assumes nothing.
+-- What the words of the processes say: of each, by its number, its count, and its first and its last instance by their numbers in the
+-- written order plus one, 0 for none. Assumes nothing.
 use mathlib.Core.Path.{_≡_, refl, sym, _∙_, ap}
 use mathlib.Core.Bool.{Bool, true, false}
 use mathlib.Core.List.{List, [], _∷_, _++_, map}
@@ -78,10 +78,12 @@ swept numbers instances steps n xs a b c s ea eb ec =
     record {
       counts = λ p l.
           let z : 0 + p ≡ p = omega arith in
-          put-before 2048 1024 xb c 0 (omega arith) p (omega (arith, s .few)) ∙ put-before 1024 1024 xa b 0 (omega arith) p (omega (arith, s .few))
+          put-before 2048 1024 xb c 0 (omega arith) p (omega (arith, s .few))
+          ∙ put-before 1024 1024 xa b 0 (omega arith) p (omega (arith, s .few))
           ∙ sym (ap (λ (i : ℕ). getD xa i 0) z) ∙ part-at f n 0 1024 xs a ea (omega (arith, s .words)) 0 p l (s .few);
       firsts = λ p l.
-          put-before 2048 1024 xb c 0 (omega arith) (1024 + p) (omega (arith, s .few)) ∙ part-at g n 1024 1024 xa b eb (omega arith) 0 p l (s .few);
+          put-before 2048 1024 xb c 0 (omega arith) (1024 + p) (omega (arith, s .few))
+          ∙ part-at g n 1024 1024 xa b eb (omega arith) 0 p l (s .few);
       lasts = λ p l. part-at h n 2048 1024 xb c ec (omega arith) 0 p l (s .few);
     }
 

@@ -1,5 +1,5 @@
-// Points and processes by number: the point of a row number, how far one can go on from a point in a box, and of each process its count, its
-// first and its last instance.
+// Points and processes by number: the point of a row number, how far one can go on from a point in a box, and of each process its count,
+// its first and its last instance.
 //
 // specs/, by file:
 //
@@ -120,7 +120,8 @@ fn fill_spans(numbers: &[u32], count: u32, steps: &[i32], processes: u32, spans:
 
 // Of each process its count, its first and its last instance; how many processes there are.
 pub fn fill_processes(n: Nest, spans: &mut [u32]) -> u32
-    requires { ⌜ (Bounded n) × (length (instances n) ≤ gaugeLimits .instances) × (length (processes n) ≤ gaugeLimits .processes) × (length (now spans) ≡ spanWords) ⌝ }
+    requires { ⌜ (Bounded n) × (length (instances n) ≤ gaugeLimits .instances) × (length (processes n) ≤ gaugeLimits .processes)
+        × (length (now spans) ≡ spanWords) ⌝ }
     ensures { λ r. ⌜ (r ≡ length (processes n)) × (Spans n (now (spans .exit))) ⌝ }
 {
     let place = n.place;

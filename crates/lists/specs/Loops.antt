@@ -1,5 +1,5 @@
--- Tests of numbers and of a list's members, as a loop makes them that stops at the first answer: a turn that goes on, one that stops, and the end.
--- Assumes nothing.
+-- Tests of numbers and of a list's members, as a loop makes them that stops at the first answer: a turn that goes on, one that stops, and
+-- the end. Assumes nothing.
 use mathlib.Core.Path.{_≡_, sym, _∙_, ap}
 use mathlib.Core.Bool.{Bool, true, false, cond}
 use mathlib.Core.List.{List}

@@ -2,7 +2,8 @@
 use mathlib.Core.Path.{_≡_, refl, sym, _∙_, ap, subst}
 use mathlib.Core.Logic.{_⊎_, inl, inr}
 use mathlib.Core.Bool.{Bool, true, false, cond}
-use mathlib.Core.List.{List, [], _∷_, _++_, map, reverse, reverseAux, List·Memᴰ as In, List·Memᴰ·head as here, List·Memᴰ·tail as there, Memᴰ·append-left, Memᴰ·append-right, List·Memᴰ·append-cases}
+use mathlib.Core.List.{List, [], _∷_, _++_, map, reverse, reverseAux, List·Memᴰ as In, List·Memᴰ·head as here, List·Memᴰ·tail as there}
+use mathlib.Core.List.{Memᴰ·append-left, Memᴰ·append-right, List·Memᴰ·append-cases}
 use Prim.Native.Nat.{ℕ, zero, suc, _+_, _*_, _≤_, _<_}
 use native.Mathlib.Nat.{eq-or-lt-of-le, zero-add, add-assoc}
 use native.Mathlib.Omega.{arith}
@@ -165,7 +166,8 @@ module _ {A B : Type 0} where
       → getD (each f l) (i * w + j) e ≡ getD (f (getD l i d)) j e
   unfolding each
   each-at f w g [] i j d e h k = absurd (omega arith)
-  each-at f w g (x ∷ l) zero j d e h k = ap (λ (c : ℕ). getD (f x ++ each f l) c e) (nil w j) ∙ List·getD-append (f x) (each f l) e j (omega (arith, g x))
+  each-at f w g (x ∷ l) zero j d e h k =
+      ap (λ (c : ℕ). getD (f x ++ each f l) c e) (nil w j) ∙ List·getD-append (f x) (each f l) e j (omega (arith, g x))
     where
       nil : (w j : ℕ) → 0 * w + j ≡ j
       nil w j = omega arith

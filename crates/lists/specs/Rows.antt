@@ -33,13 +33,15 @@ module _ {X : Type 0} where
   numbers-add f i zero n = simp (zero-add, add-zero)
   numbers-add f i (suc m) n =
       ap (λ (k : ℕ). map f (numbersFrom i k)) (suc-add m n)
-      ∙ ap (λ (l : List X). f i ∷ l) (numbers-add f (suc i) m n ∙ ap (λ (k : ℕ). map f (numbersFrom (suc i) m) ++ map f (numbersFrom k n)) (omega arith))
+      ∙ ap (λ (l : List X). f i ∷ l)
+      (numbers-add f (suc i) m n ∙ ap (λ (k : ℕ). map f (numbersFrom (suc i) m) ++ map f (numbersFrom k n)) (omega arith))
 
   -- functions that agree on the numbers
   pub same-numbers : (f g : ℕ → X) (i n : ℕ) → ((j : ℕ) → i ≤ j → j < i + n → f j ≡ g j) → map f (numbersFrom i n) ≡ map g (numbersFrom i n)
   unfolding numbersFrom
   same-numbers f g i zero h = refl
-  same-numbers f g i (suc n) h = ap₂ _∷_ (h i (le-refl i) (omega arith)) (same-numbers f g (suc i) n (λ j l m. h j (omega arith) (omega arith)))
+  same-numbers f g i (suc n) h =
+      ap₂ _∷_ (h i (le-refl i) (omega arith)) (same-numbers f g (suc i) n (λ j l m. h j (omega arith) (omega arith)))
 
 -- ---- all numbers pass
 
@@ -87,7 +89,8 @@ module _ (f g : ℕ → Bool) where
   unfolding position numbersFrom
   same-position i zero h = refl
   same-position i (suc n) h =
-      ap₂ (λ (b : Bool) (t : ℕ). cond b 0 (suc t)) (h i (le-refl i) (omega arith)) (same-position (suc i) n (λ j l m. h j (omega arith) (omega arith)))
+      ap₂ (λ (b : Bool) (t : ℕ). cond b 0 (suc t)) (h i (le-refl i) (omega arith))
+      (same-position (suc i) n (λ j l m. h j (omega arith) (omega arith)))
 
 -- ---- the first number that passes
 

@@ -67,7 +67,8 @@ module _ {X : Type 0} (f g : X → ℕ) where
   total-ext same [] = refl
   total-ext same (x ∷ l) = ap₂ _+_ (same x) (total-ext same l)
 
-  pub total-like : (l : List X) (k : ℕ) (d : X) → k ≤ length l → ((i : ℕ) → i < k → f (getD l i d) ≡ g (getD l i d)) → total f (take k l) ≡ total g (take k l)
+  pub total-like : (l : List X) (k : ℕ) (d : X) → k ≤ length l → ((i : ℕ) → i < k → f (getD l i d) ≡ g (getD l i d))
+      → total f (take k l) ≡ total g (take k l)
   unfolding total
   total-like l zero d h e = total-none f l ∙ sym (total-none g l)
   total-like [] (suc k) d h e = refl
@@ -132,7 +133,8 @@ module _ (f g : ℕ → ℕ) where
   sum-tight i (suc n) h e j a b =
       let le = sum-le (suc i) n (λ j a b. h j (omega arith) (omega arith)) in
       let here = h i (le-refl i) (omega arith) in
-      go (eq-or-lt-of-le a) (omega arith) (λ l. sum-tight (suc i) n (λ j a b. h j (omega arith) (omega arith)) (omega arith) j l (omega arith))
+      go (eq-or-lt-of-le a) (omega arith)
+      (λ l. sum-tight (suc i) n (λ j a b. h j (omega arith) (omega arith)) (omega arith) j l (omega arith))
     where
       go : (i ≡ j) ⊎ (i < j) → f i ≡ g i → (suc i ≤ j → f j ≡ g j) → f j ≡ g j
       go (inr l) d ih = ih l

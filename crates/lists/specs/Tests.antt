@@ -49,7 +49,8 @@ module _ {X : Type 0} (f : X → Bool) where
   any-either g [] = refl
   any-either g (x ∷ l) = go (f x) (g x) (any f l) (any-either g l)
     where
-      go : (a b c : Bool) → any (λ x. f x || g x) l ≡ (c || any g l) → cond (a || b) true (any (λ x. f x || g x) l) ≡ (cond a true c || cond b true (any g l))
+      go : (a b c : Bool) → any (λ x. f x || g x) l ≡ (c || any g l)
+          → cond (a || b) true (any (λ x. f x || g x) l) ≡ (cond a true c || cond b true (any g l))
       go true b c e = refl
       go false true true e = refl
       go false true false e = refl
@@ -72,7 +73,8 @@ module _ {X : Type 0} (f : X → Bool) where
   any-position [] h = absurd (true≢false (sym h))
   any-position (x ∷ l) h = go (f x) h (any-position l)
     where
-      go : (b : Bool) → cond b true (any f l) ≡ true → (any f l ≡ true → position f l < length l) → cond b 0 (suc (position f l)) < suc (length l)
+      go : (b : Bool) → cond b true (any f l) ≡ true → (any f l ≡ true → position f l < length l)
+          → cond b 0 (suc (position f l)) < suc (length l)
       go true h ih = omega arith
       go false h ih = omega (arith, ih h)
 
@@ -82,8 +84,8 @@ module _ {X : Type 0} (f : X → Bool) where
   position-passes d [] h = absurd (omega arith)
   position-passes d (x ∷ l) h = go (f x) refl h (position-passes d l)
     where
-      go : (b : Bool) → f x ≡ b → cond b 0 (suc (position f l)) < suc (length l) → (position f l < length l → f (getD l (position f l) d) ≡ true)
-          → f (getD (x ∷ l) (cond b 0 (suc (position f l))) d) ≡ true
+      go : (b : Bool) → f x ≡ b → cond b 0 (suc (position f l)) < suc (length l)
+          → (position f l < length l → f (getD l (position f l) d) ≡ true) → f (getD (x ∷ l) (cond b 0 (suc (position f l))) d) ≡ true
       go true e h ih = e
       go false e h ih = ih (omega arith)
 

@@ -1,5 +1,5 @@
--- Document 01, Accept: the refusals 6 to 17, each by its number, and 33 of request 2.9, all in order, and the figures and divisors that it answers. 9 is never given
--- (request 2.2) and keeps its number.
+-- Document 01, Accept: the refusals 6 to 17, each by its number, and 33 of request 2.9, all in order, and the figures and divisors that it
+-- answers. 9 is never given (request 2.2) and keeps its number.
 use mathlib.Core.Path.{_≡_}
 use mathlib.Core.Bool.{Bool, not, cond, _&&_}
 use mathlib.Core.List.{List, [], _∷_, _++_, map}

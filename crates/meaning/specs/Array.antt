@@ -1,5 +1,6 @@
--- What the rules of the network look at, gathered from the description: for each process its instances in step order, for each pipe its stream,
--- its elements and its processes in order. Nothing here is new; it is the words of the trade in the order in which the network counts.
+-- What the rules of the network look at, gathered from the description: for each process its instances in step order, for each pipe its
+-- stream, its elements and its processes in order. Nothing here is new; it is the words of the trade in the order in which the network
+-- counts.
 use mathlib.Core.Bool.{Bool, false, cond, _&&_}
 use mathlib.Core.List.{List, [], _∷_, _++_, map}
 use Prim.Native.Nat.{ℕ, suc, _+_}
@@ -22,7 +23,8 @@ use Rattle.meaning.specs.Description.{streamsOf, linesOf}
 
 -- ---- processes
 
--- a process's instances in the order in which it fires them: by step (that they are first, first + increment, .., last, `runs-are` of geometry says)
+-- a process's instances in the order in which it fires them: by step (that they are first, first + increment, .., last, `runs-are` of
+-- geometry says)
 unfoldable pub insertByStep : Nest → V3 → List V3 → List V3
 insertByStep n x [] = x ∷ []
 insertByStep n x (y ∷ l) = cond (ltZ (stepOf n y) (stepOf n x)) (y ∷ insertByStep n x l) (x ∷ y ∷ l)
@@ -36,8 +38,8 @@ runs n y = byStep n (instancesAt n y)
 
 -- ---- pipes
 
--- a process as a pipe passes it: it keeps an element if it computes and the stream is stationary; else it lets all through, using those from soak
--- on, as many as it has instances. "Null processes pass everything": their soak is all of the pipe
+-- a process as a pipe passes it: it keeps an element if it computes and the stream is stationary; else it lets all through, using those
+-- from soak on, as many as it has instances. "Null processes pass everything": their soak is all of the pipe
 pub record Stop : Type 0 where
   pub process : ℕ
   pub keeps : Bool

@@ -1,5 +1,5 @@
--- Request 2.9, "the bench board": what a board word changes in the calls, and what it leaves (`bench-board` of requests). What holds of lists of calls that are told
--- different boards is part of demand 3 (`Demand3.told`).
+-- Request 2.9, "the bench board": what a board word changes in the calls, and what it leaves (`bench-board` of requests). What holds of
+-- lists of calls that are told different boards is part of demand 3 (`Demand3.told`).
 use mathlib.Core.Path.{_≡_}
 use mathlib.Core.Logic.{_↔_}
 use mathlib.Core.List.{List, _++_}

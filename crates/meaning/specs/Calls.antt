@@ -1,5 +1,5 @@
--- Document 01, "Operations and what they decline": each call, for any bytes, lists and states, of any lengths and contents: the answer, and every lent
--- list afterwards. "A declined call answers its number and changes no lent word"; "words beyond the named length never change".
+-- Document 01, "Operations and what they decline": each call, for any bytes, lists and states, of any lengths and contents: the answer, and
+-- every lent list afterwards. "A declined call answers its number and changes no lent word"; "words beyond the named length never change".
 use mathlib.Core.Bool.{Bool, true, false, not, cond, _&&_, _||_}
 use mathlib.Core.List.{List, [], _∷_, _++_, map}
 use Prim.Native.Nat.{ℕ, _+_, _*_, _-_, _^_}
@@ -23,7 +23,8 @@ use Rattle.meaning.specs.Body.{elementCount, gather, finalValues}
 use Rattle.meaning.specs.Accept.{refusalOf, stateWords}
 use Rattle.meaning.specs.Array.{Array, arrayOf, rowSoak, processCount, streamCount, pipeNumber, elementsOn, pipeOrder, partOf, onPipe}
 use Rattle.meaning.specs.State.{Received, read}
-use Rattle.meaning.specs.Rules.{sound, Step, Send, Take, Fire, Give, Receive, Memory, ready, apply, stepsOf, anyReady, Found, at, nothing, runSteps, applyAll}
+use Rattle.meaning.specs.Rules.{sound, Step, Send, Take, Fire, Give, Receive, Memory, ready, apply, stepsOf, anyReady, Found, at}
+use Rattle.meaning.specs.Rules.{nothing, runSteps, applyAll}
 
 -- ---- what the calls test
 
@@ -69,7 +70,8 @@ module _ (l : Limits) (s : List ℕ) where
   abbrev pub byStream : (Stream → ℕ) → List ℕ
   byStream f = map f (streamsOf d) ++ replicate (6 - length (streamsOf d)) 0
 
-  -- "point, count, first, last, and by stream soak and drain; a null row has zeros after its point and the pipe's length (0 without a pipe) as soak"
+  -- "point, count, first, last, and by stream soak and drain; a null row has zeros after its point and the pipe's length (0 without a pipe)
+  -- as soak"
   abbrev pub rowOf : V2 → Row
   rowOf y =
       record {
@@ -219,7 +221,8 @@ module _ (l : Limits) (s : List ℕ) where
 
   -- "19: no such pipe, or a side other than 0 (waiting) or 1 (received)"
   abbrev pub windowTests : ℕ → ℕ → List ℕ → List ℕ → List Test
-  windowTests pipe side waiting received = listTests d waiting received ++ ((19 if (not (ltb pipe (pipeNumber A)) || not (ltb side 2))) ∷ [])
+  windowTests pipe side waiting received =
+      listTests d waiting received ++ ((19 if (not (ltb pipe (pipeNumber A)) || not (ltb side 2))) ∷ [])
 
   -- "that pipe's part of the waiting values or of the received ones. The part is empty after every refusal"
   unfoldable pub window : ℕ → ℕ → List ℕ → List ℕ → Seen

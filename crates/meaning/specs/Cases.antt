@@ -25,7 +25,8 @@ use Rattle.meaning.specs.Calls.{table, start, run, result, plainRun}
 use Rattle.meaning.specs.LongerStrides.{formerAccept}
 use Rattle.meaning.specs.FixedPoint as FixedPoint
 use Rattle.meaning.specs.Comparison.{Case, _is_, naturals, number, planar, eqList, firstWrong, agree-after}
-use Rattle.meaning.specs.Designs.{bytes, pair, polynomial, designOne, designOneBy, designTwo, decimating, values, fixedValues, nest, stream, blank, startedWith, undivided}
+use Rattle.meaning.specs.Designs.{bytes, pair, polynomial, designOne, designOneBy, designTwo, decimating, values, fixedValues, nest}
+use Rattle.meaning.specs.Designs.{stream, blank, startedWith, undivided}
 use Rattle.meaning.specs.Singles as Singles
 
 -- c's values by the plain run, and by the network run to its end from a state of n words, in two calls, which are computed sooner than one
@@ -143,5 +144,8 @@ cases =
     ∷ []
 
 pub proved : map (λ c. c .got) cases ≡ map (λ c. c .wanted) cases
-unfolding eqList firstWrong bytes bitsAt wordAt gcdOf euclid filter any every position best bestOr total each numbersFrom refusal progression instances lineOf points widenAll around boxOf sentTo firstOf lastOf stays march lineIn pipe usedOn pipeElements nestOf streamOf bodyLine descriptionOf runLines touchedFrom scatter execute executeAll testsFrom refusalOf accept insertByStep byStep pipesFrom arrayOf moveDown sound writeAll apply firstReady runSteps applyAll table start run result plainRun
+unfolding eqList firstWrong bytes bitsAt wordAt gcdOf euclid filter any every position best bestOr total each numbersFrom refusal
+    progression instances lineOf points widenAll around boxOf sentTo firstOf lastOf stays march lineIn pipe usedOn pipeElements nestOf
+    streamOf bodyLine descriptionOf runLines touchedFrom scatter execute executeAll testsFrom refusalOf accept insertByStep byStep pipesFrom
+    arrayOf moveDown sound writeAll apply firstReady runSteps applyAll table start run result plainRun
 proved = agree-after Singles.proved cases refl

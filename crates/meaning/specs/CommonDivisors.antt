@@ -1,5 +1,5 @@
--- Request 2.7, "common divisors shown": what the divisors in Accept's answer are, and how far apart they say that the values of place and of an index map lie, and
--- so the working processes (`common-divisors` of requests).
+-- Request 2.7, "common divisors shown": what the divisors in Accept's answer are, and how far apart they say that the values of place and
+-- of an index map lie, and so the working processes (`common-divisors` of requests).
 use mathlib.Core.Path.{_≡_}
 use mathlib.Core.Logic.{_↔_}
 use mathlib.Core.List.{List}
@@ -25,7 +25,8 @@ use Rattle.meaning.specs.Calls.{table}
 use Rattle.meaning.specs.Conditions.{streamOf}
 use Rattle.meaning.specs.Demand2.{rowAt}
 
--- "the vector before shortening is, for two loops, the row's second word and its first negated, and for three the cross product of the two rows"
+-- "the vector before shortening is, for two loops, the row's second word and its first negated, and for three the cross product of the two
+-- rows"
 pub data Before (d : Description) (m : Matrix) (v : V3) : Type 0 where
   of-two : d .sizes .loops ≡ 2 → v ≡ record { x = m .top .y; y = negℤ (m .top .x); z = pos 0 } → Before d m v
   of-three : d .sizes .loops ≡ 3 → v ≡ cross (m .top) (m .low) → Before d m v
@@ -35,14 +36,15 @@ pub record Shown (d : Description) (m : Matrix) (k : ℕ) : Type 0 where
   pub before : V3
   pub short : V3
   pub is-before : Before d m before
-  -- "a shortened vector, before it is turned, times its divisor is that vector", and the divisor is the greatest common one; turned, it is the line
+  -- "a shortened vector, before it is turned, times its divisor is that vector", and the divisor is the greatest common one; turned, it is
+  -- the line
   pub shortens : Shortens before (record { vector = short; divisor = k })
   pub line : IsLine (d .nest) m (turn (d .nest .step) short)
   pub not-zero : k ≡ 0 → ⊥
   -- "how far apart" the values of the matrix at all whole points lie: for two loops, every k-th whole number is one
   pub multiples : d .sizes .loops ≡ 2 → (a : ℤ) → ((i : ℤ) × (j : ℤ) × (m .top .x *ℤ i +ℤ m .top .y *ℤ j ≡ a)) ↔ (k ∣ natAbs a)
-  -- for three, every so many rows hold some, and in such a row every so many points are, so that of all points one in k is; they are the points with which k
-  -- divides the matrix's minors
+  -- for three, every so many rows hold some, and in such a row every so many points are, so that of all points one in k is; they are the
+  -- points with which k divides the matrix's minors
   pub apart : Apart m k
   pub values : (y : V2) → Value m y ↔ Divides k (minorsWith m y)
 

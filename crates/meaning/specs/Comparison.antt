@@ -35,7 +35,8 @@ spatial v = v .x ∷ v .y ∷ v .z ∷ []
 
 -- point, count, first, last, soak, drain
 abbrev pub rowWords : Row → List ℤ
-rowWords r = r .point .a ∷ r .point .b ∷ pos (r .count) ∷ (spatial (r .first) ++ (spatial (r .last) ++ (naturals (r .soak) ++ naturals (r .drain))))
+rowWords r =
+    r .point .a ∷ r .point .b ∷ pos (r .count) ∷ (spatial (r .first) ++ (spatial (r .last) ++ (naturals (r .soak) ++ naturals (r .drain))))
 
 -- ---- the test, and what it says
 
@@ -77,5 +78,6 @@ pub agree : (cs : List Case) → suc (firstWrong 0 cs) ≡ suc (length cs) → m
 agree cs e = agree-from 0 cs (omega arith)
 
 -- a table behind another: where that one fails, this one is not computed
-pub agree-after : {P : Type 0} → P → (cs : List Case) → suc (firstWrong 0 cs) ≡ suc (length cs) → map (λ c. c .got) cs ≡ map (λ c. c .wanted) cs
+pub agree-after : {P : Type 0} → P → (cs : List Case) → suc (firstWrong 0 cs) ≡ suc (length cs)
+    → map (λ c. c .got) cs ≡ map (λ c. c .wanted) cs
 agree-after before = agree

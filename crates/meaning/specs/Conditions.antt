@@ -1,6 +1,6 @@
--- Demand 2, "a description is accepted exactly if it meets 01's conditions": the conditions said a second time, for people, as propositions about the
--- description's words and points, with none of Accept's tests in them. That Accept answers by them, both ways, is `accepted-exactly` and `refused-exactly` of
--- guarantee.
+-- Demand 2, "a description is accepted exactly if it meets 01's conditions": the conditions said a second time, for people, as propositions
+-- about the description's words and points, with none of Accept's tests in them. That Accept answers by them, both ways, is
+-- `accepted-exactly` and `refused-exactly` of guarantee.
 use mathlib.Core.Path.{_≡_}
 use mathlib.Core.Logic.{_↔_}
 use mathlib.Core.List.{List, [], _∷_, _++_, List·Memᴰ as In}
@@ -25,7 +25,8 @@ use Rattle.meaning.specs.Loops.{stepOf, placeOf}
 use Rattle.meaning.specs.Space.{Box}
 use Rattle.meaning.specs.Points.{Direction, Between, Within, At, IsLine, Inside}
 use Rattle.meaning.specs.Operations.{lastOperation}
-use Rattle.meaning.specs.Description.{sizesOf, matrixWords, leftAt, rightAt, directionAt, stepAt, placeAt, mapAt, loadingAt, lineAt, descriptionOf, noStream, streamsOf, linesOf}
+use Rattle.meaning.specs.Description.{sizesOf, matrixWords, leftAt, rightAt, directionAt, stepAt, placeAt, mapAt, loadingAt, lineAt}
+use Rattle.meaning.specs.Description.{descriptionOf, noStream, streamsOf, linesOf}
 use Rattle.meaning.specs.Accept.{accept, figures, divisors}
 
 -- ---- 33: the board
@@ -42,7 +43,8 @@ pub record SizesFit (z : Sizes) : Type 0 where
   pub streams : (1 ≤ z .streams) × (z .streams ≤ 6)
   pub lines : (1 ≤ z .lines) × (z .lines ≤ 8)
 
--- document 01: the sizes; left and right bounds, directions, step; place; by stream an index map; by stream a loading vector; by line four words
+-- document 01: the sizes; left and right bounds, directions, step; place; by stream an index map; by stream a loading vector; by line four
+-- words
 abbrev pub formerTotal : Sizes → ℕ
 formerTotal z =
     let r = z .loops in let m = z .streams in 3 + 4 * r + (r - 1) * r + m * ((r - 1) * r) + m * (r - 1) + 4 * z .lines
@@ -51,14 +53,15 @@ formerTotal z =
 abbrev pub wordTotal : Sizes → ℕ
 wordTotal z = formerTotal z + 3 * z .lines
 
--- the guard of line i, request 2.5: "a loop number (0 to r−1), a comparison (0 always, 1 equal, 2 at most, 3 at least) and a bound from −64 to 64"
+-- the guard of line i, request 2.5: "a loop number (0 to r−1), a comparison (0 always, 1 equal, 2 at most, 3 at least) and a bound from −64
+-- to 64"
 pub record GuardFits (s : List ℕ) (z : Sizes) (i : ℕ) : Type 0 where
   pub index : Between (pos 0) (pos (z .loops - 1)) (wordAt s (lineAt z i + 4))
   pub comparison : Between (pos 0) (pos 3) (wordAt s (lineAt z i + 5))
   pub bound : Between (negsuc 63) (pos 64) (wordAt s (lineAt z i + 6))
 
--- "bounds −64 to 64, directions 1 or −1, step −8 to 8, matrix words −4 to 4, loading −1 to 1, operations 0 to 5, targets and operands 0 to m+1"; operations
--- 0 to 6 by request 2.1
+-- "bounds −64 to 64, directions 1 or −1, step −8 to 8, matrix words −4 to 4, loading −1 to 1, operations 0 to 5, targets and operands 0 to
+-- m+1"; operations 0 to 6 by request 2.1
 pub record WordsFit (s : List ℕ) (z : Sizes) : Type 0 where
   pub left : (j : ℕ) → j < z .loops → Between (negsuc 63) (pos 64) (wordAt s (leftAt z + j))
   pub right : (j : ℕ) → j < z .loops → Between (negsuc 63) (pos 64) (wordAt s (rightAt z + j))
@@ -88,7 +91,8 @@ extent left right = right -ℤ left +ℤ pos 1
 abbrev pub volume : Nest → ℤ
 volume n = (extent (n .left .x) (n .right .x) *ℤ extent (n .left .y) (n .right .y)) *ℤ extent (n .left .z) (n .right .z)
 
--- rank r−1: no whole combination of the rows is zero but the trivial one (of two loops the second row is that of the third loop: the first is not zero)
+-- rank r−1: no whole combination of the rows is zero but the trivial one (of two loops the second row is that of the third loop: the first
+-- is not zero)
 abbrev pub FullRank : Matrix → Type 0
 FullRank m = (a b : ℤ) → add3 (scale3 a (m .top)) (scale3 b (m .low)) ≡ zero3 → (a ≡ pos 0) × (b ≡ pos 0)
 
@@ -96,8 +100,8 @@ FullRank m = (a b : ℤ) → add3 (scale3 a (m .top)) (scale3 b (m .low)) ≡ ze
 abbrev pub HasLine : Nest → Matrix → Type 0
 HasLine n m = (u : V3) × IsLine n m u
 
--- "the smallest box around" a matrix's values at "all instances": it has them all, and a box that has them all has its corners (there is one and no
--- other: `box-found` and `one-box` of guarantee)
+-- "the smallest box around" a matrix's values at "all instances": it has them all, and a box that has them all has its corners (there is
+-- one and no other: `box-found` and `one-box` of guarantee)
 pub record LeastBox (n : Nest) (m : Matrix) (k : Box) : Type 0 where
   pub has : (x : V3) → Within n x → Inside k (image m x)
   pub least : (j : Box) → ((x : V3) → Within n x → Inside j (image m x)) → Inside j (k .lo) × Inside j (k .hi)
@@ -231,7 +235,8 @@ ofStream i = Rank i ∷ Line i ∷ Move i ∷ Hop i ∷ Order i ∷ Loading i �
 
 abbrev pub conditions : ℕ → List Condition
 conditions streams =
-    Board ∷ Begins ∷ Sizes-fit ∷ Long ∷ Words-fit ∷ Bounds-fit ∷ Instances ∷ Place-rank ∷ Increment ∷ Processes ∷ each ofStream (numbers streams)
+    Board ∷ Begins ∷ Sizes-fit ∷ Long ∷ Words-fit ∷ Bounds-fit ∷ Instances ∷ Place-rank ∷ Increment ∷ Processes
+    ∷ each ofStream (numbers streams)
 
 -- of conditions in order, one of number k fails, and those before it hold
 pub record First (Holds : Condition → Type 0) (listed : List Condition) (k : ℕ) : Type 0 where

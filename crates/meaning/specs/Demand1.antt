@@ -1,5 +1,5 @@
--- Demand 1 beside the contracts, which say of each call what it leaves: what all calls have in common, for any bytes, lists and states (`demand-one` of
--- guarantee). Numbers and values of answers are those of Answers.
+-- Demand 1 beside the contracts, which say of each call what it leaves: what all calls have in common, for any bytes, lists and states
+-- (`demand-one` of guarantee). Numbers and values of answers are those of Answers.
 use mathlib.Core.Path.{_≡_}
 use mathlib.Core.Bool.{cond}
 use mathlib.Core.List.{List, [], _∷_}
@@ -15,9 +15,12 @@ use Rattle.meaning.specs.Accept.{refusalOf, accept, Accepts, pipeCount, 
 use Rattle.meaning.specs.Array.{arrayOf, processCount}
 use Rattle.meaning.specs.Rules.{Memory, anyReady, runSteps}
 use Rattle.meaning.specs.Answers.{acceptNumber, acceptValues, answerNumber, ranNumber, ranValues, readyNumber, readyValues}
-use Rattle.meaning.specs.Calls.{lengthOf, stateLength, refusedBy, memoryTests, tableTests, startTests, stepTests, readyTests, windowTests, resultTests, plainTests, stepOf, canMove, table, start, step, run, readyCall, window, result, plainRun}
+use Rattle.meaning.specs.Calls.{lengthOf, stateLength, refusedBy, memoryTests, tableTests, startTests, stepTests, readyTests}
+use Rattle.meaning.specs.Calls.{windowTests, resultTests, plainTests, stepOf, canMove, table, start, step, run, readyCall, window}
+use Rattle.meaning.specs.Calls.{result, plainRun}
 
--- ---- "a declined call answers its number": that of the first test that applies, 0 if none does; "where several apply, the first in the order listed"
+-- ---- "a declined call answers its number": that of the first test that applies, 0 if none does; "where several apply, the first in the
+-- order listed"
 
 pub record Numbers (l : Limits) (s : List ℕ) : Type 0 where
   pub accept : acceptNumber (accept l s) ≡ refusalOf l s
@@ -41,7 +44,8 @@ pub record Values (l : Limits) (s : List ℕ) : Type 0 where
       let n = d .nest in
       acceptValues (accept l s)
       ≡ length (processes n) ∷ length (instances n) ∷ lengthOf d ∷ pipeCount n (streamsOf d) ∷ stateLength d ∷ totalSteps n (streamsOf d)
-      ∷ divisor (n .place) ∷ streamDivisor d 0 ∷ streamDivisor d 1 ∷ streamDivisor d 2 ∷ streamDivisor d 3 ∷ streamDivisor d 4 ∷ streamDivisor d 5 ∷ []
+      ∷ divisor (n .place) ∷ streamDivisor d 0 ∷ streamDivisor d 1 ∷ streamDivisor d 2 ∷ streamDivisor d 3 ∷ streamDivisor d 4
+      ∷ streamDivisor d 5 ∷ []
   -- "steps done and whether any is ready"
   pub run : (n : ℕ) (M : Memory) → ranNumber (run l s n M .answer) ≡ 0
       → let A = arrayOf (descriptionOf s) in
@@ -66,10 +70,11 @@ pub record NothingChanged (l : Limits) (s : List ℕ) : Type 0 where
   pub window : (pipe side : ℕ) (waiting received : List ℕ)
       → Declined (window l s pipe side waiting received .refusal) → window l s pipe side waiting received .part ≡ []
   pub result : (output : List ℕ) (M : Memory) → Declined (answerNumber (result l s output M .answer)) → result l s output M .output ≡ output
-  pub plain : (values output : List ℕ) → Declined (answerNumber (plainRun l s values output .answer)) → plainRun l s values output .output ≡ output
+  pub plain : (values output : List ℕ) → Declined (answerNumber (plainRun l s values output .answer))
+      → plainRun l s values output .output ≡ output
 
--- ---- "words beyond the named length never change": rows past P, words past those that Accept counts, ready words past the 16th. All other lists are lent as
--- long as they are used, or the call is declined
+-- ---- "words beyond the named length never change": rows past P, words past those that Accept counts, ready words past the 16th. All other
+-- lists are lent as long as they are used, or the call is declined
 
 pub record BeyondKept (l : Limits) (s : List ℕ) : Type 0 where
   pub table : (rows : List Row)
@@ -77,7 +82,8 @@ pub record BeyondKept (l : Limits) (s : List ℕ) : Type 0 where
   pub start : (values : List ℕ) (M : Memory)
       → drop (stateLength (descriptionOf s)) (start l s values M .memory .state) ≡ drop (stateLength (descriptionOf s)) (M .state)
   pub step : (kind number stream : ℕ) (M : Memory)
-      → drop (stateLength (descriptionOf s)) (step l s kind number stream M .memory .state) ≡ drop (stateLength (descriptionOf s)) (M .state)
+      → drop (stateLength (descriptionOf s)) (step l s kind number stream M .memory .state)
+      ≡ drop (stateLength (descriptionOf s)) (M .state)
   pub run : (n : ℕ) (M : Memory)
       → drop (stateLength (descriptionOf s)) (run l s n M .memory .state) ≡ drop (stateLength (descriptionOf s)) (M .state)
   pub ready : (words : List ℕ) (M : Memory) → drop 16 (readyCall l s words M .words) ≡ drop 16 words

@@ -1,5 +1,5 @@
--- Demand 2 beside the conditions: what the call Table leaves, that every pass of the loops is run by one processor, and what the call Plain run leaves; for
--- every description that Accept accepts (`demand-two` of guarantee). Equations are numbered as in the report.
+-- Demand 2 beside the conditions: what the call Table leaves, that every pass of the loops is run by one processor, and what the call Plain
+-- run leaves; for every description that Accept accepts (`demand-two` of guarantee). Equations are numbered as in the report.
 use mathlib.Core.Path.{_≡_}
 use mathlib.Core.Logic.{_↔_}
 use mathlib.Core.Bool.{true}
@@ -75,8 +75,8 @@ Ahead n s k y y' = y' ≡ shift2 y k (move n s)
 abbrev pub along : V2 → V2 → ℤ
 along v e = v .a *ℤ e .a +ℤ v .b *ℤ e .b
 
--- the elements of the pipe through process y: "those that its processes use", each once, "those of a moving pipe in the order of index map times increment;
--- those of a stationary pipe in the order in which the pipe passes the processes that hold them"
+-- the elements of the pipe through process y: "those that its processes use", each once, "those of a moving pipe in the order of index map
+-- times increment; those of a stationary pipe in the order in which the pipe passes the processes that hold them"
 pub record PipeElements (n : Nest) (s : Stream) (y : V2) (es : List V2) : Type 0 where
   pub members : (e : V2) → In e es ↔ ((k : ℤ) × (y' : V2) × Ahead n s k y y' × Uses n s y' e)
   pub moving : Moves n (line n s) → Sorted (λ e e'. along (pass n s) e <ℤ along (pass n s) e') es
@@ -96,7 +96,8 @@ pub record Soaks (n : Nest) (s : Stream) (y : V2) (es : List V2) (soak drain : �
   pub not-before : (e : V2) → In e before → Uses n s y e → ⊥
   pub not-after : (e : V2) → In e after → Uses n s y e → ⊥
 
--- the report's first_s and last_s, the first and the last element of a moving pipe (section 6.4), and how far they lie from an element that is used
+-- the report's first_s and last_s, the first and the last element of a moving pipe (section 6.4), and how far they lie from an element that
+-- is used
 pub record PipeEnds (n : Nest) (s : Stream) (es : List V2) (first last : V2) : Type 0 where
   pub first-in : In first es
   pub first-least : (e : V2) → In e es → along (pass n s) first ≤ℤ along (pass n s) e
@@ -189,7 +190,8 @@ pub record EveryPass (d : Description) (rows : List Row) : Type 0 where
       → rowAt rows p .last ≡ shift3 (rowAt rows p .first) (pos f) (increment (d .nest))
   -- what Fire runs, in any state in which it is ready: first + firings increments
   pub fires : (st : List ℕ) (p : ℕ) → p < length (processes (d .nest)) → ready (arrayOf d) st (Fire p) ≡ true
-      → RunBy (d .nest) rows (shift3 (rowAt rows p .first) (pos (read (arrayOf d) st (Firings p))) (increment (d .nest))) p (read (arrayOf d) st (Firings p))
+      → RunBy (d .nest) rows (shift3 (rowAt rows p .first) (pos (read (arrayOf d) st (Firings p))) (increment (d .nest))) p
+      (read (arrayOf d) st (Firings p))
       × (doFire (arrayOf d) st p
       ≡ fireInstance (arrayOf d) st p (shift3 (rowAt rows p .first) (pos (read (arrayOf d) st (Firings p))) (increment (d .nest))))
 
@@ -211,7 +213,8 @@ pub record PlainSays (d : Description) (values output : List ℕ) : Type 0 where
 
 pub record Demand2 (l : Limits) (s : List ℕ) : Type 0 where
   pub table : (lent : List Row) → length (processes (descriptionOf s .nest)) ≤ length lent
-      → (table l s lent .answer ≡ Done) × TableSays (descriptionOf s) lent (table l s lent .rows) × EveryPass (descriptionOf s) (table l s lent .rows)
+      → (table l s lent .answer ≡ Done) × TableSays (descriptionOf s) lent (table l s lent .rows)
+      × EveryPass (descriptionOf s) (table l s lent .rows)
   pub plain : (values output : List ℕ) → length values ≡ lengthOf (descriptionOf s) → length output ≡ lengthOf (descriptionOf s)
       → (plainRun l s values output .answer ≡ Done) × PlainSays (descriptionOf s) values (plainRun l s values output .output)
 

@@ -90,12 +90,13 @@ finalValue d values e = getD (finalValues d values) e 0
 
 -- of the memory M and the granted steps ss, the values given to Start being `values`
 pub record Holds (d : Description) (values : List ℕ) (M : Memory) (ss : List Step) : Type 0 where
-  -- "after k granted receives on a pipe, its stretch is the first k places of its part of the received list, equal to the final values of its first k
-  -- elements; the other places of that part are 0"
+  -- "after k granted receives on a pipe, its stretch is the first k places of its part of the received list, equal to the final values of
+  -- its first k elements; the other places of that part are 0"
   pub few : (q : ℕ) → q < pipeNumber (arrayOf d) → receives q ss ≤ elementsOn (arrayOf d) q
   pub stretch : (q : ℕ) → q < pipeNumber (arrayOf d)
       → partOf (arrayOf d) q (M .received)
-      ≡ map (finalValue d values) (take (receives q ss) (pipeAt (arrayOf d) q .elements)) ++ replicate (elementsOn (arrayOf d) q - receives q ss) 0
+      ≡ map (finalValue d values) (take (receives q ss) (pipeAt (arrayOf d) q .elements))
+      ++ replicate (elementsOn (arrayOf d) q - receives q ss) 0
   -- "some step is ready exactly when some value is not out"
   pub ready : anyReady (arrayOf d) (M .state) ≡ not (allReceived d ss)
   -- "granted steps are at most the total and reach it exactly when all are out"
@@ -153,8 +154,8 @@ pub record AfterCalls (l : Limits) (s : List ℕ) (values : List ℕ) (M₁ : Me
   -- what stands past the words that Accept counts is as it was lent
   pub beyond : drop (stateLength (descriptionOf s)) (memoryAfter s M₁ cs .state) ≡ drop (stateLength (descriptionOf s)) (M₁ .state)
 
--- DEMAND 3: for every start that is not declined, and every list of calls after it, each told any limits; such a call "is declined and changes nothing, or does
--- what the first board would"
+-- DEMAND 3: for every start that is not declined, and every list of calls after it, each told any limits; such a call "is declined and
+-- changes nothing, or does what the first board would"
 pub record Demand3 (l : Limits) (s values : List ℕ) (M₀ : Memory) : Type 0 where
   pub after : (cs : List Told) → AfterCalls l s values (start l s values M₀ .memory) cs
   pub told : (k : Limits) → Serves l k s

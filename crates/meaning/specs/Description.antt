@@ -1,4 +1,5 @@
--- Document 01, "The description": bytes to signed words, the length that the sizes give, the range of every word, decoding; refusals 1 to 5.
+-- Document 01, "The description": bytes to signed words, the length that the sizes give, the range of every word, decoding; refusals 1 to
+-- 5.
 use mathlib.Core.Bool.{Bool, not, cond, _&&_, _||_}
 use mathlib.Core.List.{List, map, _++_}
 use Prim.Native.Nat.{ℕ, suc, _+_, _*_, _-_, _%_}
@@ -69,8 +70,8 @@ wordsOf z = lineAt z (z .lines)
 abbrev pub between : ℤ → ℤ → ℤ → Bool
 between lo hi w = leZ lo w && leZ w hi
 
--- the range of word j of a line: operations 0 to 6 (5 before request 2.1), targets and operands 0 to m+1; of its guard (request 2.5) the loop number
--- 0 to r−1, the comparison 0 to 3, the bound −64 to 64
+-- the range of word j of a line: operations 0 to 6 (5 before request 2.1), targets and operands 0 to m+1; of its guard (request 2.5) the
+-- loop number 0 to r−1, the comparison 0 to 3, the bound −64 to 64
 abbrev pub lineRange : Sizes → ℕ → ℤ → Bool
 lineRange z j w =
     cond (eqb j 0) (between (pos 0) (pos lastOperation) w)
@@ -166,7 +167,8 @@ refused1 s = ltb (length s) 12
 -- 2: "a size out of range"
 abbrev pub refused2 : Sizes → Bool
 refused2 z =
-    not (leb 2 (z .loops) && leb (z .loops) 3) || not (leb 1 (z .streams) && leb (z .streams) 6) || not (leb 1 (z .lines) && leb (z .lines) 8)
+    not (leb 2 (z .loops) && leb (z .loops) 3) || not (leb 1 (z .streams) && leb (z .streams) 6)
+    || not (leb 1 (z .lines) && leb (z .lines) 8)
 
 -- 3: "not the length that the sizes give"
 abbrev pub refused3 : List ℕ → Sizes → Bool

@@ -70,7 +70,8 @@ designOneWith body n =
 abbrev pub designOneBy : ℕ → ℕ → List ℕ
 designOneBy op n = designOneWith (productBy op) n
 
--- "loops 0..2 and 0..2, directions 1, step 2i+j, streams a: i, b: j, c: i+j. Design one: place i, loading 1 for a. Design two: place i+j, loading 1 for c"
+-- "loops 0..2 and 0..2, directions 1, step 2i+j, streams a: i, b: j, c: i+j. Design one: place i, loading 1 for a. Design two: place i+j,
+-- loading 1 for c"
 abbrev pub designOne : List ℕ
 designOne = designOneBy 3 2
 
@@ -89,23 +90,24 @@ fixedValues = 65536 ∷ 131072 ∷ 196608 ∷ 262144 ∷ 327680 ∷ 393216 ∷ 0
 abbrev pub uncleared : List ℕ
 uncleared = 1 ∷ 2 ∷ 3 ∷ 4 ∷ 5 ∷ 6 ∷ 9 ∷ 8 ∷ 7 ∷ 6 ∷ 5 ∷ []
 
--- design one with loop 0 from right to left, step −2i+j and the body scratch := a times b, c := scratch − c, whose order counts; the hop of c is 3
+-- design one with loop 0 from right to left, step −2i+j and the body scratch := a times b, c := scratch − c, whose order counts; the hop of
+-- c is 3
 abbrev pub turned : List ℕ
 turned =
     bytes
     ((pos 2 ∷ pos 3 ∷ pos 2 ∷ pos 0 ∷ pos 0 ∷ pos 2 ∷ pos 2 ∷ negsuc 0 ∷ pos 1 ∷ negsuc 1 ∷ pos 1 ∷ pos 1 ∷ pos 0 ∷ [])
     ++ ((pos 1 ∷ pos 0 ∷ pos 0 ∷ pos 1 ∷ pos 1 ∷ pos 1 ∷ []) ++ ((pos 1 ∷ pos 0 ∷ pos 0 ∷ []) ++ (line 3 3 0 1 ++ line 2 2 3 2))))
 
--- request 2.2's decimating filter on loops 0..m and 0..n: place 2i+j, step 3i+j, streams y: i, x: 2i+j with loading 1, w: i+j; body scratch := x times w,
--- y := y + scratch, so that each y is a sum over its window, and the windows begin at every second x
+-- request 2.2's decimating filter on loops 0..m and 0..n: place 2i+j, step 3i+j, streams y: i, x: 2i+j with loading 1, w: i+j; body scratch
+-- := x times w, y := y + scratch, so that each y is a sum over its window, and the windows begin at every second x
 abbrev pub decimating : ℕ → ℕ → List ℕ
 decimating m n =
     bytes
     ((pos 2 ∷ pos 3 ∷ pos 2 ∷ pos 0 ∷ pos 0 ∷ pos m ∷ pos n ∷ pos 1 ∷ pos 1 ∷ pos 3 ∷ pos 1 ∷ pos 2 ∷ pos 1 ∷ [])
     ++ ((pos 1 ∷ pos 0 ∷ pos 2 ∷ pos 1 ∷ pos 1 ∷ pos 1 ∷ []) ++ ((pos 0 ∷ pos 1 ∷ pos 0 ∷ []) ++ (line 3 3 1 2 ++ line 1 0 0 3))))
 
--- the matrix product on loops 0..1, 0..n and 0..1, the last in direction d, step i+j+d·k, place as six words, loading of c as two, body: streams a: (i,k),
--- b: (k,j), c: (i,j)
+-- the matrix product on loops 0..1, 0..n and 0..1, the last in direction d, step i+j+d·k, place as six words, loading of c as two, body:
+-- streams a: (i,k), b: (k,j), c: (i,j)
 abbrev pub matricesBy : List (List ℤ) → ℕ → ℤ → List ℤ → List ℤ → List ℕ
 matricesBy body n d place loading =
     bytes
@@ -175,7 +177,8 @@ abbrev pub farApart : List ℕ
 farApart =
     bytes
     ((pos 3 ∷ pos 1 ∷ pos 1 ∷ pos 0 ∷ pos 0 ∷ pos 0 ∷ pos 0 ∷ pos 0 ∷ pos 0 ∷ pos 1 ∷ pos 1 ∷ pos 1 ∷ pos 1 ∷ pos 1 ∷ pos 1 ∷ [])
-    ++ ((pos 1 ∷ pos 0 ∷ pos 0 ∷ pos 0 ∷ pos 1 ∷ pos 0 ∷ pos 4 ∷ pos 4 ∷ pos 0 ∷ pos 4 ∷ negsuc 3 ∷ pos 0 ∷ pos 1 ∷ pos 0 ∷ []) ++ line 0 0 0 0))
+    ++ ((pos 1 ∷ pos 0 ∷ pos 0 ∷ pos 0 ∷ pos 1 ∷ pos 0 ∷ pos 4 ∷ pos 4 ∷ pos 0 ∷ pos 4 ∷ negsuc 3 ∷ pos 0 ∷ pos 1 ∷ pos 0 ∷ [])
+    ++ line 0 0 0 0))
 
 -- the divisors of place and of three streams, none above 1
 abbrev pub undivided : List ℕ

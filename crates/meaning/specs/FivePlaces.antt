@@ -1,4 +1,5 @@
--- Request 2.8, "five places are enough": what the lower limit of refusal 14 changes in the calls, and what it leaves (`five-places` of requests).
+-- Request 2.8, "five places are enough": what the lower limit of refusal 14 changes in the calls, and what it leaves (`five-places` of
+-- requests).
 use mathlib.Core.Path.{_≡_}
 use mathlib.Core.Logic.{_⊎_}
 use mathlib.Core.List.{List, _∷_, List·Memᴰ as In}
@@ -35,7 +36,8 @@ pub record RefusedByThen (l : Limits) (s : List ℕ) (c : Condition) : Type 0 wh
 
 pub record FivePlaces (board : ℕ) (s : List ℕ) : Type 0 where
   -- "with no moving hop from 6 to 8 is answered as before"
-  pub as-before : ((i : ℕ) → i < sizesOf s .streams → LongHop (descriptionOf s) i → ⊥) → AnsweredAlike (limitsOf board) (formerLimits board) s
+  pub as-before : ((i : ℕ) → i < sizesOf s .streams → LongHop (descriptionOf s) i → ⊥)
+      → AnsweredAlike (limitsOf board) (formerLimits board) s
   -- one that has one is refused, by 14 or by what comes before it
   pub refused : (i : ℕ) → i < sizesOf s .streams → LongHop (descriptionOf s) i → RefusedByThen (limitsOf board) s (Hop i)
   -- and no answer of Accept becomes another one than 14

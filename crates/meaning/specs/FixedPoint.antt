@@ -1,5 +1,6 @@
--- Request 2.1, "fixed point products": what Accept answers to an operation word of 6 beside what it answered before, and that the plain run and the network
--- both come to what the loops leave when every line that runs puts into its target what its operation says (`fixed-point` of requests).
+-- Request 2.1, "fixed point products": what Accept answers to an operation word of 6 beside what it answered before, and that the plain run
+-- and the network both come to what the loops leave when every line that runs puts into its target what its operation says (`fixed-point`
+-- of requests).
 use mathlib.Core.Path.{_≡_}
 use mathlib.Core.Logic.{_↔_}
 use mathlib.Core.Bool.{Bool}
@@ -20,7 +21,9 @@ use Rattle.meaning.specs.Points.{Between}
 use Rattle.meaning.specs.Description.{sizesOf, lineAt, descriptionOf, streamsOf, linesOf}
 use Rattle.meaning.specs.Accept.{refused33, byteTests, nestTests, testsFrom, answerOf, accept}
 use Rattle.meaning.specs.Leaves.{RunsLoops}
-use Rattle.meaning.specs.Conditions.{Condition, Condition.Board, Condition.Begins, Condition.Sizes-fit, Condition.Long, Condition.Words-fit, Condition.Bounds-fit, Condition.Instances, Condition.Place-rank, Condition.Increment, Condition.Processes, WordsFit, Asks, ofStream, AnsweredBy}
+use Rattle.meaning.specs.Conditions.{Condition, Condition.Board, Condition.Begins, Condition.Sizes-fit, Condition.Long}
+use Rattle.meaning.specs.Conditions.{Condition.Words-fit, Condition.Bounds-fit, Condition.Instances, Condition.Place-rank}
+use Rattle.meaning.specs.Conditions.{Condition.Increment, Condition.Processes, WordsFit, Asks, ofStream, AnsweredBy}
 
 -- ---- Accept before the request
 

@@ -1,5 +1,6 @@
--- Request 2.5, "guards on body lines": what Accept answers to descriptions of the older length, to guards in their ranges and out of them, and that the plain run
--- and the network both come to what the loops leave when a line runs only if its index compares so (`guarded-lines` of requests).
+-- Request 2.5, "guards on body lines": what Accept answers to descriptions of the older length, to guards in their ranges and out of them,
+-- and that the plain run and the network both come to what the loops leave when a line runs only if its index compares so (`guarded-lines`
+-- of requests).
 use mathlib.Core.Path.{_≡_}
 use mathlib.Core.List.{List, [], _∷_, List·Memᴰ as In}
 use Prim.Native.Nat.{ℕ, _+_, _*_, _≤_, _<_}
@@ -12,13 +13,15 @@ use Rattle.meaning.specs.declared.Line.{Line}
 use Rattle.meaning.specs.declared.Acceptance.the-variants.{Refused}
 use Rattle.meaning.specs.Description.{sizesOf, lineAt, noLine, descriptionOf, linesOf}
 use Rattle.meaning.specs.Accept.{accept, Accepts}
-use Rattle.meaning.specs.Conditions.{Known, SizesFit, formerTotal, GuardFits, Condition, Condition.Board, Condition.Begins, Condition.Sizes-fit, Condition.Long, Asks}
+use Rattle.meaning.specs.Conditions.{Known, SizesFit, formerTotal, GuardFits, Condition, Condition.Board, Condition.Begins}
+use Rattle.meaning.specs.Conditions.{Condition.Sizes-fit, Condition.Long, Asks}
 use Rattle.meaning.specs.Alike.{DeclinedBy}
 use Rattle.meaning.specs.Leaves.{Runs, RunsLoops}
 
 -- ---- lines and guards
 
--- t has the words of line i: operation, target, first and second operand, and "three words after its four: a loop number, a comparison and a bound"
+-- t has the words of line i: operation, target, first and second operand, and "three words after its four: a loop number, a comparison and
+-- a bound"
 pub record HasWords (s : List ℕ) (i : ℕ) (t : Line) : Type 0 where
   pub operation : pos (t .operation) ≡ wordAt s (lineAt (sizesOf s) i)
   pub target : pos (t .target) ≡ wordAt s (lineAt (sizesOf s) i + 1)

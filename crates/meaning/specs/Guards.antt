@@ -1,5 +1,5 @@
--- Request 2.5, the guards of body lines: whether a line runs at an instance. That they compare as the request says, in plain propositions, is
--- `runs-exactly` of requests.
+-- Request 2.5, the guards of body lines: whether a line runs at an instance. That they compare as the request says, in plain propositions,
+-- is `runs-exactly` of requests.
 use mathlib.Core.Bool.{Bool, true, cond}
 use Prim.Native.Nat.{ℕ}
 use lib.Dec.{eqb}

@@ -1,5 +1,5 @@
--- The plain run said a second time, for people, in plain propositions: what each operation puts, when a line runs, what lines and loops leave. That Plain run
--- writes exactly that, and the network too, is `runs-loops` of requests.
+-- The plain run said a second time, for people, in plain propositions: what each operation puts, when a line runs, what lines and loops
+-- leave. That Plain run writes exactly that, and the network too, is `runs-loops` of requests.
 use mathlib.Core.Path.{_≡_}
 use mathlib.Core.Logic.{_↔_}
 use mathlib.Core.Bool.{true}
@@ -35,8 +35,8 @@ pub record Divided (n q : ℕ) : Type 0 where
   pub most : q * 2 ^ 16 ≤ n
   pub next : n < suc q * 2 ^ 16
 
--- operation op puts r for the operands a and b: "0 copy the first, 1 add, 2 subtract, 3 multiply, 4 smaller, 5 larger"; 6: "the exact product is divided by 2^16, rounded
--- down, and taken modulo 2^32"
+-- operation op puts r for the operands a and b: "0 copy the first, 1 add, 2 subtract, 3 multiply, 4 smaller, 5 larger"; 6: "the exact
+-- product is divided by 2^16, rounded down, and taken modulo 2^32"
 pub data Puts (a b : ℕ) : ℕ → ℕ → Type 0 where
   copies : Puts a b 0 a
   adds : {r : ℕ} → Modulo (a + b) r → Puts a b 1 r
@@ -72,7 +72,8 @@ pub record Runs (x : V3) (t : Line) : Type 0 where
 -- lines of instance x in order, on the values of the streams and the two scratch values; a line that does not run leaves its target
 pub data LinesLeave (x : V3) : List Line → List ℕ → List ℕ → Type 0 where
   none : {vs : List ℕ} → LinesLeave x [] vs vs
-  runs : {t : Line} {ts : List Line} {vs ws : List ℕ} {r : ℕ} → Runs x t → Puts (getD vs (t .first) 0) (getD vs (t .second) 0) (t .operation) r
+  runs : {t : Line} {ts : List Line} {vs ws : List ℕ} {r : ℕ} → Runs x t
+      → Puts (getD vs (t .first) 0) (getD vs (t .second) 0) (t .operation) r
       → LinesLeave x ts (set vs (t .target) r) ws → LinesLeave x (t ∷ ts) vs ws
   stays : {t : Line} {ts : List Line} {vs ws : List ℕ} → (Runs x t → ⊥) → LinesLeave x ts vs ws → LinesLeave x (t ∷ ts) vs ws
 
@@ -92,7 +93,8 @@ pub record RunsLoops (l : Limits) (s : List ℕ) : Type 0 where
   -- PLAIN RUN writes what the loops leave, and they leave nothing else
   pub plain : Accepts l s → (values output : List ℕ) → Words values → length values ≡ lengthOf (descriptionOf s)
       → length output ≡ lengthOf (descriptionOf s) → (left : List ℕ)
-      → LoopsLeave (descriptionOf s) (instances (descriptionOf s .nest)) values left ↔ (plainRun l s values output ≡ record { answer = Done; output = left })
+      → LoopsLeave (descriptionOf s) (instances (descriptionOf s .nest)) values left
+      ↔ (plainRun l s values output ≡ record { answer = Done; output = left })
   -- THE NETWORK: after a start and any calls, when all values are out, Result answers and writes what Plain run does
   pub network : (values : List ℕ) (M : Memory) → start l s values M .answer ≡ Done → (cs : List Told)
       → allReceived (descriptionOf s) (grantedBy s (start l s values M .memory) cs) ≡ true → (output : List ℕ)

@@ -1,12 +1,12 @@
--- The boards, request 2.9, and their limits, for the refusals 6, 10 and 14: document 01's for the gauges, the bench's of request 2.9, and 5 for the longest hop by
--- request 2.8.
+-- The boards, request 2.9, and their limits, for the refusals 6, 10 and 14: document 01's for the gauges, the bench's of request 2.9, and 5
+-- for the longest hop by request 2.8.
 use mathlib.Core.Bool.{cond}
 use Prim.Native.Nat.{ℕ, _+_, _*_, _≤_}
 use lib.Dec.{eqb}
 use Rattle.meaning.specs.declared.Limits.{Limits}
 
--- "our bench board holds 256 processes and 1,024 instances; the gauges keep 1,024 and 4,096": "0 gauge or 1 bench". Another word names no board, and what is told it
--- is refused by 33 whatever the limits (`Accept.refused33`)
+-- "our bench board holds 256 processes and 1,024 instances; the gauges keep 1,024 and 4,096": "0 gauge or 1 bench". Another word names no
+-- board, and what is told it is refused by 33 whatever the limits (`Accept.refused33`)
 abbrev pub limitsOf : ℕ → Limits
 limitsOf board =
     record { board = board; instances = cond (eqb board 1) 1024 4096; processes = cond (eqb board 1) 256 1024; hop = 5 }

@@ -1,4 +1,5 @@
--- Laws of body lines, for the network and for the code: what a line leaves, and that lines leave as many values as there were. Assumes nothing.
+-- Laws of body lines, for the network and for the code: what a line leaves, and that lines leave as many values as there were.
+-- Assumes nothing.
 use mathlib.Core.Path.{_≡_, refl, _∙_}
 use mathlib.Core.Bool.{Bool, true, false, cond}
 use mathlib.Core.List.{List, [], _∷_}

@@ -1,5 +1,5 @@
--- Request 2.2, "longer strides": what Accept answers without refusal 9 beside what it answered with it, and that first and last are the outermost points
--- of the process's own line in the bounds, on a face or not (`longer-strides` of requests).
+-- Request 2.2, "longer strides": what Accept answers without refusal 9 beside what it answered with it, and that first and last are the
+-- outermost points of the process's own line in the bounds, on a face or not (`longer-strides` of requests).
 use mathlib.Core.Path.{_≡_}
 use mathlib.Core.Logic.{_↔_}
 use mathlib.Core.Bool.{Bool, not, _&&_}
@@ -21,9 +21,12 @@ use Rattle.meaning.specs.Loops.{placeOf, increment}
 use Rattle.meaning.specs.Space.{processes}
 use Rattle.meaning.specs.Points.{Within, At, IsLine}
 use Rattle.meaning.specs.Description.{sizesOf, descriptionOf, streamsOf, refused5}
-use Rattle.meaning.specs.Accept.{small, refused33, refused6, refused7, refused8, refused10, byteTests, testsFrom, answerOf, accept, Accepts}
+use Rattle.meaning.specs.Accept.{small, refused33, refused6, refused7, refused8, refused10, byteTests, testsFrom, answerOf, accept}
+use Rattle.meaning.specs.Accept.{Accepts}
 use Rattle.meaning.specs.Calls.{table}
-use Rattle.meaning.specs.Conditions.{Small, Condition, Condition.Board, Condition.Begins, Condition.Sizes-fit, Condition.Long, Condition.Words-fit, Condition.Bounds-fit, Condition.Instances, Condition.Place-rank, Condition.Increment, Condition.Processes, Asks, ofStream, AnsweredBy}
+use Rattle.meaning.specs.Conditions.{Small, Condition, Condition.Board, Condition.Begins, Condition.Sizes-fit, Condition.Long}
+use Rattle.meaning.specs.Conditions.{Condition.Words-fit, Condition.Bounds-fit, Condition.Instances, Condition.Place-rank}
+use Rattle.meaning.specs.Conditions.{Condition.Increment, Condition.Processes, Asks, ofStream, AnsweredBy}
 use Rattle.meaning.specs.Demand2.{rowAt}
 
 -- ---- Accept before the request

@@ -44,8 +44,8 @@ placeOf n v = image (n .place) v
 abbrev pub turn : V3 → V3 → V3
 turn step v = cond (ltZ (dot step v) (pos 0)) (neg3 v) v
 
--- "the vector before shortening", "for three" loops "the cross product of the two rows"; for two the padded rows' is "the row's second word and its first
--- negated" (`flat-cross` of geometry)
+-- "the vector before shortening", "for three" loops "the cross product of the two rows"; for two the padded rows' is "the row's second word
+-- and its first negated" (`flat-cross` of geometry)
 abbrev pub unshortened : Matrix → V3
 unshortened m = cross (m .top) (m .low)
 

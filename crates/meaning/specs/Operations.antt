@@ -1,5 +1,5 @@
--- Document 01, the operations of body lines, with the one that request 2.1 adds. That they do what the documents say of them, in plain propositions, is
--- `puts-exactly` of requests.
+-- Document 01, the operations of body lines, with the one that request 2.1 adds. That they do what the documents say of them, in plain
+-- propositions, is `puts-exactly` of requests.
 use mathlib.Core.Bool.{cond}
 use Prim.Native.Nat.{ℕ, _+_, _*_, _-_, _^_, _/_, _%_}
 use lib.Dec.{eqb, ltb}

@@ -68,16 +68,16 @@ usedOn n s y = filter (λ e. any (λ p. uses n s p e) (pipe n s y)) (elements n 
 abbrev pub backward : V2 → Bool
 backward v = ltZ (v .a) (pos 0) || (eqZ (v .a) (pos 0) && ltZ (v .b) (pos 0))
 
--- "of a moving pipe in the order of index map times increment; of a stationary pipe in the order in which the pipe, from its entry on, passes the
--- processes that hold them" (that a moving pipe's are a whole segment, `pipe-line` of geometry says; that every element is on one pipe at one index,
--- `home-element`)
+-- "of a moving pipe in the order of index map times increment; of a stationary pipe in the order in which the pipe, from its entry on,
+-- passes the processes that hold them" (that a moving pipe's are a whole segment, `pipe-line` of geometry says; that every element is on
+-- one pipe at one index, `home-element`)
 unfoldable pub pipeElements : Nest → Stream → V2 → List V2
 pipeElements n s y =
     cond (stationary n s) (map (λ p. image (s .map) (first n p)) (filter (computing n) (pipe n s y)))
     (cond (backward (pass n s)) (reverse (usedOn n s y)) (usedOn n s y))
 
--- ---- soak and drain: "the pipe's elements before the first and after the last that a process uses" (those of its first and last instance: `soak-first` and
--- `drain-last` of geometry; the report's equations (8) and (9): `soak-report` and `drain-report`)
+-- ---- soak and drain: "the pipe's elements before the first and after the last that a process uses" (those of its first and last instance:
+-- `soak-first` and `drain-last` of geometry; the report's equations (8) and (9): `soak-report` and `drain-report`)
 
 abbrev pub soak : Nest → Stream → V2 → ℕ
 soak n s y = position (uses n s y) (pipeElements n s y)

@@ -1,5 +1,6 @@
--- Document 01's words for points as propositions, as the demands speak of them: points in the bounds, the written order, points of a box, instances at a
--- place, the line of a matrix. What the calls compute stands in Loops and Space; that both say the same is proved in geometry.
+-- Document 01's words for points as propositions, as the demands speak of them: points in the bounds, the written order, points of a box,
+-- instances at a place, the line of a matrix. What the calls compute stands in Loops and Space; that both say the same is proved in
+-- geometry.
 use mathlib.Core.Path.{_≡_}
 use lib.IntN.{ℤ, pos, negsuc, _*ℤ_}
 use lib.Signed.{_≤ℤ_, _<ℤ_}

@@ -1,5 +1,5 @@
--- Document 01, "The network": links and their fill, sound states, and for each of send, take, fire, give and receive when it is ready and what it
--- does, on the words of any sound state; the lowest ready step.
+-- Document 01, "The network": links and their fill, sound states, and for each of send, take, fire, give and receive when it is ready and
+-- what it does, on the words of any sound state; the lowest ready step.
 use mathlib.Core.Bool.{Bool, cond, _&&_, _||_}
 use mathlib.Core.List.{List, [], _∷_, _++_, map}
 use Prim.Native.Nat.{ℕ, zero, suc, _+_, _-_}
@@ -8,7 +8,8 @@ use lib.ListN.{length, getD, set, take}
 use Rattle.integers.specs.declared.V3.{V3}
 use Rattle.meaning.specs.Lists.{every, any, each, numbers}
 use Rattle.meaning.specs.Body.{runLines}
-use Rattle.meaning.specs.Array.{Array, countAt, instanceAt, processCount, streamCount, pipeNumber, pipeAt, stopsOn, elementsOn, stopAt, partStart, pipeThrough, onPipe, placeOn}
+use Rattle.meaning.specs.Array.{Array, countAt, instanceAt, processCount, streamCount, pipeNumber, pipeAt, stopsOn, elementsOn}
+use Rattle.meaning.specs.Array.{stopAt, partStart, pipeThrough, onPipe, placeOn}
 use Rattle.meaning.specs.State.{Word, Firings, Taken, Given, Hand, Keep, Place, Sent, Received, End, read, write}
 
 -- ---- links: link k of pipe q lies before its process at place k; the last one, k the number of its processes, before its output end
@@ -58,8 +59,8 @@ module _ (A : Array) where
   abbrev pub increase : List ℕ → Word → List ℕ
   increase st w = write A st w (suc (read A st w))
 
-  -- ---- sound: "each count is between 0 and its total, each link's fill is between 0 and its places, and taken exceeds given by 0 or 1; for
-  -- stationary streams at computing processes by 0 before the first take and once the keep is given, by 1 or 2 between"
+  -- ---- sound: "each count is between 0 and its total, each link's fill is between 0 and its places, and taken exceeds given by 0 or 1;
+  -- for stationary streams at computing processes by 0 before the first take and once the keep is given, by 1 or 2 between"
 
   -- a count's total: "without a pipe the totals are 0", since a pipe that is not there has no elements. Other words have none
   abbrev pub totalOf : Word → ℕ
@@ -87,7 +88,8 @@ module _ (A : Array) where
 
   abbrev pub soundStop : List ℕ → ℕ → ℕ → Bool
   soundStop st q k =
-      soundHand (stopAt A q k .keeps) (elementsOn A q) (read A st (Taken (processOn q k) (streamOn q))) (read A st (Given (processOn q k) (streamOn q)))
+      soundHand (stopAt A q k .keeps) (elementsOn A q) (read A st (Taken (processOn q k) (streamOn q)))
+      (read A st (Given (processOn q k) (streamOn q)))
       && soundLink st q k
 
   abbrev pub soundPipe : List ℕ → ℕ → Bool
@@ -116,7 +118,8 @@ module _ (A : Array) where
   -- Give: "an element that is soaked, drained or used"; "the keep is given last, after all firings and all other elements"
   abbrev pub canOffer : Bool → ℕ → ℕ → ℕ → ℕ → ℕ → ℕ → Bool
   canOffer keeps n soak count x y f =
-      cond keeps (eqb x (suc (suc y)) || (eqb x (suc y) && eqb x n && eqb f count)) (eqb x (suc y) && (ltb y soak || leb (soak + count) y || ltb y (soak + f)))
+      cond keeps (eqb x (suc (suc y)) || (eqb x (suc y) && eqb x n && eqb f count))
+      (eqb x (suc y) && (ltb y soak || leb (soak + count) y || ltb y (soak + f)))
 
   -- the word that the next element taken goes to, that an instance uses, and that is given
   abbrev pub takesTo : Bool → ℕ → ℕ → ℕ → Word

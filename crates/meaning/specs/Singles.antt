@@ -1,6 +1,6 @@
--- Cases of single calls and steps beside document 01's, because they hold the rules: whole tables, direction −1, a stride, a link's places, a state that no start
--- leads to, three loops, null processes, guards, declined calls. They are computed in a moment, so that a wrong rule is found here, before any run. The words are
--- those of the second implementation.
+-- Cases of single calls and steps beside document 01's, because they hold the rules: whole tables, direction −1, a stride, a link's places,
+-- a state that no start leads to, three loops, null processes, guards, declined calls. They are computed in a moment, so that a wrong rule
+-- is found here, before any run. The words are those of the second implementation.
 use mathlib.Core.Path.{_≡_, refl}
 use mathlib.Core.List.{List, [], _∷_, _++_, map}
 use Prim.Native.Nat.{ℕ}
@@ -22,7 +22,9 @@ use Rattle.meaning.specs.Rules.{moveDown, sound, writeAll, Memory, apply
 use Rattle.meaning.specs.Answers.{acceptNumber, acceptValues, answerNumber, ranNumber, readyNumber}
 use Rattle.meaning.specs.Calls.{table, start, step, run, readyCall, window, result, plainRun}
 use Rattle.meaning.specs.Comparison.{Case, _is_, naturals, number, planar, rowWords, eqList, firstWrong, agree}
-use Rattle.meaning.specs.Designs.{bytes, guarded, line, product, pair, polynomial, polynomialBy, designOne, designOneWith, designTwo, values, uncleared, turned, decimating, matrixProduct, matrixRising, matrixValues, columnWith, clearedOne, clearedTurned, clearedColumn, nest, blank, lent, startedWith, startedOn, undivided}
+use Rattle.meaning.specs.Designs.{bytes, guarded, line, product, pair, polynomial, polynomialBy, designOne, designOneWith, designTwo}
+use Rattle.meaning.specs.Designs.{values, uncleared, turned, decimating, matrixProduct, matrixRising, matrixValues, columnWith}
+use Rattle.meaning.specs.Designs.{clearedOne, clearedTurned, clearedColumn, nest, blank, lent, startedWith, startedOn, undivided}
 
 -- the words of a table of n rows lent
 abbrev tableWords : List ℕ → ℕ → List ℤ
@@ -36,8 +38,8 @@ odd =
       waiting = startedOn designOne 61 .waiting;
       received = replicate 11 0;
       state =
-          2 ∷ 1 ∷ 0 ∷ 0 ∷ 5 ∷ 0 ∷ 3 ∷ 2 ∷ 6 ∷ 0 ∷ 0 ∷ 0 ∷ 3 ∷ 2 ∷ 7 ∷ 0 ∷ 0 ∷ 0 ∷ 0 ∷ 0 ∷ 0 ∷ 0 ∷ 0 ∷ 1 ∷ 1 ∷ 99 ∷ 0 ∷ 42 ∷ 13 ∷ 2 ∷ 2 ∷ 0 ∷ 0 ∷ 0 ∷ 0
-          ∷ 0 ∷ 0 ∷ 0 ∷ 0 ∷ 0 ∷ 1 ∷ 1 ∷ 0 ∷ 0 ∷ 0 ∷ 0 ∷ 2 ∷ 1 ∷ 9 ∷ 0 ∷ 0 ∷ 1 ∷ 0 ∷ 0 ∷ 3 ∷ 0 ∷ 55 ∷ 66 ∷ 3 ∷ 1 ∷ 0 ∷ [];
+          2 ∷ 1 ∷ 0 ∷ 0 ∷ 5 ∷ 0 ∷ 3 ∷ 2 ∷ 6 ∷ 0 ∷ 0 ∷ 0 ∷ 3 ∷ 2 ∷ 7 ∷ 0 ∷ 0 ∷ 0 ∷ 0 ∷ 0 ∷ 0 ∷ 0 ∷ 0 ∷ 1 ∷ 1 ∷ 99 ∷ 0 ∷ 42 ∷ 13 ∷ 2 ∷ 2 ∷ 0
+          ∷ 0 ∷ 0 ∷ 0 ∷ 0 ∷ 0 ∷ 0 ∷ 0 ∷ 0 ∷ 1 ∷ 1 ∷ 0 ∷ 0 ∷ 0 ∷ 0 ∷ 2 ∷ 1 ∷ 9 ∷ 0 ∷ 0 ∷ 1 ∷ 0 ∷ 0 ∷ 3 ∷ 0 ∷ 55 ∷ 66 ∷ 3 ∷ 1 ∷ 0 ∷ [];
     }
 
 -- a step of a design, and the number that Step answers
@@ -94,7 +96,8 @@ nullProcess =
 
 -- what Accept answers to design one with one more line, which has this guard
 abbrev underGuard : ℤ → ℤ → ℤ → List ℤ
-underGuard loop comparison bound = number (acceptNumber (accept gaugeLimits (designOneWith (guarded 0 3 3 3 loop comparison bound ∷ product) 2)))
+underGuard loop comparison bound =
+    number (acceptNumber (accept gaugeLimits (designOneWith (guarded 0 3 3 3 loop comparison bound ∷ product) 2)))
 
 -- and to 2 by 2 times a column
 abbrev spatialGuard : ℤ → List ℤ
@@ -153,7 +156,8 @@ guards =
 abbrev pub calls : List Case
 calls =
     -- the increment is turned by the step, not by the directions: step i+2j, place i+j
-    (planar (increment (nest (polynomial 2 2 (pair (pos 1) (pos 2)) (pair (pos 1) (pos 1)) (pair (pos 1) (pos 1)) (pos 0 ∷ pos 0 ∷ pos 1 ∷ []))))
+    (planar
+    (increment (nest (polynomial 2 2 (pair (pos 1) (pos 2)) (pair (pos 1) (pos 1)) (pair (pos 1) (pos 1)) (pos 0 ∷ pos 0 ∷ pos 1 ∷ []))))
     is pair (negsuc 0) (pos 1))
     -- the table of design two; the sixth row lent is as it was
     ∷ (tableWords designTwo 6 is naturals
@@ -163,7 +167,8 @@ calls =
     ∷ 3 ∷ 0 ∷ 2 ∷ 1 ∷ 2 ∷ 0 ∷ 2 ∷ 1 ∷ 0 ∷ 1 ∷ 0 ∷ 3 ∷ 0 ∷ 0 ∷ 0 ∷ 0 ∷ 1 ∷ 1 ∷ 0 ∷ 0 ∷ 0
     ∷ 4 ∷ 0 ∷ 1 ∷ 2 ∷ 2 ∷ 0 ∷ 2 ∷ 2 ∷ 0 ∷ 2 ∷ 0 ∷ 4 ∷ 0 ∷ 0 ∷ 0 ∷ 0 ∷ 2 ∷ 0 ∷ 0 ∷ 0 ∷ 0
     ∷ replicate 9 7))
-    -- the table of the decimating filter of request 2.2: process 2 runs (0,2) and (1,0), the only instance of process 3 is on no face of the bounds
+    -- the table of the decimating filter of request 2.2: process 2 runs (0,2) and (1,0), the only instance of process 3 is on no face of
+    -- the bounds
     ∷ (tableWords (decimating 2 2) 7 is naturals
     (0 ∷ 0 ∷ 1 ∷ 0 ∷ 0 ∷ 0 ∷ 0 ∷ 0 ∷ 0 ∷ 0 ∷ 0 ∷ 4 ∷ 0 ∷ 0 ∷ 0 ∷ 2 ∷ 6 ∷ 0 ∷ 0 ∷ 0 ∷ 0
     ∷ 1 ∷ 0 ∷ 1 ∷ 0 ∷ 1 ∷ 0 ∷ 0 ∷ 1 ∷ 0 ∷ 0 ∷ 1 ∷ 3 ∷ 0 ∷ 0 ∷ 0 ∷ 2 ∷ 5 ∷ 1 ∷ 0 ∷ 0 ∷ 0
@@ -189,8 +194,8 @@ calls =
     ∷ (stepNumber 0 1 0 twoSent is number 24)
     -- a sound state that no start leads to, stepped once by each rule; a further send on a finds no room
     ∷ (naturals (stepped .state) is naturals
-    (3 ∷ 1 ∷ 0 ∷ 0 ∷ 5 ∷ 2 ∷ 3 ∷ 2 ∷ 6 ∷ 0 ∷ 0 ∷ 0 ∷ 3 ∷ 2 ∷ 37 ∷ 0 ∷ 0 ∷ 0 ∷ 0 ∷ 0 ∷ 0 ∷ 0 ∷ 0 ∷ 2 ∷ 1 ∷ 42 ∷ 0 ∷ 0 ∷ 13 ∷ 2 ∷ 2 ∷ 0 ∷ 0 ∷ 0 ∷ 0
-    ∷ 0 ∷ 0 ∷ 0 ∷ 0 ∷ 0 ∷ 1 ∷ 1 ∷ 0 ∷ 0 ∷ 0 ∷ 0 ∷ 2 ∷ 2 ∷ 0 ∷ 0 ∷ 0 ∷ 2 ∷ 0 ∷ 0 ∷ 3 ∷ 1 ∷ 0 ∷ 66 ∷ 3 ∷ 1 ∷ 9 ∷ []))
+    (3 ∷ 1 ∷ 0 ∷ 0 ∷ 5 ∷ 2 ∷ 3 ∷ 2 ∷ 6 ∷ 0 ∷ 0 ∷ 0 ∷ 3 ∷ 2 ∷ 37 ∷ 0 ∷ 0 ∷ 0 ∷ 0 ∷ 0 ∷ 0 ∷ 0 ∷ 0 ∷ 2 ∷ 1 ∷ 42 ∷ 0 ∷ 0 ∷ 13 ∷ 2 ∷ 2 ∷ 0 ∷ 0
+    ∷ 0 ∷ 0 ∷ 0 ∷ 0 ∷ 0 ∷ 0 ∷ 0 ∷ 1 ∷ 1 ∷ 0 ∷ 0 ∷ 0 ∷ 0 ∷ 2 ∷ 2 ∷ 0 ∷ 0 ∷ 0 ∷ 2 ∷ 0 ∷ 0 ∷ 3 ∷ 1 ∷ 0 ∷ 66 ∷ 3 ∷ 1 ∷ 9 ∷ []))
     ∷ (naturals (stepped .received) is naturals (0 ∷ 0 ∷ 0 ∷ 55 ∷ 0 ∷ 0 ∷ 0 ∷ 0 ∷ 0 ∷ 0 ∷ 0 ∷ []))
     ∷ (stepNumber 0 0 0 stepped is number 24)
     -- the keep of a at process 0, which has fired, is not given before the others are taken
@@ -206,7 +211,8 @@ calls =
     -- declined calls: the numbers in order, and nothing changed
     ∷ (number (answerNumber (table gaugeLimits designTwo (replicate 4 blank) .answer)) is number 18)
     ∷ (number (answerNumber (start gaugeLimits designOne (replicate 10 0) (lent 11 60) .answer)) is number 20)
-    ∷ (number (answerNumber (start gaugeLimits designOne values (record { waiting = replicate 11 0; received = []; state = [] }) .answer)) is number 26)
+    ∷ (number (answerNumber (start gaugeLimits designOne values (record { waiting = replicate 11 0; received = []; state = [] }) .answer))
+    is number 26)
     ∷ (number (answerNumber (start gaugeLimits designOne values (lent 11 60) .answer)) is number 21)
     ∷ (naturals (start gaugeLimits designOne values (lent 11 60) .memory .waiting) is naturals (replicate 11 7))
     ∷ (stepNumber 9 9 9 unsound is number 22)
@@ -231,5 +237,8 @@ abbrev pub singles : List Case
 singles = calls ++ (threePlaces ++ (nullProcess ++ guards))
 
 pub proved : map (λ c. c .got) singles ≡ map (λ c. c .wanted) singles
-unfolding eqList firstWrong bytes bitsAt wordAt gcdOf euclid filter any every position best bestOr total each numbersFrom refusal progression instances lineOf points widenAll around boxOf sentTo firstOf lastOf stays march lineIn pipe usedOn pipeElements nestOf streamOf bodyLine descriptionOf runLines touchedFrom scatter execute executeAll testsFrom refusalOf accept insertByStep byStep pipesFrom arrayOf moveDown sound writeAll apply firstReady runSteps applyAll table start step run readyCall window result plainRun
+unfolding eqList firstWrong bytes bitsAt wordAt gcdOf euclid filter any every position best bestOr total each numbersFrom refusal
+    progression instances lineOf points widenAll around boxOf sentTo firstOf lastOf stays march lineIn pipe usedOn pipeElements nestOf
+    streamOf bodyLine descriptionOf runLines touchedFrom scatter execute executeAll testsFrom refusalOf accept insertByStep byStep pipesFrom
+    arrayOf moveDown sound writeAll apply firstReady runSteps applyAll table start step run readyCall window result plainRun
 proved = agree singles refl

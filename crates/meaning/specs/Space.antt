@@ -1,5 +1,5 @@
--- Document 01, words of the trade: boxes and row order, the process space, and of a process its count, first and last. What is said of place
--- here holds of any matrix, so an index map has the same words: its box, and the instances that touch an element.
+-- Document 01, words of the trade: boxes and row order, the process space, and of a process its count, first and last. What is said of
+-- place here holds of any matrix, so an index map has the same words: its box, and the instances that touch an element.
 use mathlib.Core.Bool.{Bool, not, cond, _&&_}
 use mathlib.Core.List.{List, [], _∷_, map}
 use Prim.Native.Nat.{ℕ, _+_, _*_}
@@ -75,8 +75,8 @@ sentTo n m y = filter (λ x. eq2 (image m x) y) (instances n)
 abbrev pub countOf : Nest → Matrix → V2 → ℕ
 countOf n m y = length (sentTo n m y)
 
--- those "of least and greatest step"; they are the outermost points in the bounds of the line of points that m sends to y, on a face of the bounds or not
--- (request 2.2; `longer-strides` of requests)
+-- those "of least and greatest step"; they are the outermost points in the bounds of the line of points that m sends to y, on a face of the
+-- bounds or not (request 2.2; `longer-strides` of requests)
 abbrev pub sooner : Nest → V3 → V3 → Bool
 sooner n v u = ltZ (stepOf n v) (stepOf n u)
 

@@ -1,5 +1,6 @@
--- Document 01, the words of a state and where they stand: "for each process its firings, and for each stream taken, given, hand, keep and the places of
--- the link into it; for each pipe sent, received and the places of its last link". That order is the program's choice (docs/STATE.md).
+-- Document 01, the words of a state and where they stand: "for each process its firings, and for each stream taken, given, hand, keep and
+-- the places of the link into it; for each pipe sent, received and the places of its last link". That order is the program's choice
+-- (docs/STATE.md).
 use mathlib.Core.List.{List, _∷_, _++_, map}
 use Prim.Native.Nat.{ℕ, _+_, _*_}
 use lib.ListN.{getD, set, take}

@@ -1,5 +1,5 @@
--- Request 2.4, "walk by process": the order in which the check for untouched elements goes through the instances, what a whole walk comes to, and that Accept
--- answers as before (`walk-by-process` of requests).
+-- Request 2.4, "walk by process": the order in which the check for untouched elements goes through the instances, what a whole walk comes
+-- to, and that Accept answers as before (`walk-by-process` of requests).
 use mathlib.Core.Path.{_≡_}
 use mathlib.Core.Bool.{Bool, not}
 use mathlib.Core.List.{List, [], _∷_, _++_, map, List·Memᴰ as In, List·Permᴰ as Rearranged}
@@ -28,7 +28,8 @@ use Rattle.meaning.specs.Answers.{acceptNumber}
 
 -- ---- the walk
 
--- "along each process's own line from first": as many instances as it has, an increment apart (that they end with last, `to-last` below says)
+-- "along each process's own line from first": as many instances as it has, an increment apart (that they end with last, `to-last` below
+-- says)
 abbrev pub ownLine : Nest → V2 → List V3
 ownLine n y = map (λ k. shift3 (first n y) (pos k) (increment n)) (numbers (count n y))
 
@@ -60,7 +61,8 @@ pub record WholeWalk (n : Nest) : Type 0 where
 
 -- ---- the descriptions that have a walk
 
--- the number of the first of the refusals 33 and 1 to 10 that applies, those before any stream is looked at; 0 if none does, and then there is a walk
+-- the number of the first of the refusals 33 and 1 to 10 that applies, those before any stream is looked at; 0 if none does, and then there
+-- is a walk
 abbrev pub walkTests : Limits → List ℕ → List Test
 walkTests l s = (33 if refused33 l) ∷ byteTests s ++ nestTests l (descriptionOf s .nest)
 

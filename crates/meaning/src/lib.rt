@@ -1,4 +1,5 @@
-// The types of the calls. What they mean is in specs/, one definition for each word of document 01, in its order, as the requests of document 02 leave it:
+// The types of the calls. What they mean is in specs/, one definition for each word of document 01, in its order, as the requests of
+// document 02 leave it:
 //
 //   Limits            the boards: their limits of refusals 6, 10 and 14, the former ones, and how many words they allow a state
 //   Lists, Tests      small helpers: lists filtered and searched, refusals tried in order
@@ -26,14 +27,15 @@
 //   Leaves            what operations put, when a line runs and what loops leave, as propositions; by the plain run and by the network
 //   FixedPoint        request 2.1: what Accept answers to operation 6
 //   GuardedLines      request 2.5: what Accept answers to descriptions of the older length and to guards, and when lines run
-//   CommonDivisors    request 2.7: what the divisors in Accept's answer are, and how far apart they say that values and working processes lie
+//   CommonDivisors    request 2.7: what the divisors in Accept's answer are, and how far apart they say that values and working processes
+//                     lie
 //   Walk              request 2.4: the walk by process, what a whole walk comes to, and Accept with the check along it
 //   BenchBoard        request 2.9: what a board word changes, and what it leaves
 //   Designs, Cases    the documents' designs as bytes, and document 01's cases marked P, computed as one table (Comparison)
 //   Singles           cases beside them that hold the rules: tables, single steps and declined calls; `cases` has whole runs
 //
-// Two loops are three, the third running from 0 to 0: its direction is 1, its step coefficient 0; place and every index map get a second row
-// (0, 0, 1), and a loading vector a second component 0. Then one set of definitions serves both.
+// Two loops are three, the third running from 0 to 0: its direction is 1, its step coefficient 0; place and every index map get a second
+// row (0, 0, 1), and a loading vector a second component 0. Then one set of definitions serves both.
 use integers::Matrix;
 use integers::V2;
 use integers::V3;

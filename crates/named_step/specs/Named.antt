@@ -18,7 +18,8 @@ use Rattle.ports.specs.declared.Port.{Port}
 use Rattle.port_table.specs.declared.Size.{Size}
 use Rattle.port_table.specs.PortsOf.{portAt, RowsFit}
 use Rattle.step_rules.specs.Fits.{Inside}
-use Rattle.step_rules.specs.Meaning.{stepNamed, Kind, Kind.is-send, Kind.is-take, Kind.is-fire, Kind.is-give, Kind.is-receive, kind-of, Stands}
+use Rattle.step_rules.specs.Meaning.{stepNamed, Kind, Kind.is-send, Kind.is-take, Kind.is-fire, Kind.is-give, Kind.is-receive, kind-of}
+use Rattle.step_rules.specs.Meaning.{Stands}
 
 -- a port table that has rows for so many processes and streams
 pub record Rows (b : List ℕ) (z : Size) : Type 0 where
@@ -60,7 +61,8 @@ module _ (l : Limits) (s : List ℕ) {b : List ℕ} {z : Size} (t : Stands (A l 
           let k = ltb-true i _ f in
           on p i h k ∙ ap (λ (r : Port). ltb 0 (r .total)) (sym (t .planned .ports p i h k))
 
-  pub named-is : (kind number stream : ℕ) → stepOf l s kind number stream ≡ cond (namedBy b z kind number stream) (at (stepNamed kind number stream)) nothing
+  pub named-is : (kind number stream : ℕ)
+      → stepOf l s kind number stream ≡ cond (namedBy b z kind number stream) (at (stepNamed kind number stream)) nothing
   named-is kind number stream = go (kind-of kind)
     where
       last : (x : Bool) → cond x (cond (ltb number (pipeNumber (A l s))) (at (Receive number)) nothing) nothing
@@ -74,7 +76,8 @@ module _ (l : Limits) (s : List ℕ) {b : List ℕ} {z : Size} (t : Stands (A l 
       go is-fire = rw (t .size .processes) refl
       go is-give = ap (λ (x : Bool). ifThere l s x (Give number stream)) (has-port-is number stream)
       go (is-receive k h) =
-          rw (ne-eqb k 0 (omega arith), ne-eqb k 1 (omega arith), ne-eqb k 2 (omega arith), ne-eqb k 3 (omega arith), t .size .pipes) (last (eqb k 4))
+          rw (ne-eqb k 0 (omega arith), ne-eqb k 1 (omega arith), ne-eqb k 2 (omega arith), ne-eqb k 3 (omega arith), t .size .pipes)
+          (last (eqb k 4))
 
 -- the number of a step that has a name is in range
 module _ (b : List ℕ) (z : Size) where
@@ -118,4 +121,5 @@ module _ (b : List ℕ) (z : Size) where
       go is-give e = let h = port-inside number stream e in process-only 3 (omega arith) (omega arith) (h .0) (λ o. h .1)
       go (is-receive k h) e =
           pipe-only k (inr h)
-          (last (eqb k 4) (rw (ne-eqb k 0 (omega arith), ne-eqb k 1 (omega arith), ne-eqb k 2 (omega arith), ne-eqb k 3 (omega arith)) at e))
+          (last (eqb k 4)
+          (rw (ne-eqb k 0 (omega arith), ne-eqb k 1 (omega arith), ne-eqb k 2 (omega arith), ne-eqb k 3 (omega arith)) at e))

@@ -67,7 +67,8 @@ module _ {s : List ℕ} {M : Memory} {b : List ℕ} {z : Size} (o : Opened s M b
     named : (l : Limits) → stepOf l s kind number stream ≡ at (stepNamed kind number stream)
     named l = found l ∙ rw e refl
 
-    tested : canBy b (M .state) (z .streams) kind number stream ≡ ready (arrayOf (descriptionOf s)) (M .state) (stepNamed kind number stream)
+    tested : canBy b (M .state) (z .streams) kind number stream
+        ≡ ready (arrayOf (descriptionOf s)) (M .state) (stepNamed kind number stream)
     tested = can-is (stands ground (o .stood)) M (o .stood .sound) kind number stream inside
 
     pub steppable : canBy b (M .state) (z .streams) kind number stream ≡ true → Steppable (descriptionOf s) b z kind number stream M

@@ -1,5 +1,5 @@
-// A step by its name, a kind, a process or pipe number and a stream: whether there is such a step, whether it is ready, and the step done. The
-// memory is opened, so that nothing else is refused.
+// A step by its name, a kind, a process or pipe number and a stream: whether there is such a step, whether it is ready, and the step done.
+// The memory is opened, so that nothing else is refused.
 //
 // specs/, by file:
 //
@@ -67,7 +67,8 @@ fn perform(
     requires { ⌜ (Steppable d (now ports) z kind number stream (memoryOf (now waiting) (now received) (now state)))
         × (Spans (d .nest) (now spans)) × (length (now spans) ≡ spanWords) ⌝ }
     ensures { λ r. ⌜ memoryOf (now (waiting .entry)) (now (received .exit)) (now (state .exit))
-        ≡ apply (arrayOf d) (memoryOf (now (waiting .entry)) (now (received .entry)) (now (state .entry))) (stepNamed kind number stream) ⌝ }
+        ≡ apply (arrayOf d) (memoryOf (now (waiting .entry)) (now (received .entry)) (now (state .entry)))
+        (stepNamed kind number stream) ⌝ }
 {
     let g = step_rules::program_of(d);
     step_rules::act(
@@ -99,7 +100,8 @@ pub fn step_opened(
 ) -> Answer
     requires { ⌜ (Opened (now s) (memoryOf (now waiting) (now received) (now state)) (now ports) z)
         × (Spans (descriptionOf (now s) .nest) (now spans)) × (length (now spans) ≡ spanWords) ⌝ }
-    ensures { λ r. ⌜ Stepped (now (s .entry)) kind number stream (memoryOf (now (waiting .entry)) (now (received .entry)) (now (state .entry))) r
+    ensures { λ r. ⌜ Stepped (now (s .entry)) kind number stream
+        (memoryOf (now (waiting .entry)) (now (received .entry)) (now (state .entry))) r
         (memoryOf (now (waiting .entry)) (now (received .exit)) (now (state .exit))) ⌝ }
 {
     if named(ports, z, kind, number, stream) {

@@ -54,7 +54,8 @@ module _ (A : Array) where
 module _ {A : Array} (W : Wired A) where
   pub foreign-below : {b : Step} → Moves b → There A b → foreign A b < wordCount A
   foreign-below {b} m h =
-      rw (foreign-is A m) (layout A .below (wordAt A (across (stepOf A b))) (word-live A W (Slots.counter (across (stepOf A b))) (across-has A m h)))
+      rw (foreign-is A m)
+      (layout A .below (wordAt A (across (stepOf A b))) (word-live A W (Slots.counter (across (stepOf A b))) (across-has A m h)))
 
   pub foreign-apart : (a b : Step) → There A a → There A b → Moves a → Moves b → foreign A a ≡ foreign A b → a ≡ b
   foreign-apart a b h l m n e =
@@ -65,6 +66,7 @@ module _ {A : Array} (W : Wired A) where
       let d =
       layout A .apart (wordAt A x) (wordAt A y) (word-live A W (Slots.counter x) i) (word-live A W (Slots.counter y) j)
       (sym (foreign-is A m) ∙ e ∙ foreign-is A n) in
-      let c : Slots.counter x ≡ Slots.counter y = sym (slot-word A W (Slots.counter x) i) ∙ ap (Slots.slotOf A) d ∙ slot-word A W (Slots.counter y) j in
+      let c : Slots.counter x ≡ Slots.counter y = sym (slot-word A W (Slots.counter x) i) ∙ ap (Slots.slotOf A) d
+      ∙ slot-word A W (Slots.counter y) j in
       let z : x ≡ y = sym (step-counter x) ∙ ap stepAt c ∙ step-counter y in
       step-apart A a b h l (sym (back (stepOf A a)) ∙ ap across z ∙ back (stepOf A b))

@@ -1,5 +1,5 @@
--- What the guard of a step of the abstract network looks at: the step's own counter, the counter of the other end of its link, and the counters of its
--- stop. Assumes nothing.
+-- What the guard of a step of the abstract network looks at: the step's own counter, the counter of the other end of its link, and the
+-- counters of its stop. Assumes nothing.
 use mathlib.Core.Path.{_≡_, sym, _∙_, ap, subst}
 use mathlib.Core.Logic.{_↔_}
 use Prim.Native.Nat.{ℕ, zero, suc, _<_}
@@ -43,7 +43,11 @@ module _ (N : Net) where
       let u = f (fire p) self in (
         omega arith,
         λ q k l e.
-            rw (f (get q k) (use-get l e), f (put q (suc k)) (use-put l e), ap (λ (p : ℕ). c' (fire p)) e ∙ u ∙ ap (λ (p : ℕ). c (fire p)) (sym e))
+            rw (
+              f (get q k) (use-get l e),
+              f (put q (suc k)) (use-put l e),
+              ap (λ (p : ℕ). c' (fire p)) e ∙ u ∙ ap (λ (p : ℕ). c (fire p)) (sym e),
+            )
             (o q k l e),
       )
 

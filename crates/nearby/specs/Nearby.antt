@@ -1,5 +1,5 @@
--- After a ready step only the steps near it can have changed their readiness: those of its own process or pipe end, and the one that looks at the word
--- that it counts up from the other end of a link. Assumes nothing.
+-- After a ready step only the steps near it can have changed their readiness: those of its own process or pipe end, and the one that looks
+-- at the word that it counts up from the other end of a link. Assumes nothing.
 use mathlib.Core.Path.{_≡_, refl, sym, _∙_, ap, ap₂, subst₂}
 use mathlib.Core.Bool.{Bool, true}
 use mathlib.Core.Logic.{_⊎_, inl, inr}
@@ -104,7 +104,8 @@ module _ (A : Array) where
   counted-is : (a : Step) → There A a → wordAt (stepOf A a) ≡ counted a
   counted-is (Send q) h = refl
   counted-is (Take p s) h =
-      let z = has-port A p s h in rw (lt-ltb (placeAt A p s) (stopsOn A (pipeThrough A p s)) (z .place-lt)) (ap₂ Taken (z .process) (z .stream))
+      let z = has-port A p s h in
+      rw (lt-ltb (placeAt A p s) (stopsOn A (pipeThrough A p s)) (z .place-lt)) (ap₂ Taken (z .process) (z .stream))
   counted-is (Fire p) h = refl
   counted-is (Give p s) h = let z = has-port A p s h in ap₂ Given (z .process) (z .stream)
   counted-is (Receive q) h = rw (le-ltb (stopsOn A q) (stopsOn A q) (le-refl (stopsOn A q)))
@@ -137,7 +138,8 @@ module _ (A : Array) where
 
 module _ {A : Array} (W : Wired A) where
   pub counter-below : (a : Step) → There A a → counter A a < wordCount A
-  counter-below a h = rw (counted-is A a h) at (layout A .below (wordAt A (stepOf A a)) (word-live A W (Slots.counter (stepOf A a)) (counter-has A a h)))
+  counter-below a h =
+      rw (counted-is A a h) at (layout A .below (wordAt A (stepOf A a)) (word-live A W (Slots.counter (stepOf A a)) (counter-has A a h)))
 
   -- ---- the steps at place k of pipe q
 
@@ -179,7 +181,8 @@ says-same f g (holds x) (fails n) = absurd (n (f x))
 says-same f g (fails n) (holds y) = absurd (n (g y))
 says-same f g (fails n) (fails m) = refl
 
-pub stays : {A : Array} (W : Wired A) (M : Memory) → wordCount A ≤ length (M .state) → sound A (M .state) ≡ true → (a b : Step) → There A a → There A b
+pub stays : {A : Array} (W : Wired A) (M : Memory) → wordCount A ≤ length (M .state) → sound A (M .state) ≡ true → (a b : Step)
+    → There A a → There A b
     → ready A (M .state) a ≡ true → (Own a b → ⊥) → (foreign A b ≡ counter A a → ⊥) → ready A (apply A M a .state) b ≡ ready A (M .state) b
 stays {A} W M w s a b h l r own far =
     let S = said (says-sound W (M .state)) s .0 in

@@ -1,5 +1,5 @@
--- No call changes what stands past the words of a state, on any memory, of any description: a call that is not declined has a sound state, and does granted
--- steps only. Assumes that the array of an accepted description is wired.
+-- No call changes what stands past the words of a state, on any memory, of any description: a call that is not declined has a sound state,
+-- and does granted steps only. Assumes that the array of an accepted description is wired.
 use mathlib.Core.Path.{_≡_, refl, sym, _∙_, ap, subst}
 use mathlib.Core.Bool.{Bool, true, false}
 use mathlib.Core.Logic.{_⊎_, inl, inr}
@@ -58,12 +58,14 @@ module _ (l : Limits) (s : List ℕ) where
     unfolding applyAll
     call-beyond M c = ap (λ (N : Memory). drop (stateLength d) (N .state)) (call-does l s M c .leaves-is) ∙ go (granted-usable M c)
       where
-        go : (grants l s M c ≡ []) ⊎ Usable l s M → drop (stateLength d) (applyAll A M (grants l s M c) .state) ≡ drop (stateLength d) (M .state)
+        go : (grants l s M c ≡ []) ⊎ Usable l s M
+            → drop (stateLength d) (applyAll A M (grants l s M c) .state) ≡ drop (stateLength d) (M .state)
         go (inl e) = ap (λ (ss : List Step). drop (stateLength d) (applyAll A M ss .state)) e
         go (inr u) =
             subst (λ (n : ℕ). drop n (applyAll A M (grants l s M c) .state) ≡ drop n (M .state)) (words-are d)
             (written-beyond (wired (u .accepted))
-            (kept (wired (u .accepted)) (omega (arith, u .passes .long, words-are d)) (u .passes .sound) (call-does l s M c .granted) .written))
+            (kept (wired (u .accepted)) (omega (arith, u .passes .long, words-are d)) (u .passes .sound)
+            (call-does l s M c .granted) .written))
 
 -- a list of calls, whatever limits each is told
 module _ (s : List ℕ) (wired : (l : Limits) → refusalOf l s ≡ 0 → Wired (arrayOf (descriptionOf s))) where

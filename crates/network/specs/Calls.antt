@@ -11,9 +11,11 @@ use Rattle.meaning.specs.Tests.{Test, _if_, refusal}
 use Rattle.meaning.specs.Description.{descriptionOf}
 use Rattle.meaning.specs.Accept.{refusalOf}
 use Rattle.meaning.specs.Array.{Array, arrayOf, processCount, streamCount, pipeNumber, onPipe}
-use Rattle.meaning.specs.Rules.{Step, Send, Take, Fire, Give, Receive, Memory, ready, apply, inOrder, Found, at, nothing, lowest, runSteps, applyAll}
+use Rattle.meaning.specs.Rules.{Step, Send, Take, Fire, Give, Receive, Memory, ready, apply, inOrder, Found, at, nothing, lowest, runSteps}
+use Rattle.meaning.specs.Rules.{applyAll}
 use Rattle.meaning.specs.Calls.{orElse, memoryTests, refusedBy, hasPort, ifThere, stepOf, isNothing, readyAt, applied, step, run}
-use Rattle.meaning.specs.Demand3.{Call, CallStep, CallRun, CallReady, CallWindow, CallResult, Told, leaves, asList, grants, memoryAfter, grantedBy}
+use Rattle.meaning.specs.Demand3.{Call, CallStep, CallRun, CallReady, CallWindow, CallResult, Told, leaves, asList, grants, memoryAfter}
+use Rattle.meaning.specs.Demand3.{grantedBy}
 use Rattle.lists.specs.Tests.{both-true}
 use Rattle.network.specs.Ready.{There}
 use Rattle.network.specs.Members.{listed, ready-there, found-passes}

@@ -80,7 +80,8 @@ module _ (X : System) where
       where
         go : Order k (stops q) → c (put q k) ≤ c (get q k) + i
         go (less b) = omega (arith, all-get net (Q .inv) (laid .shapes) q (o q) k b .0, below-head net (Q .inv) q k l)
-        go (atLeast b) = let e : k ≡ stops q = omega arith in omega (arith, o q, ap (λ (k : ℕ). c (get q k)) e, below-head net (Q .inv) q k l)
+        go (atLeast b) = let e : k ≡ stops q = omega arith in
+            omega (arith, o q, ap (λ (k : ℕ). c (get q k)) e, below-head net (Q .inv) q k l)
 
     pub finish-stop : Out c → (q k : ℕ) → k < stops q → (W .hand q k ≡ 0) × (W .kept q k ≡ 0)
     unfolding Out

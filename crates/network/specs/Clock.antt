@@ -171,7 +171,8 @@ module _ (N : Net) (σ T : ℕ) (time : ℕ → ℕ → ℕ) where
     place (none e z) k i h = absurd (omega arith)
 
     clocks : {q : ℕ} (t : Timing q) (k : ℕ) → k < stops q
-        → Clocked (elements q) (soak q k) (count (process q k)) (due-get t k) (due-put t (suc k)) (due timing (fire (process q k))) (kind q k)
+        → Clocked (elements q) (soak q k) (count (process q k)) (due-get t k) (due-put t (suc k))
+        (due timing (fire (process q k))) (kind q k)
     unfolding due-put due-get due mput mget
     clocks {q} (moving θ z f) k l = clock-runs θ one (hop q) (elements q) (soak q k) (count (process q k)) k (time (process q k)) (f k l)
     clocks {q} (stationary rank z g f u) k l =

@@ -1,5 +1,5 @@
--- The number of granted steps: it is the sum of the counters, at most the sum of their totals, and equal to it exactly if all values are out.
--- Assumes nothing.
+-- The number of granted steps: it is the sum of the counters, at most the sum of their totals, and equal to it exactly if all values are
+-- out. Assumes nothing.
 use mathlib.Core.Path.{_≡_, refl, sym, _∙_, ap, ap₂}
 use Prim.Native.Nat.{ℕ, suc, _+_, _*_, _≤_, _<_}
 use native.Mathlib.Nat.{le-refl}
@@ -7,7 +7,8 @@ use native.Mathlib.Omega.{arith}
 use Rattle.meaning.specs.Lists.{total, numbers}
 use Rattle.lists.specs.Sums.{sum-same, sum-le, sum-one, sum-tight, sum-const}
 use Rattle.network.specs.Cases.{Order, less, atLeast, order}
-use Rattle.network.specs.Counters.{Step, put, get, fire, Counts, Net, Inv, OneMore, put≢get, put≢fire, get≢fire, get-elements, below-head}
+use Rattle.network.specs.Counters.{Step, put, get, fire, Counts, Net, Inv, OneMore, put≢get, put≢fire, get≢fire, get-elements}
+use Rattle.network.specs.Counters.{below-head}
 use Rattle.network.specs.Words.{Words}
 use Rattle.network.specs.Due.{Occurs, ready-occurs}
 use Rattle.network.specs.System.{System}
@@ -71,7 +72,8 @@ module _ (N : Net) where
         (omega (arith, h q k refl .1))
         (omega (arith, B .up, B .rest (put q k) (λ e. put≢get (sym e))))
         (λ j n. ap₂ _+_ (B .rest (put q j) (λ e. put≢get (sym e))) (B .rest (get q j) (λ e. n (cc)))))
-        (λ r n. sum-same _ _ 0 (suc (stops r)) (λ j u v. ap₂ _+_ (B .rest (put r j) (λ e. put≢get (sym e))) (B .rest (get r j) (λ e. n (cc))))) in
+        (λ r n. sum-same _ _ 0 (suc (stops r))
+        (λ j u v. ap₂ _+_ (B .rest (put r j) (λ e. put≢get (sym e))) (B .rest (get r j) (λ e. n (cc))))) in
         omega (arith, fires, links)
 
 module _ (X : System) (P Q : ℕ)
@@ -131,7 +133,8 @@ module _ (X : System) (P Q : ℕ)
 
     link-le : (q : ℕ) → linkSum net c q ≤ linkSum net (totals net) q
     unfolding linkSum
-    link-le q = sum-le _ _ 0 (suc (stops q)) (λ k a b. omega (arith, below-head net I q k (omega arith), get-elements net I q k (omega arith)))
+    link-le q =
+        sum-le _ _ 0 (suc (stops q)) (λ k a b. omega (arith, below-head net I q k (omega arith), get-elements net I q k (omega arith)))
 
     -- at most the total
     pub granted-most : t ≤ stepSum net P Q (totals net)
@@ -178,8 +181,8 @@ module _ (X : System) (P Q : ℕ)
         go (atLeast l) = omega (arith, get-elements net I q (stops q) (le-refl (stops q)))
         go (less l) =
             let b : q < Q = pipes q (omega arith) in
-            let d = sum-tight (linkSum net c) (linkSum net (totals net)) 0 Q (λ q a b. link-le q) (omega (arith, counted r, le-fires, le-links)) q
-            (omega arith) (omega arith) in
+            let d = sum-tight (linkSum net c) (linkSum net (totals net)) 0 Q (λ q a b. link-le q)
+            (omega (arith, counted r, le-fires, le-links)) q (omega arith) (omega arith) in
             let k =
             sum-tight (λ k. c (put q k) + c (get q k)) (λ k. elements q + elements q) 0 (suc (stops q))
             (λ k a b. omega (arith, below-head net I q k (omega arith), get-elements net I q k (omega arith))) d (stops q) (omega arith)

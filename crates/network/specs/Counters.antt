@@ -202,8 +202,8 @@ module _ (N : Net) where
 
       pub all-get : (k : ℕ) → k < stops q → (c (get q k) ≡ elements q) × (c (fire (process q k)) ≡ count (process q k))
       all-get k h =
-          stop-done (shapes q k h) (get-elements q k (omega arith)) (I .fires (process q k)) (all-put (stops q - suc k) (suc k) (omega arith))
-          (I .stop q k h)
+          stop-done (shapes q k h) (get-elements q k (omega arith)) (I .fires (process q k))
+          (all-put (stops q - suc k) (suc k) (omega arith)) (I .stop q k h)
 
     -- what is taken out further on was put in here
     pub along : (q k j : ℕ) → k < j → j ≤ stops q → c (get q j) ≤ c (put q (suc k))

@@ -1,4 +1,5 @@
--- Tests and what they say: the tests of hands, uses and offers, as the rules make them, decide the conditions of the abstract network. Assumes nothing.
+-- Tests and what they say: the tests of hands, uses and offers, as the rules make them, decide the conditions of the abstract network.
+-- Assumes nothing.
 use mathlib.Core.Path.{_≡_, refl}
 use mathlib.Core.Bool.{Bool, true, false, not, cond, _&&_, _||_}
 use mathlib.Core.Logic.{_⊎_, inl, inr}
@@ -11,7 +12,8 @@ use Rattle.meaning.specs.Array.{Array}
 use Rattle.meaning.specs.Rules.{handEmpty, canUse, canOffer, soundHand}
 use Rattle.lists.specs.Rows.{every-numbers, numbers-every}
 use Rattle.network.specs.Cases.{Order, less, atLeast, order}
-use Rattle.network.specs.Counters.{through, keep, Hand, empty, first, free, Offer, soaked, drained, used, passed, kept, Use, hand, held}
+use Rattle.network.specs.Counters.{through, keep, Hand, empty, first, free, Offer, soaked, drained, used, passed, kept, Use, hand}
+use Rattle.network.specs.Counters.{held}
 use Rattle.network.specs.Sound.{Balance, even, ahead, untaken, keeping, given}
 use Rattle.network.specs.Wiring.{kindOf}
 
@@ -84,7 +86,8 @@ module _ {A : Type 0} where
   says-given false b e s = absurd (let z : _≡_ {A = ℕ} 0 1 = cc in omega arith)
 
 -- for all numbers below n
-pub says-every : {P : ℕ → Type 0} (f : ℕ → Bool) (n : ℕ) → ((j : ℕ) → j < n → Says (P j) (f j)) → Says ((j : ℕ) → j < n → P j) (every f (numbers n))
+pub says-every : {P : ℕ → Type 0} (f : ℕ → Bool) (n : ℕ) → ((j : ℕ) → j < n → Says (P j) (f j))
+    → Says ((j : ℕ) → j < n → P j) (every f (numbers n))
 says-every {P} f n h = go (every f (numbers n)) refl
   where
     go : (b : Bool) → every f (numbers n) ≡ b → Says ((j : ℕ) → j < n → P j) b
@@ -155,7 +158,8 @@ module _ (A : Array) (n s t x y f x' y' f' : ℕ) (ex : x' ≡ x) (ey : y' ≡ y
       to (soaked l a) = (next l B, inl (inl (omega arith)))
       to (drained l a) = (next l B, inl (inr (omega arith)))
       to (used l a) = (next l B, inr (omega arith))
-  says-offer true B = says-as from to (says-or (says-eq x' (suc (suc y'))) (says-and (says-and (says-eq x' (suc y')) (says-eq x' n)) (says-eq f' t)))
+  says-offer true B =
+      says-as from to (says-or (says-eq x' (suc (suc y'))) (says-and (says-and (says-eq x' (suc y')) (says-eq x' n)) (says-eq f' t)))
     where
       from : (x' ≡ suc (suc y')) ⊎ (((x' ≡ suc y') × (x' ≡ n)) × (f' ≡ t)) → Offer n s t x y f keep
       from (inl e) = passed (omega arith)
@@ -201,7 +205,8 @@ module _ (A : Array) (n s t x y f x' y' f' : ℕ) (ex : x' ≡ x) (ey : y' ≡ y
       all e g (keeping a b d) = absurd (omega arith)
       all e g (given a b) = omega arith
 
-      last : {b : Bool} → (x' ≡ 0 → ⊥) → Says (y' ≡ n) b → Says (Balance n x y keep) (cond b (eqb x' n) (eqb x' (suc y') || eqb x' (suc (suc y'))))
+      last : {b : Bool} → (x' ≡ 0 → ⊥) → Says (y' ≡ n) b
+          → Says (Balance n x y keep) (cond b (eqb x' n) (eqb x' (suc y') || eqb x' (suc (suc y'))))
       last a (holds e) = says-as (λ d. given (omega arith) (omega arith)) (all e a) (says-eq x' n)
       last a (fails m) = says-as (from m) (to a m (order (suc y') x')) (says-or (says-eq x' (suc y')) (says-eq x' (suc (suc y'))))
 

@@ -17,7 +17,9 @@ use Rattle.meaning.specs.Accept.{testsFrom, refusalOf, answerOf, accept}
 use Rattle.meaning.specs.Array.{arrayOf, pipeNumber}
 use Rattle.meaning.specs.Rules.{sound, Memory}
 use Rattle.meaning.specs.Answers.{acceptNumber, answerNumber, ranNumber, readyNumber}
-use Rattle.meaning.specs.Calls.{lengthOf, stateLength, orElse, memoryTests, refusedBy, tableTests, table, startTests, start, stepOf, isNothing, readyAt, stepTests, step, run, readyTests, readyCall, window, allOut, resultTests, result, plainTests, plainRun}
+use Rattle.meaning.specs.Calls.{lengthOf, stateLength, orElse, memoryTests, refusedBy, tableTests, table, startTests, start, stepOf}
+use Rattle.meaning.specs.Calls.{isNothing, readyAt, stepTests, step, run, readyTests, readyCall, window, allOut, resultTests, result}
+use Rattle.meaning.specs.Calls.{plainTests, plainRun}
 use Rattle.meaning.specs.Demand1.{Numbers}
 use Rattle.meaning.specs.Alike.{DeclinedBy}
 use Rattle.meaning.specs.Demand3.{Call, CallStep, CallRun, CallReady, CallWindow, CallResult, declinedBy, NotByMemory}
@@ -83,7 +85,8 @@ pub record Usable (l : Limits) (s : List ℕ) (M : Memory) : Type 0 where
   pub accepted : refusalOf l s ≡ 0
   pub passes : Passes (descriptionOf s) M
 
-pub usable : (l : Limits) (s : List ℕ) (M : Memory) (ts : List Test) → refusedBy l s (memoryTests (descriptionOf s) M ++ ts) ≡ 0 → Usable l s M
+pub usable : (l : Limits) (s : List ℕ) (M : Memory) (ts : List Test)
+    → refusedBy l s (memoryTests (descriptionOf s) M ++ ts) ≡ 0 → Usable l s M
 usable l s M ts e =
     let r = or-else (refusalOf l s) _ e in
     let a = refusal-none _ _ (omega arith) (r .1) in
@@ -155,18 +158,24 @@ module _ (l : Limits) (s : List ℕ) {M : Memory} (u : Usable l s M) where
   declined-own (CallWindow pipe side) =
       let d = descriptionOf s in
       numbers-are l s .window pipe side (M .waiting) (M .received)
-      ∙ rw (u .accepted, eq-eqb (length (M .waiting)) (lengthOf d) (u .passes .waits), eq-eqb (length (M .received)) (lengthOf d) (u .passes .list))
+      ∙ rw (
+        u .accepted,
+        eq-eqb (length (M .waiting)) (lengthOf d) (u .passes .waits),
+        eq-eqb (length (M .received)) (lengthOf d) (u .passes .list),
+      )
   declined-own (CallResult output) = numbers-are l s .result output M ∙ own-left (own (CallResult output))
 
   -- none of them is one of the memory's
   own-fine : (c : Call) → NotByMemory (refusal (own c))
   own-fine (CallStep kind number stream) =
-      fine-more _ _ (fine-high 23 (omega arith) (λ e. omega arith)) (fine-more _ _ (fine-high 24 (omega arith) (λ e. omega arith)) fine-none)
+      fine-more _ _ (fine-high 23 (omega arith) (λ e. omega arith))
+      (fine-more _ _ (fine-high 24 (omega arith) (λ e. omega arith)) fine-none)
   own-fine (CallRun n) = fine-none
   own-fine (CallReady words) = fine-more _ _ (fine-high 27 (omega arith) (λ e. omega arith)) fine-none
   own-fine (CallWindow pipe side) = fine-more _ _ (fine-low 19 (omega arith)) fine-none
   own-fine (CallResult output) =
-      fine-more _ _ (fine-high 25 (omega arith) (λ e. omega arith)) (fine-more _ _ (fine-high 28 (omega arith) (λ e. omega arith)) fine-none)
+      fine-more _ _ (fine-high 25 (omega arith) (λ e. omega arith))
+      (fine-more _ _ (fine-high 28 (omega arith) (λ e. omega arith)) fine-none)
 
   own-not-by-memory : (c : Call) → NotByMemory (declinedBy l s M c)
   own-not-by-memory c = subst NotByMemory (sym (declined-own c)) (own-fine c)
@@ -189,7 +198,8 @@ accept-fine l s =
     let d = descriptionOf s in
     fine-more _ _ (fine-high 33 (omega arith) (λ e. omega arith))
     (low 1 (omega arith) _ _ (low 2 (omega arith) _ _ (low 3 (omega arith) _ _ (low 4 (omega arith) _ _ (low 5 (omega arith) _ _
-    (low 6 (omega arith) _ _ (low 7 (omega arith) _ _ (low 8 (omega arith) _ _ (low 10 (omega arith) _ _ (streams-fine l d 0 (streamsOf d)))))))))))
+    (low 6 (omega arith) _ _
+    (low 7 (omega arith) _ _ (low 8 (omega arith) _ _ (low 10 (omega arith) _ _ (streams-fine l d 0 (streamsOf d)))))))))))
 
 -- ---- so no call on such a memory is declined by it, whatever limits it is told
 

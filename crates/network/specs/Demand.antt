@@ -1,4 +1,5 @@
--- Demand 3 for every description whose array is wired: for every start that is not declined and every list of calls after it. Assumes nothing.
+-- Demand 3 for every description whose array is wired: for every start that is not declined and every list of calls after it.
+-- Assumes nothing.
 use mathlib.Core.Path.{_≡_, sym, _∙_, ap, ap₂, subst}
 use mathlib.Core.Bool.{true, false}
 use mathlib.Core.List.{List, map, _++_, append-nil}
@@ -19,7 +20,8 @@ use Rattle.meaning.specs.State.{words}
 use Rattle.meaning.specs.Rules.{Step, Memory, totalOf, applyAll}
 use Rattle.meaning.specs.Answers.{answerNumber}
 use Rattle.meaning.specs.Calls.{lengthOf, stateLength, started, start, allOut, inElementOrder, result}
-use Rattle.meaning.specs.Demand3.{Told, memoryAfter, grantedBy, receives, allReceived, finalValue, Holds, finish, SameMemory, declinedBy, NotByMemory, AfterCalls}
+use Rattle.meaning.specs.Demand3.{Told, memoryAfter, grantedBy, receives, allReceived, finalValue, Holds, finish, SameMemory, declinedBy}
+use Rattle.meaning.specs.Demand3.{NotByMemory, AfterCalls}
 use Rattle.lists.specs.Rows.{every-numbers, same-every}
 use Rattle.network.specs.WordOrder.{words-length}
 use Rattle.network.specs.Wiring.{Wired}
@@ -83,7 +85,8 @@ module _ (l : Limits) (s values : List ℕ) (M₀ : Memory) where
           stretch = stretch;
           ready = F .ready;
           most = omega (arith, F .most, steps-are d W (D .instances-are));
-          reached = (λ e. F .reached .0 (e ∙ sym (steps-are d W (D .instances-are))), λ e. F .reached .1 e ∙ steps-are d W (D .instances-are));
+          reached =
+              (λ e. F .reached .0 (e ∙ sym (steps-are d W (D .instances-are))), λ e. F .reached .1 e ∙ steps-are d W (D .instances-are));
         }
 
     -- ---- the finish
@@ -102,7 +105,8 @@ module _ (l : Limits) (s values : List ℕ) (M₀ : Memory) where
 
       received-final : M .received ≡ map (finalValue d values) (pipeOrder A)
       received-final =
-          parts-are A (M .received) (all-length A M₁ ss ∙ length-replicate {A = ℕ} (lengthOf d) 0 ∙ sym (D .elements-add)) (finalValue d values) whole
+          parts-are A (M .received) (all-length A M₁ ss ∙ length-replicate {A = ℕ} (lengthOf d) 0 ∙ sym (D .elements-add))
+          (finalValue d values) whole
 
       same-finish : SameMemory d M (finish d values)
       same-finish =
@@ -138,7 +142,8 @@ module _ (l : Limits) (s values : List ℕ) (M₀ : Memory) where
         record {
           holds = leave (λ N. Holds d values N ss) holds-after;
           next = λ c. leave (λ N. NotByMemory (declinedBy (c .limits) s N (c .call))) (not-by-memory (c .limits) s (U .passes) (c .call));
-          early = λ e output. leave (λ N. result l s output N ≡ record { answer = Refused 25; output = output }) (result-early l s U output (out-is ∙ e));
+          early = λ e output.
+              leave (λ N. result l s output N ≡ record { answer = Refused 25; output = output }) (result-early l s U output (out-is ∙ e));
           only-early = λ output.
               leave (λ N. answerNumber (result l s output N .answer) ≡ 25 → allReceived d ss ≡ false)
               (λ e. sym out-is ∙ result-only-early l s U output e);
@@ -152,7 +157,8 @@ module _ (l : Limits) (s values : List ℕ) (M₀ : Memory) where
         }
 
   -- after a start that is not declined
-  after-start : (W : Wired A) → Described d W → start l s values M₀ .answer ≡ Done → (cs : List Told) → AfterCalls l s values (start l s values M₀ .memory) cs
+  after-start : (W : Wired A) → Described d W → start l s values M₀ .answer ≡ Done → (cs : List Told)
+      → AfterCalls l s values (start l s values M₀ .memory) cs
   after-start W D e cs =
       let p = proper l s values M₀ e in subst (λ (M : Memory). AfterCalls l s values M cs) (sym (p .memory)) (after-calls W D p cs)
 

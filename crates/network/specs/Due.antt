@@ -6,7 +6,8 @@ use native.Mathlib.Nat.{le-refl}
 use native.Mathlib.Omega.{arith}
 use Rattle.network.specs.Cases.{Order, less, atLeast, order}
 use Rattle.network.specs.Descent.{Blocked, descend}
-use Rattle.network.specs.Counters.{Kind, Shape, AtStop, Hand, Offer, soaked, drained, used, passed, kept, Use, Step, put, get, fire, Counts, Net, At, Guard, Inv, get-elements, below-head}
+use Rattle.network.specs.Counters.{Kind, Shape, AtStop, Hand, Offer, soaked, drained, used, passed, kept, Use, Step, put, get, fire}
+use Rattle.network.specs.Counters.{Counts, Net, At, Guard, Inv, get-elements, below-head}
 use Rattle.network.specs.Waits.{Late, Clocked, judge-hand, judge-offer, judge-use}
 
 module _ (N : Net) where
@@ -53,7 +54,8 @@ module _ (N : Net) where
     late : (a : Step) {n d : ℕ} → ((i : ℕ) → i < n → Occurs a i) → Late n (c a) (due a) d → Stuck d
     late a o l = record { by = a; at = l .at; occurs = o (l .at) (l .within); undone = l .undone; earlier = l .earlier }
 
-    judge-place : (q k : ℕ) → k ≤ stops q → c (put q k) < elements q → (c (put q k) < c (get q k) + hop q) ⊎ Stuck (due (put q k) (c (put q k)))
+    judge-place : (q k : ℕ) → k ≤ stops q → c (put q k) < elements q
+        → (c (put q k) < c (get q k) + hop q) ⊎ Stuck (due (put q k) (c (put q k)))
     judge-place q k l h = go (order (c (put q k)) (c (get q k) + hop q))
       where
         go : Order (c (put q k)) (c (get q k) + hop q) → (c (put q k) < c (get q k) + hop q) ⊎ Stuck (due (put q k) (c (put q k)))
@@ -113,10 +115,12 @@ module _ (N : Net) where
     judge : (a : Step) → Occurs a (c a) → Guard N c a ⊎ Stuck (due a (c a))
     judge (put q zero) (l, h) = go (judge-place q 0 l h)
       where
-        go : (c (put q 0) < c (get q 0) + hop q) ⊎ Stuck (due (put q 0) (c (put q 0))) → Guard N c (put q 0) ⊎ Stuck (due (put q 0) (c (put q 0)))
+        go : (c (put q 0) < c (get q 0) + hop q) ⊎ Stuck (due (put q 0) (c (put q 0)))
+            → Guard N c (put q 0) ⊎ Stuck (due (put q 0) (c (put q 0)))
         go (inl o) = inl (h, o)
         go (inr w) = inr w
-    judge (put q (suc k)) (l, h) = go (judge-place q (suc k) l h) (judge-offer (C .clocked q k l) (I .fires (process q k)) h (I .stop q k l))
+    judge (put q (suc k)) (l, h) =
+        go (judge-place q (suc k) l h) (judge-offer (C .clocked q k l) (I .fires (process q k)) h (I .stop q k l))
       where
         d : ℕ
         d = due (put q (suc k)) (c (put q (suc k)))
@@ -134,13 +138,15 @@ module _ (N : Net) where
         d : ℕ
         d = due (get q k) (c (get q k))
 
-        empty-hand : (o : k < stops q) → c (get q k) < c (put q k) → At N Hand c q k ⊎ Late (elements q) (c (put q (suc k))) (due (put q (suc k))) d
+        empty-hand : (o : k < stops q) → c (get q k) < c (put q k)
+            → At N Hand c q k ⊎ Late (elements q) (c (put q (suc k))) (due (put q (suc k))) d
             → Guard N c (get q k) ⊎ Stuck d
         empty-hand o r (inl u) = inl (l, r, λ o'. u)
         empty-hand o r (inr w) = inr (late (put q (suc k)) (λ i o'. (o, o')) w)
 
         go : Order (c (get q k)) (c (put q k)) → Order k (stops q) → Guard N c (get q k) ⊎ Stuck d
-        go (atLeast r) o = inr (record { by = put q k; at = c (get q k); occurs = (l, h); undone = r; earlier = C .arrives q k (c (get q k)) l h })
+        go (atLeast r) o =
+            inr (record { by = put q k; at = c (get q k); occurs = (l, h); undone = r; earlier = C .arrives q k (c (get q k)) l h })
         go (less r) (atLeast o) = inl (l, r, λ o'. absurd (omega arith))
         go (less r) (less o) = empty-hand o r (judge-hand (C .clocked q k o) h (I .stop q k o))
     judge (fire p) h = go (scan p h streams (le-refl streams))
@@ -150,7 +156,8 @@ module _ (N : Net) where
 
         spread : Uses p → (q k : ℕ) → k < stops q → process q k ≡ p → At N Use c q k
         spread f q k l e =
-            let o : (D .streamOn q < streams) × (pipeThrough (process q k) (D .streamOn q) ≡ q) × (placeOn (process q k) (D .streamOn q) ≡ k) =
+            let o : (D .streamOn q < streams) × (pipeThrough (process q k) (D .streamOn q) ≡ q)
+            × (placeOn (process q k) (D .streamOn q) ≡ k) =
             D .only q k l (rw e (omega arith)) in
             let u : At N Use c (pipeThrough (process q k) (D .streamOn q)) (placeOn (process q k) (D .streamOn q)) = subst Uses (sym e) f
             (D .streamOn q) (o .0) in
@@ -175,7 +182,8 @@ module _ (N : Net) where
   -- a step that is ready has an occurrence left
   pub ready-occurs : {c : Counts} → Inv N c → (a : Step) → Guard N c a → Occurs a (c a)
   ready-occurs {c} I (put q zero) g = (omega arith, g .0)
-  ready-occurs {c} I (put q (suc k)) g = (g .0, omega (arith, offer-lt (g .2) (I .stop q k (g .0)) (get-elements N I q k (omega (arith, g .0)))))
+  ready-occurs {c} I (put q (suc k)) g =
+      (g .0, omega (arith, offer-lt (g .2) (I .stop q k (g .0)) (get-elements N I q k (omega (arith, g .0)))))
     where
       offer-lt : {n s t x y f : ℕ} {K : Kind} → Offer n s t x y f K → AtStop n s t x y f K → x ≤ n → y < n
       offer-lt (soaked a b) S h = omega arith

@@ -36,7 +36,8 @@ module _ (d : Description) where
   unfolding arrayOf
   words-are =
       ap₂ _+_
-      (ap₂ _*_ (length-map (processes (d .nest)) (runs (d .nest))) (ap (λ (n : ℕ). 1 + n) (total-map (λ h. 4 + h) (hop (d .nest)) (streamsOf d))))
+      (ap₂ _*_ (length-map (processes (d .nest)) (runs (d .nest)))
+      (ap (λ (n : ℕ). 1 + n) (total-map (λ h. 4 + h) (hop (d .nest)) (streamsOf d))))
       (pipes-total (λ r. 2 + r .hop) (λ s y. 2 + hop (d .nest) s) (d .nest) (λ i e s y. refl) 0 0 (streamsOf d)
       ∙ total-ext _ _ (λ s. total-same _ (2 + hop (d .nest) s) (λ y. refl) (entries (d .nest) s)) (streamsOf d))
 

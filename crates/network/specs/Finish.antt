@@ -1,5 +1,5 @@
--- The finish: a list of granted steps from a cleared memory that brings all values out leaves every count at its total and every place, hand and keep 0,
--- whatever their order. Assumes nothing.
+-- The finish: a list of granted steps from a cleared memory that brings all values out leaves every count at its total and every place,
+-- hand and keep 0, whatever their order. Assumes nothing.
 use mathlib.Core.Path.{_≡_, refl, sym, _∙_, ap}
 use mathlib.Core.Bool.{true}
 use mathlib.Core.List.{List, map}
@@ -18,7 +18,8 @@ use Rattle.network.specs.Layout.{Live, layout}
 use Rattle.network.specs.WordOrder.{words-read, same-words}
 use Rattle.network.specs.Wiring.{netOf, Wired, no-pipe, shape}
 use Rattle.network.specs.Programs.{systemOf}
-use Rattle.network.specs.Slots.{Slot, sent, taken, given, fired, hand, kept, place, Has, has, view, view-is, slotOf, on, word-slot, no-slot, countsOf}
+use Rattle.network.specs.Slots.{Slot, sent, taken, given, fired, hand, kept, place, Has, has, view, view-is, slotOf, on, word-slot}
+use Rattle.network.specs.Slots.{no-slot, countsOf}
 use Rattle.network.specs.Decide.{said}
 use Rattle.network.specs.Links.{Written, written-past}
 use Rattle.network.specs.Runs.{Grants, allDone, Cleared, Reached, good-of}
@@ -81,7 +82,8 @@ module _ {A : Array} (W : Wired A) (values : List ℕ) where
       go : Order k (stopsOn A q) → view A (M .state) (taken q k) ≡ elementsOn A q
       go (less m) = all-get (netOf A) (good-of W values R .inv) (shape W) q (o q) k m .0
       go (atLeast m) = let e : k ≡ stopsOn A q = omega arith in ap (λ (k : ℕ). view A (M .state) (taken q k)) e ∙ o q
-  final-word {M = M} R o (given q k) h = all-put (netOf A) (good-of W values R .inv) (shape W) q (o q) (stopsOn A q - suc k) (suc k) (omega arith)
+  final-word {M = M} R o (given q k) h =
+      all-put (netOf A) (good-of W values R .inv) (shape W) q (o q) (stopsOn A q - suc k) (suc k) (omega arith)
   final-word {M = M} R o (fired p) h = go (order (view A (M .state) (fired p)) (countAt A p))
     where
       go : Order (view A (M .state) (fired p)) (countAt A p) → view A (M .state) (fired p) ≡ countAt A p

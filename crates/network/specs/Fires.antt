@@ -1,4 +1,5 @@
--- Fire on a state is the firing of the abstract network: the words that the process uses get what the body makes of them, and no other. Assumes nothing.
+-- Fire on a state is the firing of the abstract network: the words that the process uses get what the body makes of them, and no other.
+-- Assumes nothing.
 use mathlib.Core.Path.{_≡_, refl, sym, _∙_, ap, ap₂, subst}
 use mathlib.Core.Bool.{Bool, true, false, cond}
 use mathlib.Core.List.{List, [], _∷_, map}
@@ -15,7 +16,8 @@ use Rattle.network.specs.Counters.{fire, OneMore}
 use Rattle.network.specs.Firing.{Firing, hand-used, keep-used, Fires}
 use Rattle.network.specs.Wiring.{kindOf, netOf, Wired, HasPort, port-is, rankedOf, placeAt, keepsAt}
 use Rattle.network.specs.Programs.{length-body}
-use Rattle.network.specs.Slots.{Slot, fired, hand, kept, place, sort, first, second, counter, Has, wordOf, view, view-is, view-same, view-other, countsOf, wordsOf}
+use Rattle.network.specs.Slots.{Slot, fired, hand, kept, place, sort, first, second, counter, Has, wordOf, view, view-is, view-same}
+use Rattle.network.specs.Slots.{view-other, countsOf, wordsOf}
 use Rattle.network.specs.Links.{counter-sort, Written, nothing, also, written-length, more-other, more-written, one-more}
 use Rattle.network.specs.Moving.{chosen, chosen-sort, chosen-at, chosen-has, chosen-word}
 
@@ -48,10 +50,12 @@ module _ {A : Array} (W : Wired A) where
     all-other zero i st vs h b f = refl
     all-other (suc n) i st [] h b f = refl
     all-other (suc n) i st (v ∷ vs) h b f =
-        all-other n (suc i) (write A st (wordOf A (g i)) v) vs (λ j u w. h j (omega arith) (omega arith)) b (λ j u w. f j (omega arith) (omega arith))
+        all-other n (suc i) (write A st (wordOf A (g i)) v) vs (λ j u w. h j (omega arith) (omega arith)) b
+        (λ j u w. f j (omega arith) (omega arith))
         ∙ view-other A W st (g i) b v (h i (le-refl i) (omega arith)) (f i (le-refl i) (omega arith))
 
-    all-there : (n i : ℕ) (st vs : List ℕ) → wordCount A ≤ length st → Range i n → ((j j' : ℕ) → i ≤ j → j < j' → j' < i + n → g j' ≡ g j → ⊥)
+    all-there : (n i : ℕ) (st vs : List ℕ) → wordCount A ≤ length st → Range i n
+        → ((j j' : ℕ) → i ≤ j → j < j' → j' < i + n → g j' ≡ g j → ⊥)
         → n ≤ length vs → (j : ℕ) → j < n → view A (writeAll A st (wordsFrom i n) vs) (g (i + j)) ≡ getD vs j 0
     unfolding writeAll wordsFrom numbersFrom Range
     all-there zero i st vs l h d m j o = absurd (omega arith)
@@ -66,12 +70,13 @@ module _ {A : Array} (W : Wired A) where
         let e : suc i + j ≡ i + suc j = omega arith in
         rw e at
         (all-there n (suc i) (write A st (wordOf A (g i)) v) vs
-        (omega (arith, written-length W (also {st' = st} nothing (g i) v (h i (le-refl i) (omega arith))))) (λ j u w. h j (omega arith) (omega arith))
-        (λ a b u w z. d a b (omega arith) w (omega arith)) (omega arith) j (omega arith))
+        (omega (arith, written-length W (also {st' = st} nothing (g i) v (h i (le-refl i) (omega arith)))))
+        (λ j u w. h j (omega arith) (omega arith)) (λ a b u w z. d a b (omega arith) w (omega arith)) (omega arith) j (omega arith))
 
   -- ---- a firing of process p, which stands on a pipe of every stream
 
-  module _ (st : List ℕ) (long : wordCount A ≤ length st) (p : ℕ) (there : p < processCount A) (port : (s : ℕ) → s < streamCount A → HasPort A p s)
+  module _ (st : List ℕ) (long : wordCount A ≤ length st) (p : ℕ) (there : p < processCount A)
+      (port : (s : ℕ) → s < streamCount A → HasPort A p s)
     where
       -- the slot that a stop uses, and that of p and stream s
       abbrev own : ℕ → ℕ → Slot
@@ -118,7 +123,8 @@ module _ {A : Array} (W : Wired A) where
 
       length-made : length made ≡ streamCount A
       unfolding made found
-      length-made = length-body A (instanceAt A p (read A st (Firings p))) found ∙ length-numbers (λ s. view A st (slot s)) 0 (streamCount A)
+      length-made =
+          length-body A (instanceAt A p (read A st (Firings p))) found ∙ length-numbers (λ s. view A st (slot s)) 0 (streamCount A)
 
       st₁ : List ℕ
       st₁ = writeAll A st (wordsFrom slot 0 (streamCount A)) made
@@ -130,7 +136,8 @@ module _ {A : Array} (W : Wired A) where
       after-is : doFire A st p ≡ after
       unfolding after st₁ made found wordsFrom
       after-is =
-          ap₂ (λ (ws : List Word) (vs : List ℕ). increase A (writeAll A st ws (bodyAt A (instanceAt A p (read A st (Firings p))) vs)) (Firings p))
+          ap₂ (λ (ws : List Word) (vs : List ℕ).
+          increase A (writeAll A st ws (bodyAt A (instanceAt A p (read A st (Firings p))) vs)) (Firings p))
           same-words
           (map-numbers (read A st) (λ s. usedWord A (keepsAt A p s) p s) 0 (streamCount A)
           ∙ same-numbers _ _ 0 (streamCount A) (λ s u v. ap (read A st) (slot-word s (omega arith))
@@ -167,7 +174,8 @@ module _ {A : Array} (W : Wired A) where
       -- a firing writes to slots only
       pub fire-written : Written W st (doFire A st p)
       unfolding after
-      fire-written = subst (λ (st' : List ℕ). Written W st st') (sym after-is) (more-written W st₁ st₁-long (fired p) there refl st₁-written)
+      fire-written =
+          subst (λ (st' : List ℕ). Written W st st') (sym after-is) (more-written W st₁ st₁-long (fired p) there refl st₁-written)
 
       -- it counts one more firing
       pub fire-more : OneMore (countsOf A st) (countsOf A (doFire A st p)) (fire p)
@@ -183,7 +191,8 @@ module _ {A : Array} (W : Wired A) where
 
       -- at a stop of p: what it uses gets the new value, the other of hand and keep stays
       firing : (q k : ℕ) → k < stopsOn A q → processOn A q k ≡ p → (v : ℕ) → getD made (streamOn A q) 0 ≡ v
-          → Firing (view A st (hand q k)) (view A st (kept q k)) v (view A after (hand q k)) (view A after (kept q k)) (kindOf (stopAt A q k .keeps))
+          → Firing (view A st (hand q k)) (view A st (kept q k)) v (view A after (hand q k)) (view A after (kept q k))
+          (kindOf (stopAt A q k .keeps))
       firing q k l e v m = go (stopAt A q k .keeps) refl
         where
           o : (streamOn A q < streamCount A) × (pipeThrough A p (streamOn A q) ≡ q) × (placeAt A p (streamOn A q) ≡ k)
@@ -204,10 +213,12 @@ module _ {A : Array} (W : Wired A) where
               → Firing (view A st (hand q k)) (view A st (kept q k)) v (view A after (hand q k)) (view A after (kept q k)) (kindOf b)
           go true i =
               let c : own q k ≡ kept q k = ap (chosen q k) i in
-              keep-used (ap (view A after) (sym c) ∙ used) (left (hand q k) refl refl (omega arith) (λ j. omega (arith, ap sort (sym c ∙ j))))
+              keep-used (ap (view A after) (sym c) ∙ used)
+              (left (hand q k) refl refl (omega arith) (λ j. omega (arith, ap sort (sym c ∙ j))))
           go false i =
               let c : own q k ≡ hand q k = ap (chosen q k) i in
-              hand-used (ap (view A after) (sym c) ∙ used) (left (kept q k) refl refl (omega arith) (λ j. omega (arith, ap sort (sym c ∙ j))))
+              hand-used (ap (view A after) (sym c) ∙ used)
+              (left (kept q k) refl refl (omega arith) (λ j. omega (arith, ap sort (sym c ∙ j))))
 
       idle : (q k : ℕ) → (processOn A q k ≡ p → ⊥) → (d : Slot) → first d ≡ q → second d ≡ k → 3 < sort d → view A after d ≡ view A st d
       idle q k n d u w r = past d r ∙ st₁-other d (λ s l e. n (ap₂ (processOn A) (sym u) (sym w) ∙ lands-at s d l e .0))
@@ -215,7 +226,8 @@ module _ {A : Array} (W : Wired A) where
       -- the firing, new values being by stream what the body makes
       pub fire-fires : (out : ℕ → ℕ → ℕ) (new : ℕ → ℕ → ℕ)
           → ((q k : ℕ) → k < stopsOn A q → processOn A q k ≡ p
-          → getD (bodyAt A (instanceAt A p (read A st (Firings p))) (map (λ s. view A st (chosen (pipeThrough A p s) (placeAt A p s) (keepsAt A p s)))
+          → getD (bodyAt A (instanceAt A p (read A st (Firings p)))
+          (map (λ s. view A st (chosen (pipeThrough A p s) (placeAt A p s) (keepsAt A p s)))
           (numbers (streamCount A)))) (streamOn A q) 0 ≡ new q k)
           → Fires (netOf A) (rankedOf W) (countsOf A st) p (wordsOf A st out) (wordsOf A (doFire A st p) out) new
       unfolding made found

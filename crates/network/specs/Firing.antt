@@ -1,12 +1,15 @@
--- A firing on the words: it changes the values of the elements that its process holds, and no other place holds one of them. Assumes nothing.
+-- A firing on the words: it changes the values of the elements that its process holds, and no other place holds one of them.
+-- Assumes nothing.
 use mathlib.Core.Path.{_≡_, refl, sym, _∙_, ap, subst}
 use native.Mathlib.Decide.{ℕ-discrete}
 use Prim.Native.Nat.{ℕ, zero, suc, _+_, _-_, _≤_, _<_}
 use native.Mathlib.Nat.{le-refl}
 use native.Mathlib.Omega.{arith}
 use Rattle.network.specs.Cases.{Order, less, atLeast, order}
-use Rattle.network.specs.Counters.{Kind, through, keep, AtStop, fresh, holding, gone, stop-order, Use, hand, held, put, get, fire, Counts, Net, At, Guard, Inv, OneMore, put≢fire, get≢fire, along, below-head, get-elements}
-use Rattle.network.specs.Ranks.{wrap, Wrap, low, high, wrapped, Next, level, rise, Ranked, rank-mono, rank-elements, rank-keep, rank-zero, wrap-end, wrap-lt, upstream, apart}
+use Rattle.network.specs.Counters.{Kind, through, keep, AtStop, fresh, holding, gone, stop-order, Use, hand, held, put, get, fire}
+use Rattle.network.specs.Counters.{Counts, Net, At, Guard, Inv, OneMore, put≢fire, get≢fire, along, below-head, get-elements}
+use Rattle.network.specs.Ranks.{wrap, Wrap, low, high, wrapped, Next, level, rise, Ranked, rank-mono, rank-elements, rank-keep}
+use Rattle.network.specs.Ranks.{rank-zero, wrap-end, wrap-lt, upstream, apart}
 use Rattle.network.specs.Words.{Hold, passes, keeps, Words, Stored}
 
 -- the element that a stop's process uses next
@@ -100,7 +103,8 @@ module _ (N : Net) (R : Ranked N) where
 
   -- what a firing of process p does to the words; new q k is the value that it makes at place k of pipe q
   pub record Fires (c : Counts) (p : ℕ) (W W' : Words) (new : ℕ → ℕ → ℕ) : Type 0 where
-    pub fired : (q k : ℕ) → k < stops q → process q k ≡ p → Firing (W .hand q k) (W .kept q k) (new q k) (W' .hand q k) (W' .kept q k) (kind q k)
+    pub fired : (q k : ℕ) → k < stops q → process q k ≡ p
+        → Firing (W .hand q k) (W .kept q k) (new q k) (W' .hand q k) (W' .kept q k) (kind q k)
     pub idle : (q k : ℕ) → k < stops q → (process q k ≡ p → ⊥) → (W' .hand q k ≡ W .hand q k) × (W' .kept q k ≡ W .kept q k)
     pub links : (q k i : ℕ) → W' .link q k i ≡ W .link q k i
     pub outs : (q i : ℕ) → W' .out q i ≡ W .out q i

@@ -15,10 +15,12 @@ use Rattle.network.specs.Counters.{Step, put, get, OneMore}
 use Rattle.network.specs.Words.{Taking, to-hand, to-keep, past-keep, Moves}
 use Rattle.network.specs.Sound.{Sound}
 use Rattle.network.specs.Wiring.{kindOf, netOf, Wired, stop-pipe, rankedOf}
-use Rattle.network.specs.Slots.{Slot, taken, given, hand, place, sort, first, second, counter, wordOf, view, view-is, countsOf, wordsOf}
+use Rattle.network.specs.Slots.{Slot, taken, given, hand, place, sort, first, second, counter, wordOf, view, view-is, countsOf}
+use Rattle.network.specs.Slots.{wordsOf}
 use Rattle.network.specs.Slots as Slots
 use Rattle.network.specs.Ready.{taken-is}
-use Rattle.network.specs.Links.{counter-sort, Written, written-length, more-other, more-written, one-more, set-there, set-other, set-written, set-more, oldest-written, oldest-other, oldest-shift}
+use Rattle.network.specs.Links.{counter-sort, Written, written-length, more-other, more-written, one-more, set-there, set-other}
+use Rattle.network.specs.Links.{set-written, set-more, oldest-written, oldest-other, oldest-shift}
 use Rattle.network.specs.Moving.{get-moves, chosen, chosen-sort, chosen-at, chosen-has, chosen-word, Spare, fill-is}
 
 module _ {A : Array} (W : Wired A) (st : List ℕ) (long : wordCount A ≤ length st) (S : Sound (netOf A) (countsOf A st)) where
@@ -80,7 +82,8 @@ module _ {A : Array} (W : Wired A) (st : List ℕ) (long : wordCount A ≤ lengt
     after : Bool → List ℕ
     after b =
         increase A
-        (write A (st₁ q k h le g) (cond b (Keep (processOn A q k) (streamOn A q)) (Hand (processOn A q k) (streamOn A q))) (oldest A st q k))
+        (write A (st₁ q k h le g) (cond b (Keep (processOn A q k) (streamOn A q)) (Hand (processOn A q k) (streamOn A q)))
+        (oldest A st q k))
         (Taken (processOn A q k) (streamOn A q))
 
     -- a take writes to slots only
@@ -95,7 +98,8 @@ module _ {A : Array} (W : Wired A) (st : List ℕ) (long : wordCount A ≤ lengt
     pub take-more : OneMore (countsOf A st) (countsOf A (doTake A st q k)) (get q k)
     unfolding after toKeep x st₁
     take-more =
-        set-more W (st₁ q k h le g) (st₁-long q k h le g) (chosen q k toKeep) (chosen-has A q k toKeep l) (chosen-word A q k toKeep) (oldest A st q k)
+        set-more W (st₁ q k h le g) (st₁-long q k h le g) (chosen q k toKeep) (chosen-has A q k toKeep l)
+        (chosen-word A q k toKeep) (oldest A st q k)
         (taken q k) (h, le) counter-word (get q k) refl (chosen-sort q k toKeep .0) st (st₁-counter q k h le g)
 
     -- the hand or the keep has the link's oldest
@@ -127,8 +131,8 @@ module _ {A : Array} (W : Wired A) (st : List ℕ) (long : wordCount A ≤ lengt
 
       -- what the hand and the keep are then
       taking : (b c : Bool) → (b && eqb x 0) ≡ c
-          → Taking (view A st (taken q k)) (view A st (given q k)) (view A st (hand q k)) (view A st (Slots.kept q k)) (view A st (place q k 0))
-          (view A (after c) (hand q k)) (view A (after c) (Slots.kept q k)) (kindOf b)
+          → Taking (view A st (taken q k)) (view A st (given q k)) (view A st (hand q k)) (view A st (Slots.kept q k))
+          (view A st (place q k 0)) (view A (after c) (hand q k)) (view A (after c) (Slots.kept q k)) (kindOf b)
       unfolding x
       taking false true e = absurd (let z : _≡_ {A = ℕ} 0 1 = cc in omega arith)
       taking false false e =
@@ -173,15 +177,16 @@ module _ {A : Array} (W : Wired A) (st : List ℕ) (long : wordCount A ≤ lengt
     -- a receive writes to slots only
     pub receive-written : Written W st (doReceive A st q)
     unfolding st₁
-    receive-written = more-written W (st₁ q (stopsOn A q) h end g) (st₁-long q (stopsOn A q) h end g) (taken q (stopsOn A q)) (h, end) end-word
+    receive-written =
+        more-written W (st₁ q (stopsOn A q) h end g) (st₁-long q (stopsOn A q) h end g) (taken q (stopsOn A q)) (h, end) end-word
         (st₁-written q (stopsOn A q) h end g)
 
     -- it counts one more of what was received
     pub receive-more : OneMore (countsOf A st) (countsOf A (doReceive A st q)) (get q (stopsOn A q))
     unfolding st₁
     receive-more =
-        one-more W (st₁ q (stopsOn A q) h end g) (st₁-long q (stopsOn A q) h end g) (taken q (stopsOn A q)) (h, end) end-word (get q (stopsOn A q))
-        refl st
+        one-more W (st₁ q (stopsOn A q) h end g) (st₁-long q (stopsOn A q) h end g) (taken q (stopsOn A q)) (h, end) end-word
+        (get q (stopsOn A q)) refl st
         (st₁-counter q (stopsOn A q) h end g)
 
     past : (d : Slot) → 3 < sort d → view A (doReceive A st q) d ≡ view A (st₁ q (stopsOn A q) h end g) d
@@ -205,4 +210,5 @@ module _ {A : Array} (W : Wired A) (st : List ℕ) (long : wordCount A ≤ lengt
         ))
         (λ l. absurd (omega arith))
         (λ e. new ∙ oldest-is q (stopsOn A q) h end g)
-        (λ q' i n. old q' i (λ e d. n (ap (λ (q : ℕ). get q (stopsOn A q)) e) (ap (λ (q : ℕ). view A st (taken q (stopsOn A q))) (sym e) ∙ d)))
+        (λ q' i n. old q' i
+        (λ e d. n (ap (λ (q : ℕ). get q (stopsOn A q)) e) (ap (λ (q : ℕ). view A st (taken q (stopsOn A q))) (sym e) ∙ d)))

@@ -6,13 +6,15 @@ use Prim.Native.Nat.{ℕ, suc, _<_}
 use native.Mathlib.Decide.{ℕ-discrete}
 use native.Mathlib.Omega.{arith}
 use Rattle.network.specs.Cases.{Equal, same, other, equal}
-use Rattle.network.specs.Counters.{Kind, through, keep, hand, Step, put, fire, Counts, Net, Guard, Inv, inv-start, inv-step, OneMore, get-elements}
+use Rattle.network.specs.Counters.{Kind, through, keep, hand, Step, put, fire, Counts, Net, Guard, Inv, inv-start, inv-step, OneMore}
+use Rattle.network.specs.Counters.{get-elements}
 use Rattle.network.specs.Ranks.{Ranked, rank-zero}
 use Rattle.network.specs.Words.{Hold, passes, keeps, Words, Stored, Moves, stored-move}
 use Rattle.network.specs.Firing.{Own, Owns, Fires, Changed, stored-fire}
 use Rattle.network.specs.Due.{Laid}
 use Rattle.network.specs.Turns.{Fired, in-turn}
-use Rattle.network.specs.Values.{Store, Program, Fired', inputs, exec, exec-hit, exec-miss, Upto, Valued, valued-same, valued-start, valued-fire, value-first}
+use Rattle.network.specs.Values.{Store, Program, Fired', inputs, exec, exec-hit, exec-miss, Upto, Valued, valued-same, valued-start}
+use Rattle.network.specs.Values.{valued-fire, value-first}
 use Rattle.network.specs.System.{word, word-is, Geometry, System, sent}
 
 module _ (X : System) where
@@ -29,7 +31,8 @@ module _ (X : System) where
 
   -- the words that process p uses, by stream
   abbrev pub uses : Words → ℕ → ℕ → ℕ
-  uses W p s = word (kind (pipeThrough p s) (placeOn p s)) (W .hand (pipeThrough p s) (placeOn p s)) (W .kept (pipeThrough p s) (placeOn p s))
+  uses W p s =
+      word (kind (pipeThrough p s) (placeOn p s)) (W .hand (pipeThrough p s) (placeOn p s)) (W .kept (pipeThrough p s) (placeOn p s))
 
   -- one granted step
   pub data Granted (c : Counts) (W : Words) (a : Step) (c' : Counts) (W' : Words) : Type 0 where
@@ -100,12 +103,13 @@ module _ (X : System) where
         let o = laid .on p s (omega (arith, g .0)) (a .0) in
         at (pipeThrough p s) (placeOn p s) (o .0) (o .1) (a .1)
       where
-        at : (q k : ℕ) → k < stops q → process q k ≡ p → streamOn q ≡ s → word (kind q k) (W .hand q k) (W .kept q k) ≡ Q .store s (touched i s)
+        at : (q k : ℕ) → k < stops q → process q k ≡ p → streamOn q ≡ s
+            → word (kind q k) (W .hand q k) (W .kept q k) ≡ Q .store s (touched i s)
         at q k h e z =
             let w = word-is (λ t. rank-zero net ranked q (suc k) (lined .moves q k h t (rw e (omega (arith, g .0)))) h)
             (get-elements net (Q .inv) q k (omega arith)) (g .1 q k h e) (Q .stored .holds q k h) in
-            let o : Own (soak q k) (firing i) (rank q k) (w .0) (kind q k) = subst (λ (f : ℕ). Own (soak q k) f (rank q k) (w .0) (kind q k))
-            (ap (λ (p : ℕ). c (fire p)) e ∙ sym i-nth) (w .1) in
+            let o : Own (soak q k) (firing i) (rank q k) (w .0) (kind q k) = subst
+            (λ (f : ℕ). Own (soak q k) f (rank q k) (w .0) (kind q k)) (ap (λ (p : ℕ). c (fire p)) e ∙ sym i-nth) (w .1) in
             w .2 ∙ ap (Q .store (streamOn q)) (sym (geometry .touch i q k (w .0) i-lt h (e ∙ sym i-owner) o))
             ∙ ap (λ (s : ℕ). Q .store s (touched i s)) z
 
@@ -127,7 +131,8 @@ module _ (X : System) where
               ∙ sym (bodied .local i (uses W p) (inputs program i old) words (streamOn q) (geometry .stream-lt q (ranked .some q k h)));
           rest = λ q j l n.
               exec-miss program i old (streamOn q) (elementOn q j)
-              (λ e. let t = geometry .find i q j i-lt l e in n (t .pos) (t .on) (t .is ∙ i-owner) (disowned q (t .pos) j (t .is ∙ i-owner) (t .own)));
+              (λ e. let t = geometry .find i q j i-lt l e in
+              n (t .pos) (t .on) (t .is ∙ i-owner) (disowned q (t .pos) j (t .is ∙ i-owner) (t .own)));
         }
 
     next : (k : ℕ) → k < instances → (Fired net owner firing c k ⊎ (k ≡ i) → Fired net owner firing c' k) ×

@@ -1,5 +1,5 @@
--- What granted steps keep on any sound state, whether a start leads to it or not: it stays sound, and only words of slots are written, so that what
--- stands past the words is kept. Assumes nothing.
+-- What granted steps keep on any sound state, whether a start leads to it or not: it stays sound, and only words of slots are written, so
+-- that what stands past the words is kept. Assumes nothing.
 use mathlib.Core.Path.{_≡_, refl, _∙_}
 use mathlib.Core.Bool.{true}
 use mathlib.Core.List.{List}
@@ -37,7 +37,8 @@ module _ {A : Array} (W : Wired A) where
     pub sound : sound A (M' .state) ≡ true
     pub written : Written W (M .state) (M' .state)
 
-  pub kept : {M : Memory} {l : List Rules.Step} → wordCount A ≤ length (M .state) → sound A (M .state) ≡ true → Grants A M l → Kept M (applyAll A M l)
+  pub kept : {M : Memory} {l : List Rules.Step} → wordCount A ≤ length (M .state) → sound A (M .state) ≡ true → Grants A M l
+      → Kept M (applyAll A M l)
   unfolding applyAll
   kept long e none = record { sound = e; written = nothing }
   kept {M} long e (step {a = a} h r g) =

@@ -1,4 +1,5 @@
--- Where the words of a state stand: different live words at different places, all below the number of words; reading after writing. Assumes nothing.
+-- Where the words of a state stand: different live words at different places, all below the number of words; reading after writing.
+-- Assumes nothing.
 use mathlib.Core.Path.{_≡_, refl, sym, _∙_, ap}
 use mathlib.Core.List.{List, [], _∷_}
 use Prim.Native.Nat.{ℕ, zero, suc, _+_, _*_, _≤_, _<_}

@@ -1,4 +1,5 @@
--- The stores of the rules on a state: what they write and what they leave. Putting into a link, taking the oldest out of it, counting. Assumes nothing.
+-- The stores of the rules on a state: what they write and what they leave. Putting into a link, taking the oldest out of it, counting.
+-- Assumes nothing.
 use mathlib.Core.Path.{_≡_, refl, sym, _∙_, ap, subst}
 use mathlib.Core.List.{List}
 use Prim.Native.Nat.{ℕ, zero, suc, _+_, _-_, _≤_, _<_}
@@ -12,7 +13,8 @@ use Rattle.network.specs.Cases.{Order, less, atLeast, order, Equal, same
 use Rattle.network.specs.Counters.{Step, put, get, fire, OneMore}
 use Rattle.network.specs.Layout.{Live, length-write, read-other}
 use Rattle.network.specs.Wiring.{Wired}
-use Rattle.network.specs.Slots.{Slot, sent, taken, given, fired, hand, kept, place, sort, third, counter, Has, wordOf, word-live, view, view-is, view-same, view-other, countsOf}
+use Rattle.network.specs.Slots.{Slot, sent, taken, given, fired, hand, kept, place, sort, third, counter, Has, wordOf, word-live}
+use Rattle.network.specs.Slots.{view, view-is, view-same, view-other, countsOf}
 
 -- ---- counters
 
@@ -68,7 +70,8 @@ module _ {A : Array} (W : Wired A) where
         (view-same A W st a (suc (read A st (wordOf A a))) long ha ∙ ap suc (sym (view-is A st a ha)))
 
     pub more-other : (b : Slot) → (a ≡ b → ⊥) → view A (increase A st w) b ≡ view A st b
-    more-other b n = subst (λ (w : Word). view A (increase A st w) b ≡ view A st b) e (view-other A W st a b (suc (read A st (wordOf A a))) ha n)
+    more-other b n =
+        subst (λ (w : Word). view A (increase A st w) b ≡ view A st b) e (view-other A W st a b (suc (read A st (wordOf A a))) ha n)
 
     pub more-written : {st₀ : List ℕ} → Written st₀ st → Written st₀ (increase A st w)
     more-written {st₀} z = subst (λ (w : Word). Written st₀ (increase A st w)) e (also z a (suc (read A st (wordOf A a))) ha)
@@ -94,13 +97,15 @@ module _ {A : Array} (W : Wired A) where
 
     pub set-there : (a ≡ t → ⊥) → view A (increase A (write A st u v) w) t ≡ v
     set-there n =
-        more-other (write A st u v) still-long a ha e t n ∙ subst (λ (u : Word). view A (write A st u v) t ≡ v) d (view-same A W st t v long ht)
+        more-other (write A st u v) still-long a ha e t n
+        ∙ subst (λ (u : Word). view A (write A st u v) t ≡ v) d (view-same A W st t v long ht)
 
     pub set-other : (b : Slot) → (t ≡ b → ⊥) → (a ≡ b → ⊥) → view A (increase A (write A st u v) w) b ≡ view A st b
     set-other b m n = more-other (write A st u v) still-long a ha e b n ∙ left b m
 
     pub set-written : {st₀ : List ℕ} → Written st₀ st → Written st₀ (increase A (write A st u v) w)
-    set-written {st₀} z = more-written (write A st u v) still-long a ha e (subst (λ (u : Word). Written st₀ (write A st u v)) d (also z t v ht))
+    set-written {st₀} z =
+        more-written (write A st u v) still-long a ha e (subst (λ (u : Word). Written st₀ (write A st u v)) d (also z t v ht))
 
     -- t being no counter, and no counter having changed before
     pub set-more : (b : Step) → a ≡ counter b → 3 < sort t → (st₀ : List ℕ) → ((d : Step) → view A st (counter d) ≡ view A st₀ (counter d))
@@ -130,7 +135,8 @@ module _ {A : Array} (W : Wired A) where
         → view A (moveDown A st q k i n) (place q k j) ≡ view A st (place q k (suc j))
     unfolding moveDown
     move-down zero i st z r j u v = absurd (omega arith)
-    move-down (suc n) i st z r j u v = go (order i j) (move-down n (suc i) st₁ (omega (arith, length-write A st (linkPlace A q k i) x)) (omega arith)
+    move-down (suc n) i st z r j u v =
+        go (order i j) (move-down n (suc i) st₁ (omega (arith, length-write A st (linkPlace A q k i) x)) (omega arith)
         j)
       where
         x : ℕ
@@ -151,7 +157,8 @@ module _ {A : Array} (W : Wired A) where
             move-other n (suc i) st₁ (omega arith) (place q k j) (λ j' a b d. omega (arith, ap third d))
             ∙ ap (λ (j : ℕ). view A st₁ (place q k j)) e ∙ here ∙ ap (λ (j : ℕ). view A st (place q k (suc j))) (sym e)
 
-    move-end : (n i : ℕ) (st : List ℕ) → wordCount A ≤ length st → i + n < pipeAt A q .hop → view A (moveDown A st q k i n) (place q k (i + n)) ≡ 0
+    move-end : (n i : ℕ) (st : List ℕ) → wordCount A ≤ length st → i + n < pipeAt A q .hop
+        → view A (moveDown A st q k i n) (place q k (i + n)) ≡ 0
     unfolding moveDown
     move-end zero i st z r = let e : i + 0 ≡ i = omega arith in rw e (view-same A W st (place q k i) 0 z (h, l, omega arith))
     move-end (suc n) i st z r =

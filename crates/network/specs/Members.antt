@@ -1,8 +1,10 @@
--- Members of lists, and of the lists of an array's steps: what passes a test somewhere in the order of the steps is a step of the array. Assumes nothing.
+-- Members of lists, and of the lists of an array's steps: what passes a test somewhere in the order of the steps is a step of the array.
+-- Assumes nothing.
 use mathlib.Core.Path.{_≡_, refl, sym, subst}
 use mathlib.Core.Bool.{Bool, true, false, cond}
 use mathlib.Core.Logic.{_⊎_, inl, inr}
-use mathlib.Core.List.{List, [], _∷_, _++_, map, List·Memᴰ as In, List·Memᴰ·head as here, List·Memᴰ·tail as there, Memᴰ·map as in-map, Memᴰ·append-left as left, Memᴰ·append-right as right, List·Memᴰ·append-cases as cases}
+use mathlib.Core.List.{List, [], _∷_, _++_, map, List·Memᴰ as In, List·Memᴰ·head as here, List·Memᴰ·tail as there, Memᴰ·map as in-map}
+use mathlib.Core.List.{Memᴰ·append-left as left, Memᴰ·append-right as right, List·Memᴰ·append-cases as cases}
 use Prim.Native.Nat.{ℕ, _<_}
 use native.Mathlib.Omega.{arith}
 use lib.Dec.{T}
@@ -70,7 +72,8 @@ module _ (A : Array) where
       gives p h (here e) = subst Listed (sym e) h
       gives p h (there j) = let r = row-in (Give p) (streamCount A) a j in subst Listed (sym (r .2)) (h, r .1)
 
-      port : (p : ℕ) → p < processCount A → In a (map (Take p) (numbers (streamCount A))) ⊎ In a (Fire p ∷ map (Give p) (numbers (streamCount A)))
+      port : (p : ℕ) → p < processCount A
+          → In a (map (Take p) (numbers (streamCount A))) ⊎ In a (Fire p ∷ map (Give p) (numbers (streamCount A)))
           → Listed a
       port p h (inl j) = let r = row-in (Take p) (streamCount A) a j in subst Listed (sym (r .2)) (h, r .1)
       port p h (inr j) = gives p h j
@@ -81,7 +84,8 @@ module _ (A : Array) where
           port (r .0) (r .1) (cases (map (Take (r .0)) (numbers (streamCount A))) (r .2))
       rest (inr j) = let r = row-in Receive (pipeNumber A) a j in subst Listed (sym (r .2)) (r .1)
 
-      go : In a (map Send (numbers (pipeNumber A))) ⊎ In a (each (stepsOf A) (numbers (processCount A)) ++ map Receive (numbers (pipeNumber A)))
+      go : In a (map Send (numbers (pipeNumber A)))
+          ⊎ In a (each (stepsOf A) (numbers (processCount A)) ++ map Receive (numbers (pipeNumber A)))
           → Listed a
       go (inl j) = let r = row-in Send (pipeNumber A) a j in subst Listed (sym (r .2)) (r .1)
       go (inr j) = rest (cases (each (stepsOf A) (numbers (processCount A))) j)
@@ -100,6 +104,7 @@ unfolding firstReady
 found-passes f [] a e = absurd (let z : _≡_ {A = ℕ} 0 1 = cc in omega arith)
 found-passes f (b ∷ l) a e = go (f b) refl e (found-passes f l a)
   where
-    go : (c : Bool) → f b ≡ c → cond c (at b) (firstReady f l) ≡ at a → (firstReady f l ≡ at a → In a l × (f a ≡ true)) → In a (b ∷ l) × (f a ≡ true)
+    go : (c : Bool) → f b ≡ c → cond c (at b) (firstReady f l) ≡ at a → (firstReady f l ≡ at a → In a l × (f a ≡ true))
+        → In a (b ∷ l) × (f a ≡ true)
     go true d e ih = let z : b ≡ a = cc in subst (λ (a : Step). In a (b ∷ l) × (f a ≡ true)) z (here refl, d)
     go false d e ih = let r = ih e in (there (r .0), r .1)

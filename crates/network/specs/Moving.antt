@@ -10,7 +10,8 @@ use Rattle.meaning.specs.Rules.{processOn, streamOn, fill}
 use Rattle.network.specs.Counters.{Step, put, get, put≢get}
 use Rattle.network.specs.Words.{Taking, Giving, Moves}
 use Rattle.network.specs.Wiring.{kindOf, netOf, Wired, rankedOf}
-use Rattle.network.specs.Slots.{Slot, sent, taken, given, hand, place, sort, first, second, third, counter, Has, wordOf, view, countsOf, wordsOf}
+use Rattle.network.specs.Slots.{Slot, sent, taken, given, hand, place, sort, first, second, third, counter, Has, wordOf, view}
+use Rattle.network.specs.Slots.{countsOf, wordsOf}
 use Rattle.network.specs.Slots as Slots
 use Rattle.network.specs.Ready.{put-is, get-is}
 
@@ -50,13 +51,14 @@ module _ {A : Array} (W : Wired A) (waiting : ℕ → ℕ → ℕ) (st st' : Lis
           take = λ q' k' l e.
               subst₂
               (λ (q k : ℕ). k < stopsOn A q
-              → Taking (view A st (taken q k)) (view A st (given q k)) (view A st (hand q k)) (view A st (Slots.kept q k)) (view A st (place q k 0))
-              (view A st' (hand q k)) (view A st' (Slots.kept q k)) (kindOf (stopAt A q k .keeps)))
+              → Taking (view A st (taken q k)) (view A st (given q k)) (view A st (hand q k)) (view A st (Slots.kept q k))
+              (view A st (place q k 0)) (view A st' (hand q k)) (view A st' (Slots.kept q k)) (kindOf (stopAt A q k .keeps)))
               (get-q e)
               (get-k e)
               taking
               l;
-          shift = λ q' k' i e. subst₂ (λ (q k : ℕ). view A st' (place q k i) ≡ view A st (place q k (suc i))) (get-q e) (get-k e) (shifted i);
+          shift =
+              λ q' k' i e. subst₂ (λ (q k : ℕ). view A st' (place q k i) ≡ view A st (place q k (suc i))) (get-q e) (get-k e) (shifted i);
           receive = λ q' e.
               subst₂ (λ (q k : ℕ). out' q (view A st (taken q k)) ≡ view A st (place q k 0)) (get-q e) (get-k e)
               (receiving (get-k e ∙ ap (stopsOn A) (sym (get-q e))));

@@ -1,5 +1,5 @@
--- After every list of granted steps from a cleared state: what is received is final, some step is ready exactly if some value is not out, and the granted
--- steps are at most the total, equal to it exactly if all values are out. Assumes nothing.
+-- After every list of granted steps from a cleared state: what is received is final, some step is ready exactly if some value is not out,
+-- and the granted steps are at most the total, equal to it exactly if all values are out. Assumes nothing.
 use mathlib.Core.Path.{_≡_, refl, sym, _∙_, ap, ap₂, subst}
 use mathlib.Core.Bool.{Bool, true, false, not}
 use mathlib.Core.Logic.{_↔_}
@@ -31,7 +31,8 @@ use Rattle.network.specs.Decide.{Says, holds, fails, said, says-true, sa
 use Rattle.network.specs.Ready.{stepOf, There, says-ready}
 use Rattle.network.specs.Parts.{out-is}
 use Rattle.network.specs.Members.{any-in, in-any, Listed, in-order, listed, ready-there}
-use Rattle.network.specs.Runs.{Grants, allDone, Cleared, Reached, view-zero, reached-start, good-of, sound-of, reached-all, receives-count}
+use Rattle.network.specs.Runs.{Grants, allDone, Cleared, Reached, view-zero, reached-start, good-of, sound-of, reached-all}
+use Rattle.network.specs.Runs.{receives-count}
 
 -- every process that computes is one of the processes
 process-there : (A : Array) (p : ℕ) → 0 < countAt A p → p < processCount A
@@ -138,7 +139,8 @@ module _ {A : Array} (W : Wired A) where
 
       -- the granted receives are the counter's
       pub received-is : (q : ℕ) → c (get q (stopsOn A q)) ≡ receives q l
-      received-is q = receives-count W values (reached-start W values M₀ C) G q ∙ omega (arith, view-zero W values M₀ C (taken q (stopsOn A q)))
+      received-is q =
+          receives-count W values (reached-start W values M₀ C) G q ∙ omega (arith, view-zero W values M₀ C (taken q (stopsOn A q)))
 
       -- all values are out exactly if the test of the list says so
       pub says-out : Says (Out X c) (allDone A l)
@@ -167,7 +169,8 @@ module _ {A : Array} (W : Wired A) where
               at : Order (c (get q (stopsOn A q))) (elementsOn A q) → c (get q (stopsOn A q)) ≡ elementsOn A q
               at (less m) =
                   let g = Claims.ready X (good-of W values reached-of) q m in
-                  absurd (let i = guard-ready (M .state) (sound-of W values reached-of) (g .0) (g .1) in let z : _≡_ {A = ℕ} 0 1 = cc in omega arith)
+                  absurd (let i = guard-ready (M .state) (sound-of W values reached-of) (g .0) (g .1) in
+                  let z : _≡_ {A = ℕ} 0 1 = cc in omega arith)
               at (atLeast m) = omega (arith, sound-of W values reached-of .gets q (stopsOn A q) (le-refl (stopsOn A q)))
 
           go : {b : Bool} (r : Bool) → anyReady A (M .state) ≡ r → Says (Out X c) b → r ≡ not b
@@ -205,7 +208,7 @@ module _ {A : Array} (W : Wired A) where
               λ e. says-true says-out
                   (granted-out X (processCount A) (pipeNumber A) (process-there A) (λ q h. element-pipe A q 0 h) (reached-of .reach)
                   (e ∙ sym total-is)),
-              λ e. out-granted X (processCount A) (pipeNumber A) (process-there A) (λ q h. element-pipe A q 0 h) (reached-of .reach) (W .has-stream)
-                  (said says-out e) ∙ total-is,
+              λ e. out-granted X (processCount A) (pipeNumber A) (process-there A) (λ q h. element-pipe A q 0 h)
+                  (reached-of .reach) (W .has-stream) (said says-out e) ∙ total-is,
             );
           }

@@ -1,10 +1,11 @@
--- The waiting and the received list by pipes: where a pipe's part stands, what a receive changes there, and that the list of a start has the elements'
--- values. Assumes nothing.
+-- The waiting and the received list by pipes: where a pipe's part stands, what a receive changes there, and that the list of a start has
+-- the elements' values. Assumes nothing.
 use mathlib.Core.Path.{_≡_, refl, sym, _∙_, ap, ap₂}
 use mathlib.Core.List.{List, [], _∷_, _++_, map, map-append}
 use Prim.Native.Nat.{ℕ, zero, suc, _+_, _-_, _≤_, _<_}
 use native.Mathlib.Omega.{arith}
-use lib.ListN.{length, getD, set, take, drop, replicate, length-append, length-map, length-drop, length-replicate, take-append-drop, getD-replicate, List·getD-append}
+use lib.ListN.{length, getD, set, take, drop, replicate, length-append, length-map, length-drop, length-replicate, take-append-drop}
+use lib.ListN.{getD-replicate, List·getD-append}
 use lib.Seq.{length-take-le, getD-take, getD-drop, drop-drop, ext-getD, getD-append-add, getD-set-same, getD-set-other}
 use borrow.Author.Tests.{lt-ltb, le-ltb}
 use Rattle.meaning.specs.Lists.{each, total}
@@ -25,7 +26,8 @@ module _ {X : Type 0} (f : X → List ℕ) (d : X) where
   each-at [] q j h k = absurd (omega arith)
   each-at (x ∷ l) zero j h k = let e : 0 + j ≡ j = omega arith in rw e (List·getD-append (f x) (each f l) 0 j k)
   each-at (x ∷ l) (suc q) j h k =
-      let e : length (f x) + total (λ x. length (f x)) (take q l) + j ≡ length (f x) + (total (λ x. length (f x)) (take q l) + j) = omega arith in
+      let e : length (f x) + total (λ x. length (f x)) (take q l) + j
+      ≡ length (f x) + (total (λ x. length (f x)) (take q l) + j) = omega arith in
       rw e (getD-append-add (f x) (each f l) (total (λ x. length (f x)) (take q l) + j) 0 ∙ each-at l q j (omega arith) k)
 
 map-each : {X : Type 0} (f : ℕ → ℕ) (g : X → List ℕ) (l : List X) → map f (each g l) ≡ each (λ x. map f (g x)) l
@@ -54,12 +56,14 @@ module _ (A : Array) where
   -- a pipe's part is within the list, and two places in parts are one only if pipe and number are
   part-end : (q : ℕ) → q < pipeNumber A → partStart A q + elementsOn A q ≤ listLength A
   part-end q h =
-      omega (arith, part-ends (λ (r : Pipe). length (r .elements)) noPipe (A .pipes) q h, each-length (λ (r : Pipe). r .elements) (A .pipes))
+      omega
+      (arith, part-ends (λ (r : Pipe). length (r .elements)) noPipe (A .pipes) q h, each-length (λ (r : Pipe). r .elements) (A .pipes))
 
   pub part-below : (q i : ℕ) → i < elementsOn A q → partStart A q + i < listLength A
   part-below q i h = omega (arith, part-end q (element-pipe A q i h))
 
-  pub part-apart : (q i q' i' : ℕ) → i < elementsOn A q → i' < elementsOn A q' → partStart A q + i ≡ partStart A q' + i' → (q ≡ q') × (i ≡ i')
+  pub part-apart : (q i q' i' : ℕ) → i < elementsOn A q → i' < elementsOn A q' → partStart A q + i ≡ partStart A q' + i'
+      → (q ≡ q') × (i ≡ i')
   part-apart q i q' i' h h' e =
       block-apart (λ (r : Pipe). length (r .elements)) noPipe (A .pipes) q i q' i' (element-pipe A q i h) (element-pipe A q' i' h') h h' e
 
@@ -81,7 +85,8 @@ module _ (A : Array) where
         go : Order i (elementsOn A q') → outOf A (set out (partStart A q + x) v) q' i ≡ outOf A out q' i
         go (less h) =
             rw (lt-ltb i (elementsOn A q') h)
-            (getD-set-other out (partStart A q + x) (partStart A q' + i) v 0 (λ e. let z = part-apart q x q' i l h (sym e) in n (z .0) (z .1)))
+            (getD-set-other out (partStart A q + x) (partStart A q' + i) v 0
+            (λ e. let z = part-apart q x q' i l h (sym e) in n (z .0) (z .1)))
         go (atLeast h) = rw (le-ltb i (elementsOn A q') h)
 
   pub out-is : (out : List ℕ) (q i : ℕ) → i < elementsOn A q → outOf A out q i ≡ getD out (partStart A q + i) 0
@@ -96,7 +101,8 @@ module _ (A : Array) where
       → partOf A q out ≡ map f (take k (pipeAt A q .elements)) ++ replicate (elementsOn A q - k) 0
   part-is out long f q k h l g z =
       ext-getD 0 (partOf A q out) (first ++ rest) (whole ∙ omega (arith, length-append first rest, first-length, rest-length))
-      (λ i m. let m : i < n = omega (arith, whole) in getD-take n (drop (partStart A q) out) i 0 m ∙ getD-drop (partStart A q) out i 0 ∙ go i m (order i k))
+      (λ i m. let m : i < n = omega (arith, whole) in
+      getD-take n (drop (partStart A q) out) i 0 m ∙ getD-drop (partStart A q) out i 0 ∙ go i m (order i k))
     where
       n : ℕ
       n = elementsOn A q

@@ -17,7 +17,8 @@ use Rattle.meaning.specs.Lists.{any, total, numbers, numbersFrom}
 use Rattle.meaning.specs.Loops.{instances}
 use Rattle.meaning.specs.Streams.{elements, hop}
 use Rattle.meaning.specs.Description.{streamsOf}
-use Rattle.meaning.specs.Body.{body, streamStart, elementCount, touchedFrom, touchedBy, gather, scatter, execute, executeAll, storeAfter, finalValues}
+use Rattle.meaning.specs.Body.{body, streamStart, elementCount, touchedFrom, touchedBy, gather, scatter, execute, executeAll, storeAfter}
+use Rattle.meaning.specs.Body.{finalValues}
 use Rattle.meaning.specs.Array.{Array, arrayOf, instanceAt, streamCount, elementsOn, pipeOrder, listLength}
 use Rattle.meaning.specs.Rules.{streamOn, bodyAt}
 use Rattle.lists.specs.Rows.{length-numbers, getD-first, same-numbers}
@@ -53,7 +54,8 @@ module _ (t : ℕ → ℕ) where
       ∙ getD-set-other S (t i) e v 0 (λ d. f i (le-refl i) (omega arith) (sym d))
 
   scatter-there : (n i : ℕ) (S vs : List ℕ) → ((j j' : ℕ) → i ≤ j → j < j' → j' < i + n → t j' ≡ t j → ⊥) → n ≤ length vs
-      → (j : ℕ) → i ≤ j → j < i + n → t j < length S → (k : ℕ) → i + k ≡ j → getD (scatter S (map t (numbersFrom i n)) vs) (t j) 0 ≡ getD vs k 0
+      → (j : ℕ) → i ≤ j → j < i + n → t j < length S → (k : ℕ) → i + k ≡ j
+      → getD (scatter S (map t (numbersFrom i n)) vs) (t j) 0 ≡ getD vs k 0
   unfolding scatter numbersFrom
   scatter-there zero i S vs d l j a b h k e = absurd (omega arith)
   scatter-there (suc n) i S [] d l j a b h k e = absurd (omega arith)
@@ -63,8 +65,8 @@ module _ (t : ℕ → ℕ) where
       ∙ ap (λ (x : ℕ). getD (set S (t i) v) (t x) 0) z
       ∙ getD-set-same S (t i) v 0 (omega (arith, ap t z))
   scatter-there (suc n) i S (v ∷ vs) d l j a b h (suc k) e =
-      scatter-there n (suc i) (set S (t i) v) vs (λ u w x y z. d u w (omega arith) y (omega arith)) (omega arith) j (omega arith) (omega arith)
-      (omega (arith, length-set S (t i) v)) k (omega arith)
+      scatter-there n (suc i) (set S (t i) v) vs (λ u w x y z. d u w (omega arith) y (omega arith)) (omega arith) j
+      (omega arith) (omega arith) (omega (arith, length-set S (t i) v)) k (omega arith)
 
 -- ---- lists of instances
 
@@ -122,8 +124,8 @@ pub streams-are : (d : Description) → streamCount (arrayOf d) ≡ length (stre
 unfolding arrayOf
 streams-are d = length-map (streamsOf d) (hop (d .nest))
 
--- what geometry has to show of a description beside its wiring: the instances by number are those of the written order, and elements have the numbers
--- that the plain run gives them
+-- what geometry has to show of a description beside its wiring: the instances by number are those of the written order, and elements have
+-- the numbers that the plain run gives them
 pub record Described (d : Description) (W : Wired (arrayOf d)) : Type 0 where
   -- the instances are those of the loops, and the i-th of the written order is the one that its process fires
   pub instances-are : W .instances ≡ length (instances (d .nest))

@@ -1,4 +1,5 @@
--- The program that an array runs, and the system of its network and program. A body changes no stream that is no line's target. Assumes nothing.
+-- The program that an array runs, and the system of its network and program. A body changes no stream that is no line's target.
+-- Assumes nothing.
 use mathlib.Core.Path.{_≡_, refl, sym, _∙_, ap}
 use mathlib.Core.Bool.{Bool, true, false, cond}
 use mathlib.Core.List.{List, [], _∷_, _++_, map}
@@ -18,7 +19,8 @@ use Rattle.meaning.specs.Rules.{processOn, streamOn, bodyAt}
 use Rattle.lists.specs.Rows.{length-numbers, getD-first, same-numbers}
 use Rattle.network.specs.Values.{Program, Body}
 use Rattle.network.specs.Firing.{Own, in-hand, in-keep}
-use Rattle.network.specs.Wiring.{kindOf, rankAt, netOf, elementAt, writes, UsedAt, Wired, element-pipe, has-port, rankedOf, linedOf, laidOf, clockOf}
+use Rattle.network.specs.Wiring.{kindOf, rankAt, netOf, elementAt, writes, UsedAt, Wired, element-pipe, has-port, rankedOf, linedOf}
+use Rattle.network.specs.Wiring.{laidOf, clockOf}
 use Rattle.network.specs.System.{Spot, Geometry, System}
 
 -- ---- lines
@@ -36,7 +38,8 @@ lines-keep x s (l ∷ ls) vs n = go (eqb (l .target) s) refl n (lines-keep x s l
     go true e n ih = absurd (n refl)
     go false e n ih =
         ih n
-        ∙ line-leaves x (λ ws. getD ws s 0 ≡ getD vs s 0) l vs (getD-set-other vs (l .target) s (resultOf l vs) 0 (λ d. eqb-false (l .target) s e (sym d))) refl
+        ∙ line-leaves x (λ ws. getD ws s 0 ≡ getD vs s 0) l vs
+        (getD-set-other vs (l .target) s (resultOf l vs) 0 (λ d. eqb-false (l .target) s e (sym d))) refl
 
 module _ (A : Array) where
   -- what the body of instance x makes of the streams' values f
@@ -50,7 +53,8 @@ module _ (A : Array) where
   pub body-keeps : (x : V3) (f : ℕ → ℕ) (s : ℕ) → s < streamCount A → (writes A s ≡ true → ⊥) → bodyOf x f s ≡ f s
   body-keeps x f s h n =
       let e : length (map f (numbers (streamCount A))) ≡ streamCount A = length-numbers f 0 (streamCount A) in
-      getD-take (length (map f (numbers (streamCount A)))) (runLines x (A .lines) (map f (numbers (streamCount A)) ++ (0 ∷ 0 ∷ []))) s 0 (omega arith)
+      getD-take (length (map f (numbers (streamCount A))))
+      (runLines x (A .lines) (map f (numbers (streamCount A)) ++ (0 ∷ 0 ∷ []))) s 0 (omega arith)
       ∙ lines-keep x s (A .lines) (map f (numbers (streamCount A)) ++ (0 ∷ 0 ∷ [])) n
       ∙ List·getD-append (map f (numbers (streamCount A))) (0 ∷ 0 ∷ []) 0 s (omega arith)
       ∙ getD-first f 0 (streamCount A) s h
@@ -87,7 +91,8 @@ module _ {A : Array} (W : Wired A) (values : List ℕ) where
       owns false e = in-hand (sym e)
 
   pub touch-own : (i q k j : ℕ) → i < W .instances → k < stopsOn A q → processOn A q k ≡ W .owner i
-      → Own (stopAt A q k .soak) (W .firing i) (rankAt A q k) j (kindOf (stopAt A q k .keeps)) → W .touched i (streamOn A q) ≡ elementAt A q j
+      → Own (stopAt A q k .soak) (W .firing i) (rankAt A q k) j (kindOf (stopAt A q k .keeps))
+      → W .touched i (streamOn A q) ≡ elementAt A q j
   touch-own i q k j h l e o = W .touch i q k h l e ∙ ap (elementAt A q) (index-of (stopAt A q k .keeps) o)
     where
       index-of : {s f r : ℕ} (b : Bool) → Own s f r j (kindOf b) → cond b r (s + f) ≡ j

@@ -14,16 +14,19 @@ use Rattle.network.specs.Counters.{Offer, passed, kept, put, OneMore}
 use Rattle.network.specs.Words.{Giving, of-hand, of-other, of-keep, Moves}
 use Rattle.network.specs.Sound.{Sound}
 use Rattle.network.specs.Wiring.{kindOf, netOf, Wired, stop-pipe, rankedOf}
-use Rattle.network.specs.Slots.{Slot, sent, taken, given, hand, place, sort, first, second, counter, Has, wordOf, view, view-is, view-same, view-other, countsOf, wordsOf}
+use Rattle.network.specs.Slots.{Slot, sent, taken, given, hand, place, sort, first, second, counter, Has, wordOf, view, view-is}
+use Rattle.network.specs.Slots.{view-same, view-other, countsOf, wordsOf}
 use Rattle.network.specs.Slots as Slots
 use Rattle.network.specs.Ready.{taken-is, given-is}
-use Rattle.network.specs.Links.{counter-sort, Written, nothing, also, written-length, more-other, more-written, one-more, set-there, set-other, set-written, set-more}
+use Rattle.network.specs.Links.{counter-sort, Written, nothing, also, written-length, more-other, more-written, one-more, set-there}
+use Rattle.network.specs.Links.{set-other, set-written, set-more}
 use Rattle.network.specs.Moving.{put-moves, chosen, chosen-sort, chosen-at, chosen-has, chosen-word, fill-is}
 
 module _ {A : Array} (W : Wired A) (st : List ℕ) (long : wordCount A ≤ length st) (S : Sound (netOf A) (countsOf A st)) where
   -- ---- putting v into link k of pipe q
 
-  module _ (q k : ℕ) (h : q < pipeNumber A) (l : k ≤ stopsOn A q) (g : view A st (counter (put q k)) < view A st (taken q k) + pipeAt A q .hop) where
+  module _ (q k : ℕ) (h : q < pipeNumber A) (l : k ≤ stopsOn A q)
+      (g : view A st (counter (put q k)) < view A st (taken q k) + pipeAt A q .hop) where
     fill-next : view A st (counter (put q k)) ≡ view A st (taken q k) + fill A st q k
     fill-next = omega (arith, fill-is A st q k h l, S .link q k l .0)
 
@@ -54,7 +57,8 @@ module _ {A : Array} (W : Wired A) (st : List ℕ) (long : wordCount A ≤ lengt
     -- a send writes to slots only
     pub send-written : Written W st (doSend A list st q)
     unfolding v
-    send-written = more-written W (putValue A st q 0 v) (putting-long q 0 h first-link g v) (sent q) h refl (putting-written q 0 h first-link g v)
+    send-written =
+        more-written W (putValue A st q 0 v) (putting-long q 0 h first-link g v) (sent q) h refl (putting-written q 0 h first-link g v)
 
     -- it counts one more of what was sent
     pub send-more : OneMore (countsOf A st) (countsOf A (doSend A list st q)) (put q 0)
@@ -160,10 +164,11 @@ module _ {A : Array} (W : Wired A) (st : List ℕ) (long : wordCount A ≤ lengt
     links : (b : Bool) (q' k' i : ℕ) → view A (after b) (place q' k' i) ≡ view A (st₁ b) (place q' k' i)
     links b q' k' i = elsewhere b (place q' k' i) (λ e. omega (arith, ap sort e, chosen-sort q k b)) (λ e. omega (arith, ap sort e))
 
-    aside-at : (b : Bool) (q' k' : ℕ) → (put q (suc k) ≡ put q' (suc k') → ⊥) → (d : Slot) → first d ≡ q' → second d ≡ k' → 3 < sort d → sort d < 6
-        → view A (after b) d ≡ view A st d
+    aside-at : (b : Bool) (q' k' : ℕ) → (put q (suc k) ≡ put q' (suc k') → ⊥) → (d : Slot) → first d ≡ q' → second d ≡ k'
+        → 3 < sort d → sort d < 6 → view A (after b) d ≡ view A st d
     aside-at b q' k' n d u v =
-        aside b d (λ e. n (ap₂ (λ (q k : ℕ). put q (suc k)) (sym (chosen-at q k b .0) ∙ ap first e ∙ u) (sym (chosen-at q k b .1) ∙ ap second e ∙ v)))
+        aside b d
+        (λ e. n (ap₂ (λ (q k : ℕ). put q (suc k)) (sym (chosen-at q k b .0) ∙ ap first e ∙ u) (sym (chosen-at q k b .1) ∙ ap second e ∙ v)))
 
     module _ (waiting out : ℕ → ℕ → ℕ) (n s t f : ℕ) where
       -- what is given, and what the hand and the keep are then
@@ -173,7 +178,8 @@ module _ {A : Array} (W : Wired A) (st : List ℕ) (long : wordCount A ≤ lengt
       unfolding x y
       giving false true e o = absurd (let z : _≡_ {A = ℕ} 0 1 = cc in omega arith)
       giving false false e o =
-          of-hand (value-is false) (emptied false) (aside false (Slots.kept q k) (λ i. omega (arith, ap sort i)) (omega arith) (omega arith))
+          of-hand (value-is false) (emptied false)
+          (aside false (Slots.kept q k) (λ i. omega (arith, ap sort i)) (omega arith) (omega arith))
       giving true true e o =
           of-keep
           (sym (taken-is A st q k l)
@@ -183,7 +189,8 @@ module _ {A : Array} (W : Wired A) (st : List ℕ) (long : wordCount A ≤ lengt
           (emptied true)
           (aside true (hand q k) (λ i. omega (arith, ap sort i)) (omega arith) (omega arith))
       giving true false e o =
-          of-other (two o) (value-is false) (emptied false) (aside false (Slots.kept q k) (λ i. omega (arith, ap sort i)) (omega arith) (omega arith))
+          of-other (two o) (value-is false) (emptied false)
+          (aside false (Slots.kept q k) (λ i. omega (arith, ap sort i)) (omega arith) (omega arith))
         where
           two : Offer n s t (view A st (taken q k)) (view A st (given q k)) f (kindOf true)
               → view A st (taken q k) ≡ suc (suc (view A st (given q k)))
@@ -210,7 +217,8 @@ module _ {A : Array} (W : Wired A) (st : List ℕ) (long : wordCount A ≤ lengt
           (λ e. absurd (omega arith))
           (λ j e. let i : k ≡ j = omega arith in
           subst
-          (λ (j : ℕ). Giving (view A st (taken q j)) (view A st (given q j)) (view A st (hand q j)) (view A st (Slots.kept q j)) (value ofKeep)
+          (λ (j : ℕ). Giving (view A st (taken q j)) (view A st (given q j)) (view A st (hand q j))
+          (view A st (Slots.kept q j)) (value ofKeep)
           (view A (doGive A st q k) (hand q j)) (view A (doGive A st q k) (Slots.kept q j)) (kindOf (stopAt A q j .keeps)))
           i
           (giving (stopAt A q k .keeps) ofKeep refl o))

@@ -1,5 +1,5 @@
--- The order in which elements pass each link, and that every element is in one place: what a process is about to use is nowhere else on the pipe.
--- Assumes nothing.
+-- The order in which elements pass each link, and that every element is in one place: what a process is about to use is nowhere else on the
+-- pipe. Assumes nothing.
 use mathlib.Core.Path.{_≡_}
 use mathlib.Core.Bool.{cond}
 use mathlib.Core.Logic.{_⊎_, inl, inr}
@@ -9,7 +9,8 @@ use native.Mathlib.Omega.{arith}
 use lib.Dec.{ltb}
 use borrow.Author.Tests.{lt-ltb, le-ltb}
 use Rattle.network.specs.Cases.{Order, less, atLeast, order}
-use Rattle.network.specs.Counters.{Kind, through, keep, some, AtStop, passing, fresh, holding, gone, stop-order, held, put, get, Counts, Net, Inv, along}
+use Rattle.network.specs.Counters.{Kind, through, keep, some, AtStop, passing, fresh, holding, gone, stop-order, held, put, get}
+use Rattle.network.specs.Counters.{Counts, Net, Inv, along}
 
 -- the place of the g-th in the order of the pipe, g < 2 n
 unfoldable pub wrap : ℕ → ℕ → ℕ
@@ -55,13 +56,15 @@ next-keep : {r r' : ℕ} {K : Kind} → K ≡ keep → Next r r' K → r' ≡ su
 next-keep e (level d) = absurd (let z : _≡_ {A = ℕ} 0 1 = cc in omega arith)
 next-keep e (rise d) = d
 
-up-step : {n s t x y f r r' R : ℕ} {K : Kind} → 0 < n → r' ≤ R → Next r r' K → AtStop n s t x y f K → min n (suc R - r') ≤ y → min n (suc R - r) ≤ x
+up-step : {n s t x y f r r' R : ℕ} {K : Kind} → 0 < n → r' ≤ R → Next r r' K → AtStop n s t x y f K → min n (suc R - r') ≤ y
+    → min n (suc R - r) ≤ x
 up-step z l (level e) (passing a b _ _) h = omega arith
 up-step z l (rise e) (fresh a b u) h = absurd (omega arith)
 up-step z l (rise e) (holding a b u) h = omega arith
 up-step z l (rise e) (gone a b u) h = omega arith
 
-down-step : {n s t x y f r r' R z : ℕ} {K : Kind} → r' ≤ n → suc R ≤ r → x ≤ z → Next r r' K → AtStop n s t x y f K → z + r ≤ n + R → y + r' ≤ n + R
+down-step : {n s t x y f r r' R z : ℕ} {K : Kind} → r' ≤ n → suc R ≤ r → x ≤ z → Next r r' K → AtStop n s t x y f K
+    → z + r ≤ n + R → y + r' ≤ n + R
 down-step k l w (level e) (passing a b _ _) h = omega arith
 down-step k l w (rise e) (fresh a b u) h = omega arith
 down-step k l w (rise e) (holding a b u) h = omega arith
@@ -116,8 +119,8 @@ module _ (N : Net) (R : Ranked N) where
       above (suc d) j e =
           let ih = above d (suc j) (omega arith) in
           let l = I .link q (suc j) (omega arith) .0 in
-          up-step (R .some q k h) (rank-mono q (suc j) k (omega arith) (omega arith)) (R .next q j (omega arith)) (I .stop q j (omega arith))
-          (omega arith)
+          up-step (R .some q k h) (rank-mono q (suc j) k (omega arith) (omega arith)) (R .next q j (omega arith))
+          (I .stop q j (omega arith)) (omega arith)
 
       pub below : (d j : ℕ) → suc k + d ≡ j → j ≤ stops q → c (put q j) + rank q j ≤ elements q + rank q k
       below zero j e l = let d : j ≡ suc k = omega arith in rw d (omega (arith, rank-keep q k h K .0))

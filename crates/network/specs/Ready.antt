@@ -9,15 +9,18 @@ use native.Mathlib.Omega.{arith}
 use lib.Dec.{ltb}
 use borrow.Author.Tests.{lt-ltb, le-ltb}
 use Rattle.meaning.specs.Lists.{every, numbers}
-use Rattle.meaning.specs.Array.{Array, countAt, processCount, streamCount, pipeNumber, pipeAt, stopsOn, elementsOn, stopAt, pipeThrough, onPipe}
+use Rattle.meaning.specs.Array.{Array, countAt, processCount, streamCount, pipeNumber, pipeAt, stopsOn, elementsOn, stopAt, pipeThrough}
+use Rattle.meaning.specs.Array.{onPipe}
 use Rattle.meaning.specs.State.{Received, Firings, Taken, Given, Sent, read}
-use Rattle.meaning.specs.Rules.{processOn, streamOn, putIn, takenOut, fill, hasRoom, readyToTake, readyToUse, readyToFire, readyToGive, Send, Take, Fire, Give, Receive, ready}
+use Rattle.meaning.specs.Rules.{processOn, streamOn, putIn, takenOut, fill, hasRoom, readyToTake, readyToUse, readyToFire, readyToGive}
+use Rattle.meaning.specs.Rules.{Send, Take, Fire, Give, Receive, ready}
 use Rattle.meaning.specs.Rules as Rules
 use Rattle.network.specs.Counters.{Use, Step, put, get, fire, Counts, At, Guard}
 use Rattle.network.specs.Sound.{Sound}
 use Rattle.network.specs.Wiring.{netOf, Wired, stop-pipe, HasPort, has-port, port-is, placeAt}
 use Rattle.network.specs.Slots.{sent, taken, given, fired, view-is, countsOf}
-use Rattle.network.specs.Decide.{Says, holds, fails, said, says-true, says-and, says-as, says-lt, says-given, says-every, says-hand, says-use, says-offer}
+use Rattle.network.specs.Decide.{Says, holds, fails, said, says-true, says-and, says-as, says-lt, says-given, says-every, says-hand}
+use Rattle.network.specs.Decide.{says-use, says-offer}
 
 module _ (A : Array) where
   -- the step of the abstract network: send and give put into a link, take and receive get out of one
@@ -90,8 +93,8 @@ module _ (A : Array) where
           (says-and (says-filled q k (stop-pipe A q k l) (omega arith))
           (says-hand A (elementsOn A q) (stopAt A q k .soak) (countAt A (processOn A q k)) (c (get q k)) (c (put q (suc k)))
           (c (fire (processOn A q k)))
-          (read A st (Taken (processOn A q k) (streamOn A q))) (read A st (Given (processOn A q k) (streamOn A q))) (c (fire (processOn A q k)))
-          (taken-is q k l) (given-is q k l) refl (stopAt A q k .keeps)))
+          (read A st (Taken (processOn A q k) (streamOn A q))) (read A st (Given (processOn A q k) (streamOn A q)))
+          (c (fire (processOn A q k))) (taken-is q k l) (given-is q k l) refl (stopAt A q k .keeps)))
 
       says-give : (q k : ℕ) → k < stopsOn A q → Says (Guard (netOf A) c (put q (suc k))) (readyToGive A st q k)
       unfolding c
@@ -138,7 +141,8 @@ module _ (A : Array) where
           go (fails n) = fails (λ g. n (omega (arith, fired-is p h, g .0)))
           go (holds l) =
               says-as (λ f. (omega (arith, fired-is p h), spread f))
-              (λ g s m. let z = has-port A p s (W .on-all p s (omega arith) m) in g .1 (pipeThrough A p s) (placeAt A p s) (z .place-lt) (z .process))
+              (λ g s m. let z = has-port A p s (W .on-all p s (omega arith) m) in
+              g .1 (pipeThrough A p s) (placeAt A p s) (z .place-lt) (z .process))
               (says-every (readyToUse A st p) (streamCount A) (λ s m. says-used p s h (has-port A p s (W .on-all p s (omega arith) m))))
 
       -- ready says whether the abstract network may grant the step
@@ -146,7 +150,8 @@ module _ (A : Array) where
       unfolding c
       says-ready (Send q) h =
           let x = put-is q 0 h (omega arith) in
-          says-and (says-as (λ a. omega arith) (λ a. omega arith) (says-lt (read A st (Sent q)) (elementsOn A q))) (says-room q 0 h (omega arith))
+          says-and (says-as (λ a. omega arith) (λ a. omega arith) (says-lt (read A st (Sent q)) (elementsOn A q)))
+          (says-room q 0 h (omega arith))
       says-ready (Take p s) h =
           let z = has-port A p s h in
           says-given (onPipe A p s) (readyToTake A st (pipeThrough A p s) (placeAt A p s)) h
@@ -157,7 +162,8 @@ module _ (A : Array) where
           says-given (onPipe A p s) (readyToGive A st (pipeThrough A p s) (placeAt A p s)) h
           (says-give (pipeThrough A p s) (placeAt A p s) (z .place-lt))
       says-ready (Receive q) h =
-          says-as (λ l. (le-refl (stopsOn A q), l, λ o. absurd (omega arith))) (λ g. g .1) (says-filled q (stopsOn A q) h (le-refl (stopsOn A q)))
+          says-as (λ l. (le-refl (stopsOn A q), l, λ o. absurd (omega arith))) (λ g. g .1)
+          (says-filled q (stopsOn A q) h (le-refl (stopsOn A q)))
 
       pub ready-exactly : (a : Rules.Step) → There a → (ready A st a ≡ true) ↔ Guard (netOf A) (countsOf A st) (stepOf a)
       ready-exactly a h = (said (says-ready a h), says-true (says-ready a h))

@@ -1,4 +1,5 @@
--- What Result answers on a memory that passes the tests of a memory, and that values in pipe order come out in element order. Assumes nothing.
+-- What Result answers on a memory that passes the tests of a memory, and that values in pipe order come out in element order.
+-- Assumes nothing.
 use mathlib.Core.Path.{_≡_, refl, sym, _∙_, ap}
 use mathlib.Core.Bool.{Bool, true, false, not, cond}
 use mathlib.Core.List.{List, map}
@@ -43,7 +44,8 @@ module _ (l : Limits) (s : List ℕ) {M : Memory} (u : Usable l s M) (output : L
   result-early e = let n : refusedBy l s (resultTests l s output M) ≡ 25 = number-is ∙ rw e in ap answered n
 
   pub result-only-early : answerNumber (result l s output M .answer) ≡ 25 → allOut l s (M .state) ≡ false
-  result-only-early e = go (allOut l s (M .state)) (eqb (length output) (lengthOf (descriptionOf s))) (sym number-is ∙ sym (numbers-are l s .result output M) ∙ e)
+  result-only-early e = go (allOut l s (M .state)) (eqb (length output) (lengthOf (descriptionOf s)))
+      (sym number-is ∙ sym (numbers-are l s .result output M) ∙ e)
     where
       go : (a b : Bool) → _≡_ {A = ℕ} (cond (not a) 25 (cond (not b) 28 0)) 25 → a ≡ false
       go false b e = refl
@@ -54,7 +56,8 @@ module _ (l : Limits) (s : List ℕ) {M : Memory} (u : Usable l s M) (output : L
       → result l s output M ≡ record { answer = Done; output = inElementOrder l s (M .received) }
   unfolding result
   result-late e k =
-      let n : refusedBy l s (resultTests l s output M) ≡ 0 = number-is ∙ rw (e, eq-eqb (length output) (lengthOf (descriptionOf s)) k) in ap answered n
+      let n : refusedBy l s (resultTests l s output M) ≡ 0 = number-is
+      ∙ rw (e, eq-eqb (length output) (lengthOf (descriptionOf s)) k) in ap answered n
 
 -- each element's value is found where the element waits
 module _ (l : Limits) (s values : List ℕ) (W : Wired (arrayOf (descriptionOf s))) (D : Described (descriptionOf s) W)
@@ -73,8 +76,10 @@ module _ (l : Limits) (s values : List ℕ) (W : Wired (arrayOf (descriptionOf s
       long : length (inElementOrder l s (map (finalValue d values) (pipeOrder A))) ≡ lengthOf d
       long = length-numbers _ 0 (lengthOf d)
 
-      there : (e : ℕ) → e < lengthOf d → getD (map (finalValue d values) (pipeOrder A)) (position (eqb e) (pipeOrder A)) 0 ≡ finalValue d values e
+      there : (e : ℕ) → e < lengthOf d
+          → getD (map (finalValue d values) (pipeOrder A)) (position (eqb e) (pipeOrder A)) 0 ≡ finalValue d values e
       there e h =
           let k = any-position (eqb e) (pipeOrder A) (D .element-waits e h) in
           getD-map (finalValue d values) (pipeOrder A) (position (eqb e) (pipeOrder A)) k
-          ∙ ap (finalValue d values) (sym (eqb-true e (getD (pipeOrder A) (position (eqb e) (pipeOrder A)) 0) (position-passes (eqb e) 0 (pipeOrder A) k)))
+          ∙ ap (finalValue d values)
+          (sym (eqb-true e (getD (pipeOrder A) (position (eqb e) (pipeOrder A)) 0) (position-passes (eqb e) 0 (pipeOrder A) k)))

@@ -33,7 +33,8 @@ module _ (A : Array) where
   -- a list of granted steps: each is one of the array's and ready when its turn comes
   pub data Grants : Memory → List Rules.Step → Type 0 where
     none : {M : Memory} → Grants M []
-    step : {M : Memory} {a : Rules.Step} {l : List Rules.Step} → There A a → ready A (M .state) a ≡ true → Grants (apply A M a) l → Grants M (a ∷ l)
+    step : {M : Memory} {a : Rules.Step} {l : List Rules.Step} → There A a → ready A (M .state) a ≡ true → Grants (apply A M a) l
+        → Grants M (a ∷ l)
 
   -- after the steps of a list every pipe is wholly received
   abbrev pub allDone : List Rules.Step → Bool
@@ -88,7 +89,8 @@ module _ {A : Array} (W : Wired A) (values : List ℕ) where
 
   -- ---- one step
 
-  pub good-of : {t : ℕ} {M : Memory} → Reached t M → Good (systemOf W values) (countsOf A (M .state)) (wordsOf A (M .state) (outOf A (M .received)))
+  pub good-of : {t : ℕ} {M : Memory} → Reached t M
+      → Good (systemOf W values) (countsOf A (M .state)) (wordsOf A (M .state) (outOf A (M .received)))
   good-of R = reach-good (systemOf W values) (R .reach)
 
   pub sound-of : {t : ℕ} {M : Memory} → Reached t M → Sound (netOf A) (countsOf A (M .state))
@@ -112,7 +114,8 @@ module _ {A : Array} (W : Wired A) (values : List ℕ) where
     reached-step =
         record {
           fit = fit-step;
-          reach = more (R .reach) (step-granted W values M (R .fit) (sound-of R) (λ q k l i u. good-of R .stored .spare q k i l u) a h guard-of);
+          reach = more (R .reach)
+              (step-granted W values M (R .fit) (sound-of R) (λ q k l i u. good-of R .stored .spare q k i l u) a h guard-of);
         }
 
   -- ---- lists of steps

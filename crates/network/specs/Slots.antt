@@ -1,5 +1,5 @@
--- The words of a state as the network sees them: by pipe and place. A slot has at most one word, and different slots have different words, so that
--- writing one changes no other. Assumes nothing.
+-- The words of a state as the network sees them: by pipe and place. A slot has at most one word, and different slots have different words,
+-- so that writing one changes no other. Assumes nothing.
 use mathlib.Core.Path.{_≡_, refl, sym, _∙_, ap, ap₂, subst}
 use mathlib.Core.Bool.{cond}
 use mathlib.Core.List.{List}
@@ -18,7 +18,8 @@ use Rattle.network.specs.Words.{Words}
 use Rattle.network.specs.Layout.{Live, read-same, read-other}
 use Rattle.network.specs.Wiring.{Wired, stop-pipe, HasPort, has-port, port-is, placeAt}
 
--- of pipe q what was sent; of its place k what was taken out of the link there, what was given, hand, keep, and the link's places; of process p its firings
+-- of pipe q what was sent; of its place k what was taken out of the link there, what was given, hand, keep, and the link's places; of
+-- process p its firings
 pub data Slot : Type 0 where
   sent : ℕ → Slot
   taken : ℕ → ℕ → Slot
@@ -240,7 +241,8 @@ module _ (A : Array) where
         go : Dec (Has b) → view (write A st (wordOf a) v) b ≡ view st b
         go (yes l) =
             view-is (write A st (wordOf a) v) b l
-            ∙ read-other A st (wordOf a) (wordOf b) v (word-live a h) (word-live b l) (λ e. n (sym (slot-word a h) ∙ ap slotOf e ∙ slot-word b l))
+            ∙ read-other A st (wordOf a) (wordOf b) v (word-live a h) (word-live b l)
+            (λ e. n (sym (slot-word a h) ∙ ap slotOf e ∙ slot-word b l))
             ∙ sym (view-is st b l)
         go (no m) = view-none (write A st (wordOf a) v) b m ∙ sym (view-none st b m)
 
@@ -253,4 +255,5 @@ module _ (A : Array) where
   outOf out q i = cond (ltb i (elementsOn A q)) (getD out (partStart A q + i) 0) 0
 
   abbrev pub wordsOf : List ℕ → (ℕ → ℕ → ℕ) → Words
-  wordsOf st out = record { link = λ q k i. view st (place q k i); hand = λ q k. view st (hand q k); kept = λ q k. view st (kept q k); out = out }
+  wordsOf st out =
+      record { link = λ q k i. view st (place q k i); hand = λ q k. view st (hand q k); kept = λ q k. view st (kept q k); out = out }

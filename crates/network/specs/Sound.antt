@@ -1,8 +1,11 @@
--- Sound counters: what is asked of any state, reached or not. Every granted step keeps it, and the counter invariant implies it. Assumes nothing.
+-- Sound counters: what is asked of any state, reached or not. Every granted step keeps it, and the counter invariant implies it.
+-- Assumes nothing.
 use mathlib.Core.Path.{_≡_, sym, _∙_, subst}
 use Prim.Native.Nat.{ℕ, zero, suc, _+_, _≤_, _<_}
 use native.Mathlib.Omega.{arith}
-use Rattle.network.specs.Counters.{Kind, through, keep, AtStop, passing, fresh, holding, gone, Hand, empty, first, free, Offer, soaked, drained, used, passed, kept, Step, put, get, fire, Counts, Net, Guard, Inv, OneMore, Hit, hit, miss, hit?, put≢get, below-head, get-elements}
+use Rattle.network.specs.Counters.{Kind, through, keep, AtStop, passing, fresh, holding, gone, Hand, empty, first, free, Offer}
+use Rattle.network.specs.Counters.{soaked, drained, used, passed, kept, Step, put, get, fire, Counts, Net, Guard, Inv, OneMore, Hit}
+use Rattle.network.specs.Counters.{hit, miss, hit?, put≢get, below-head, get-elements}
 use Rattle.network.specs.Cases.{Order, less, atLeast, order}
 
 -- taken x and given y at a stop of a pipe of n elements
@@ -121,7 +124,8 @@ module _ (N : Net) where
       where
         go : Hit B (get q k) → Hit B (put q (suc k)) → Balance (elements q) (c' (get q k)) (c' (put q (suc k))) (kind q k)
         go (hit d u) (hit e v) = absurd (put≢get (sym e ∙ d))
-        go (hit d u) (miss n v) = rw (u, v) (balance-get (omega (arith, turned d .1, I .puts q k (omega arith))) (I .balance q k l) (turned d .2 l))
+        go (hit d u) (miss n v) =
+            rw (u, v) (balance-get (omega (arith, turned d .1, I .puts q k (omega arith))) (I .balance q k l) (turned d .2 l))
         go (miss n u) (hit d v) = rw (u, v) (balance-put (I .gets q k (omega arith)) (I .balance q k l) (turned d .2))
         go (miss n u) (miss n' v) = rw (u, v) (I .balance q k l)
 

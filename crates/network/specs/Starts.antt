@@ -1,4 +1,5 @@
--- A start that is not declined: its description is accepted, and it clears. After it and any calls the memory passes the tests of a memory. Assumes nothing.
+-- A start that is not declined: its description is accepted, and it clears. After it and any calls the memory passes the tests of a memory.
+-- Assumes nothing.
 use mathlib.Core.Path.{_≡_, refl, _∙_, ap}
 use mathlib.Core.Bool.{Bool, true, false, not, _||_}
 use mathlib.Core.List.{List}

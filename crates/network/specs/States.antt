@@ -1,5 +1,5 @@
--- Sound states: the test says that the counters are sound and that the counts of processes on no pipe are 0. Every granted step keeps a sound state
--- sound, whether a start leads to it or not. Assumes nothing.
+-- Sound states: the test says that the counters are sound and that the counts of processes on no pipe are 0. Every granted step keeps a
+-- sound state sound, whether a start leads to it or not. Assumes nothing.
 use mathlib.Core.Path.{_≡_, refl, ap, ap₂, subst}
 use mathlib.Core.Bool.{Bool, true, false}
 use mathlib.Core.List.{List}
@@ -8,9 +8,11 @@ use native.Mathlib.Nat.{le-refl}
 use native.Mathlib.Omega.{arith}
 use lib.ListN.{length}
 use borrow.Author.Tests.{lt-ltb}
-use Rattle.meaning.specs.Array.{Array, countAt, processCount, streamCount, pipeNumber, pipeAt, stopsOn, elementsOn, stopAt, pipeThrough, onPipe}
+use Rattle.meaning.specs.Array.{Array, countAt, processCount, streamCount, pipeNumber, pipeAt, stopsOn, elementsOn, stopAt, pipeThrough}
+use Rattle.meaning.specs.Array.{onPipe}
 use Rattle.meaning.specs.State.{Firings, Taken, Given, Sent, Received, wordCount, read}
-use Rattle.meaning.specs.Rules.{processOn, streamOn, putIn, takenOut, soundLink, soundStop, soundPipe, soundPort, soundProcess, sound, Memory, ready, apply}
+use Rattle.meaning.specs.Rules.{processOn, streamOn, putIn, takenOut, soundLink, soundStop, soundPipe, soundPort, soundProcess, sound}
+use Rattle.meaning.specs.Rules.{Memory, ready, apply}
 use Rattle.meaning.specs.Rules as Rules
 use Rattle.network.specs.Cases.{Order, less, atLeast, order}
 use Rattle.network.specs.Counters.{put, get, fire}
@@ -61,7 +63,8 @@ module _ {A : Array} (W : Wired A) where
     Processes = (p : ℕ) → p < processCount A → Process p
 
     -- so of all stops
-    within : Processes → (q k : ℕ) → k < stopsOn A q → (countsOf A st (get q k) ≤ elementsOn A q) × (countsOf A st (put q (suc k)) ≤ elementsOn A q)
+    within : Processes → (q k : ℕ) → k < stopsOn A q
+        → (countsOf A st (get q k) ≤ elementsOn A q) × (countsOf A st (put q (suc k)) ≤ elementsOn A q)
     unfolding Processes Process Port
     within f q k l =
         let z = f (processOn A q k) (W .process-lt q k l) .1 (streamOn A q) (W .stream-lt q (stop-pipe A q k l)) in
@@ -112,7 +115,8 @@ module _ {A : Array} (W : Wired A) where
 
     sound-of-tests : Processes → Pipes → Sound (netOf A) (countsOf A st)
     unfolding Pipes Ends Stops Stop Link Process Processes
-    sound-of-tests f w = record { fires = fires; puts = puts; gets = gets; link = link; balance = λ q k l. w q (stop-pipe A q k l) .0 .1 k l .0 }
+    sound-of-tests f w =
+        record { fires = fires; puts = puts; gets = gets; link = link; balance = λ q k l. w q (stop-pipe A q k l) .0 .1 k l .0 }
       where
         fires : (p : ℕ) → countsOf A st (fire p) ≤ countAt A p
         fires p = go (order p (processCount A))
@@ -143,7 +147,8 @@ module _ {A : Array} (W : Wired A) where
         link q k l = go (order q (pipeNumber A)) (order k (stopsOn A q))
           where
             go : Order q (pipeNumber A) → Order k (stopsOn A q)
-                → (countsOf A st (get q k) ≤ countsOf A st (put q k)) × (countsOf A st (put q k) ≤ countsOf A st (get q k) + pipeAt A q .hop)
+                → (countsOf A st (get q k) ≤ countsOf A st (put q k))
+                × (countsOf A st (put q k) ≤ countsOf A st (get q k) + pipeAt A q .hop)
             go (less h) (less m) = w q h .0 .1 k m .1
             go (less h) (atLeast m) =
                 let e : stopsOn A q ≡ k = omega arith in
@@ -194,7 +199,8 @@ module _ {A : Array} (W : Wired A) where
             z .0 .link q (stopsOn A q) (le-refl (stopsOn A q)),
           ),
         ))
-        (says-then (says-every (soundProcess A st) (processCount A) says-process) (λ f. says-every (soundPipe A st) (pipeNumber A) (says-pipe f)))
+        (says-then (says-every (soundProcess A st) (processCount A) says-process)
+        (λ f. says-every (soundPipe A st) (pipeNumber A) (says-pipe f)))
 
   -- the counts of a process on no pipe are no slot's words
   off-taken : (p s : ℕ) → onPipe A p s ≡ false → Has A (slotOf A (Taken p s)) → ⊥

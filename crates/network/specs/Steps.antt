@@ -7,7 +7,8 @@ use native.Mathlib.Nat.{le-refl}
 use native.Mathlib.Omega.{arith}
 use lib.ListN.{length, getD, length-set}
 use Rattle.meaning.specs.Lists.{numbers}
-use Rattle.meaning.specs.Array.{Array, countAt, instanceAt, processCount, streamCount, stopsOn, elementsOn, partStart, listLength, pipeThrough}
+use Rattle.meaning.specs.Array.{Array, countAt, instanceAt, processCount, streamCount, stopsOn, elementsOn, partStart, listLength}
+use Rattle.meaning.specs.Array.{pipeThrough}
 use Rattle.meaning.specs.State.{Firings, Received, wordCount, read}
 use Rattle.meaning.specs.Rules.{streamOn, oldest, bodyAt, Send, Take, Fire, Give, Receive, Memory, apply, applyAll}
 use Rattle.meaning.specs.Rules as Rules
@@ -51,7 +52,8 @@ module _ (A : Array) (M : Memory) where
   received-length (Take p s) = refl
   received-length (Fire p) = refl
   received-length (Give p s) = refl
-  received-length (Receive q) = length-set (M .received) (partStart A q + read A (M .state) (Received q)) (oldest A (M .state) q (stopsOn A q))
+  received-length (Receive q) =
+      length-set (M .received) (partStart A q + read A (M .state) (Received q)) (oldest A (M .state) q (stopsOn A q))
 
 -- nor any list of steps
 module _ (A : Array) where
@@ -73,7 +75,8 @@ module _ {A : Array} (W : Wired A) where
     ports p h s l = has-port A p s (W .on-all p s (omega arith) l)
 
     -- a step writes to slots only
-    pub step-written : (a : Rules.Step) → There A a → Guard (netOf A) (countsOf A (M .state)) (stepOf A a) → Written W (M .state) (apply A M a .state)
+    pub step-written : (a : Rules.Step) → There A a → Guard (netOf A) (countsOf A (M .state)) (stepOf A a)
+        → Written W (M .state) (apply A M a .state)
     unfolding apply
     step-written (Send q) h g = send-written W (M .state) long S q h (g .1) (M .waiting)
     step-written (Take p s) h g = take-written W (M .state) long S (pipeThrough A p s) (placeAt A p s) (has-port A p s h .place-lt) (g .1)
@@ -154,7 +157,8 @@ module _ {A : Array} (W : Wired A) where
         moves (λ p. get≢fire) g (step-more M (F .long) S (Receive q) h g)
         (receive-moves W (M .state) (F .long) S q h (g .1) waiting out (outOf A (apply A M (Receive q) .received))
         (spare q (stopsOn A q) (le-refl (stopsOn A q)))
-        (ap (outOf A (apply A M (Receive q) .received) q) (sym x-is) ∙ out-new A (M .received) (F .list) q x (oldest A (M .state) q (stopsOn A q))
+        (ap (outOf A (apply A M (Receive q) .received) q) (sym x-is)
+        ∙ out-new A (M .received) (F .list) q x (oldest A (M .state) q (stopsOn A q))
         x-lt)
         (λ q' i n. out-old A (M .received) (F .list) q x (oldest A (M .state) q (stopsOn A q)) x-lt q' i (λ e d. n e (sym x-is ∙ d))))
       where

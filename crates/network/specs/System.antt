@@ -1,12 +1,13 @@
--- What the network needs to know of the geometry, and two facts that follow: an instance that has fired had its elements sent, and an element that is
--- out has had all its instances fired. Assumes nothing.
+-- What the network needs to know of the geometry, and two facts that follow: an instance that has fired had its elements sent, and an
+-- element that is out has had all its instances fired. Assumes nothing.
 use mathlib.Core.Path.{_≡_, refl, _∙_, ap}
 use mathlib.Core.Bool.{true}
 use mathlib.Core.Logic.{_⊎_, inl, inr}
 use Prim.Native.Nat.{ℕ, zero, suc, _+_, _-_, _≤_, _<_}
 use native.Mathlib.Nat.{le-refl}
 use native.Mathlib.Omega.{arith}
-use Rattle.network.specs.Counters.{Kind, through, keep, AtStop, passing, fresh, holding, gone, Use, hand, held, put, get, fire, Counts, Net, Inv, along}
+use Rattle.network.specs.Counters.{Kind, through, keep, AtStop, passing, fresh, holding, gone, Use, hand, held, put, get, fire}
+use Rattle.network.specs.Counters.{Counts, Net, Inv, along}
 use Rattle.network.specs.Ranks.{wrap, Wrap, low, high, wrapped, Ranked, rank-keep, rank-zero, upstream, above, below}
 use Rattle.network.specs.Words.{Hold, passes, keeps}
 use Rattle.network.specs.Firing.{Own, in-hand, in-keep, Lined}
@@ -20,8 +21,8 @@ word through hv kv = hv
 word keep hv kv = kv
 
 -- it is the value of the element that it owns
-pub word-is : {n s t x y f r r' hv kv : ℕ} {B : ℕ → ℕ} {K : Kind} → (K ≡ through → r' ≡ 0) → x ≤ n → Use n s t x y f K → Hold n r r' x y B hv kv K
-    → (j : ℕ) × Own s f r j K × (word K hv kv ≡ B j)
+pub word-is : {n s t x y f r r' hv kv : ℕ} {B : ℕ → ℕ} {K : Kind} → (K ≡ through → r' ≡ 0) → x ≤ n → Use n s t x y f K
+    → Hold n r r' x y B hv kv K → (j : ℕ) × Own s f r j K × (word K hv kv ≡ B j)
 word-is {n} {s} {t} {x} {y} {f} {r} {r'} {B = B} z w (hand a b) (passes u v k) =
     (s + f, in-hand refl, v (omega arith) ∙ ap B (is (wrapped n (r' + y))))
   where
@@ -47,7 +48,8 @@ module _ (N : Net) (R : Ranked N) where
     pub firing : ℕ → ℕ  -- and as its how-manieth
     pub instanceOf : ℕ → ℕ → ℕ  -- back from these
     pub elementOn : ℕ → ℕ → ℕ  -- the j-th element of pipe q
-    pub instance-is : (p j : ℕ) → j < count p → (instanceOf p j < P .instances) × (owner (instanceOf p j) ≡ p) × (firing (instanceOf p j) ≡ j)
+    pub instance-is : (p j : ℕ) → j < count p
+        → (instanceOf p j < P .instances) × (owner (instanceOf p j) ≡ p) × (firing (instanceOf p j) ≡ j)
     pub instance-of : (i : ℕ) → i < P .instances → (firing i < count (owner i)) × (instanceOf (owner i) (firing i) ≡ i)
     pub stream-lt : (q : ℕ) → 0 < elements q → D .streamOn q < P .streams
     pub stream-at : (p s : ℕ) → 0 < count p → s < P .streams → (s < D .streams) × (D .streamOn (D .pipeThrough p s) ≡ s)

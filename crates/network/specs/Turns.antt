@@ -1,9 +1,11 @@
--- The order of firings: when an instance fires, of those that touch one of its written elements exactly the earlier ones have fired. Assumes nothing.
+-- The order of firings: when an instance fires, of those that touch one of its written elements exactly the earlier ones have fired.
+-- Assumes nothing.
 use mathlib.Core.Path.{_≡_, sym, ap}
 use Prim.Native.Nat.{ℕ, suc, _+_, _-_, _≤_, _<_, min}
 use native.Mathlib.Omega.{arith}
 use Rattle.network.specs.Cases.{Order, less, atLeast, order}
-use Rattle.network.specs.Counters.{Kind, through, AtStop, passing, fresh, holding, gone, Use, hand, held, fire, Counts, Net, Guard, Inv, along}
+use Rattle.network.specs.Counters.{Kind, through, AtStop, passing, fresh, holding, gone, Use, hand, held, fire, Counts, Net, Guard}
+use Rattle.network.specs.Counters.{Inv, along}
 use Rattle.network.specs.Values.{Upto}
 
 -- what passes through
@@ -27,8 +29,8 @@ module _ (N : Net) (owner firing : ℕ → ℕ) where
 
   -- i comes to the element that they share before i' does
   pub data Before (i i' : ℕ) : Type 0 where
-    upstream : (q k k' : ℕ) → k < k' → k' < stops q → process q k ≡ owner i → process q k' ≡ owner i' → kind q k ≡ through → kind q k' ≡ through
-        → soak q k + firing i ≡ soak q k' + firing i' → Before i i'
+    upstream : (q k k' : ℕ) → k < k' → k' < stops q → process q k ≡ owner i → process q k' ≡ owner i' → kind q k ≡ through
+        → kind q k' ≡ through → soak q k + firing i ≡ soak q k' + firing i' → Before i i'
     sooner : owner i ≡ owner i' → firing i < firing i' → Before i i'
 
   abbrev pub Fired : Counts → ℕ → Type 0

@@ -1,5 +1,5 @@
--- The values of the elements: firing the instances in any order that keeps, for each written element, the plain order, gives the plain run's values.
--- Assumes nothing.
+-- The values of the elements: firing the instances in any order that keeps, for each written element, the plain order, gives the plain
+-- run's values. Assumes nothing.
 use mathlib.Core.Path.{_≡_, refl, sym, _∙_, ap}
 use mathlib.Core.Bool.{Bool, true, false, cond}
 use mathlib.Core.Logic.{_⊎_, inl, inr}
@@ -18,8 +18,8 @@ known : (b : Bool) → Dec (b ≡ true)
 known true = yes refl
 known false = no (λ e. let z : _≡_ {A = ℕ} 0 1 = cc in omega arith)
 
--- a program: its instances in written order and its streams by number; instance i touches the element `touched i s` of stream s, and its body makes of
--- the values that it finds there new ones; some streams are written; the values at the start
+-- a program: its instances in written order and its streams by number; instance i touches the element `touched i s` of stream s, and its
+-- body makes of the values that it finds there new ones; some streams are written; the values at the start
 pub record Program : Type 0 where
   pub streams : ℕ
   pub instances : ℕ
@@ -66,7 +66,8 @@ module _ (P : Program) where
 
   -- the value invariant; a stream that is not written has nothing to show, and its elements have the value of every store of the plain run
   unfoldable pub Valued : (ℕ → Type 0) → Store → Type 0
-  Valued Fired A = (s e j : ℕ) → s < streams → j ≤ instances → (written s ≡ true → Upto touched instances Fired s e j) → A s e ≡ plain P j s e
+  Valued Fired A = (s e j : ℕ) → s < streams → j ≤ instances → (written s ≡ true → Upto touched instances Fired s e j)
+      → A s e ≡ plain P j s e
 
   -- only which have fired counts
   pub valued-same : (F G : ℕ → Type 0) (A : Store) → ((i : ℕ) → i < instances → (F i → G i) × (G i → F i)) → Valued F A → Valued G A
@@ -75,7 +76,8 @@ module _ (P : Program) where
 
   module _ (B : Body P) where
     -- an element that no instance from a up to b touches, or that is not written, keeps its value
-    still : (s e a b : ℕ) → s < streams → a ≤ b → (written s ≡ true → (k : ℕ) → a ≤ k → k < b → touched k s ≡ e → ⊥) → plain P b s e ≡ plain P a s e
+    still : (s e a b : ℕ) → s < streams → a ≤ b → (written s ≡ true → (k : ℕ) → a ≤ k → k < b → touched k s ≡ e → ⊥)
+        → plain P b s e ≡ plain P a s e
     unfolding plain
     still s e a zero hs h f = let z : a ≡ 0 = omega arith in rw z
     still s e a (suc b) hs h f = go (order b a) (λ l. still s e a b hs l (λ w k l' l''. f w k l' (omega arith)))
@@ -117,7 +119,8 @@ module _ (P : Program) where
           on : Dec (written s ≡ true) → touched i s ≡ e → plain P (suc i) s e ≡ plain P j s e
           on (yes w) q =
               sym
-              (still s e (suc i) j hs (u w i hi q .0 (inr refl)) (λ w k l l' q'. none w q k l (omega arith) q' (u w k (omega arith) q' .1 l')))
+              (still s e (suc i) j hs (u w i hi q .0 (inr refl))
+              (λ w k l l' q'. none w q k l (omega arith) q' (u w k (omega arith) q' .1 l')))
           on (no n) q = still s e 0 (suc i) hs (omega arith) (λ w. absurd (n w)) ∙ sym (still s e 0 j hs (omega arith) (λ w. absurd (n w)))
 
           before : (touched i s ≡ e → ⊥) → written s ≡ true → Upto touched instances Fired s e j

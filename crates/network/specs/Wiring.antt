@@ -1,4 +1,5 @@
--- The network of an array, and what geometry has to show of it (`Wired`): from that the records of the abstract network follow. Assumes nothing.
+-- The network of an array, and what geometry has to show of it (`Wired`): from that the records of the abstract network follow.
+-- Assumes nothing.
 use mathlib.Core.Path.{_≡_, refl, sym, _∙_, ap, ap₂}
 use mathlib.Core.Bool.{Bool, true, false, cond, _&&_}
 use mathlib.Core.Logic.{_⊎_, inl, inr}
@@ -9,7 +10,8 @@ use lib.Dec.{eqb}
 use lib.ListN.{length, getD, take, List·getD-eq-default}
 use borrow.Author.Tests.{ltb-true, eqb-true}
 use Rattle.meaning.specs.Lists.{any, total, numbers}
-use Rattle.meaning.specs.Array.{Array, Pipe, Stop, countAt, processCount, streamCount, pipeNumber, noPipe, noStop, pipeAt, stopsOn, elementsOn, stopAt, isStop, pipeThrough, onPipe, placeOn}
+use Rattle.meaning.specs.Array.{Array, Pipe, Stop, countAt, processCount, streamCount, pipeNumber, noPipe, noStop, pipeAt, stopsOn}
+use Rattle.meaning.specs.Array.{elementsOn, stopAt, isStop, pipeThrough, onPipe, placeOn}
 use Rattle.meaning.specs.Rules.{processOn, streamOn}
 use Rattle.lists.specs.Sums.{total-next}
 use Rattle.lists.specs.Tests.{position-passes, any-position, both-true}
@@ -60,8 +62,8 @@ elementAt A q j = getD (pipeAt A q .elements) j 0
 abbrev pub writes : Array → ℕ → Bool
 writes A s = any (λ l. eqb (l .target) s) (A .lines)
 
--- the index on pipe q of the element that firing f of the process at place k uses: the one that it keeps, or the one after the soaked ones and those of
--- the firings before
+-- the index on pipe q of the element that firing f of the process at place k uses: the one that it keeps, or the one after the soaked ones
+-- and those of the firings before
 abbrev pub usedIndex : Array → ℕ → ℕ → ℕ → ℕ
 usedIndex A q k f = cond (stopAt A q k .keeps) (rankAt A q k) (stopAt A q k .soak + f)
 
@@ -72,9 +74,10 @@ pub record UsedAt (A : Array) (p f q j : ℕ) : Type 0 where
   pub process : processOn A q place ≡ p
   pub index : usedIndex A q place f ≡ j
 
--- pipe q is that of a moving or of a stationary stream. Moving: no stop keeps, and there is a time of the pipe from which on its elements, `pace` apart,
--- reach each process a hop later than the one before: the m-th firing of a process is at the time of the element that it uses. Stationary: its links
--- have one place, as many stops keep as it has elements, the others compute nothing; all firings come after the loading and before `late`
+-- pipe q is that of a moving or of a stationary stream. Moving: no stop keeps, and there is a time of the pipe from which on its elements,
+-- `pace` apart, reach each process a hop later than the one before: the m-th firing of a process is at the time of the element that it
+-- uses. Stationary: its links have one place, as many stops keep as it has elements, the others compute nothing; all firings come after the
+-- loading and before `late`
 pub data Course (A : Array) (pace late : ℕ) (time : ℕ → ℕ → ℕ) (q : ℕ) : Type 0 where
   moving : (θ : ℕ) → 0 < pipeAt A q .hop → ((k : ℕ) → k < stopsOn A q → stopAt A q k .keeps ≡ false)
       → ((k m : ℕ) → k < stopsOn A q → m < countAt A (processOn A q k)
@@ -103,7 +106,8 @@ pub record Wired (A : Array) : Type 0 where
   pub has-element : (q : ℕ) → q < pipeNumber A → 0 < elementsOn A q
   pub has-stream : 0 < streamCount A
   -- a stop that keeps nothing uses elements of its pipe only: soak and count are within the pipe's elements
-  pub uses-within : (q k : ℕ) → k < stopsOn A q → stopAt A q k .keeps ≡ false → stopAt A q k .soak + countAt A (processOn A q k) ≤ elementsOn A q
+  pub uses-within : (q k : ℕ) → k < stopsOn A q → stopAt A q k .keeps ≡ false
+      → stopAt A q k .soak + countAt A (processOn A q k) ≤ elementsOn A q
   -- the times: of process p's firing f, its step counted so that none is negative; of the increment, which is positive; a time past all
   pub time : ℕ → ℕ → ℕ
   pub pace : ℕ
@@ -116,7 +120,8 @@ pub record Wired (A : Array) : Type 0 where
   pub owner : ℕ → ℕ
   pub firing : ℕ → ℕ
   pub instanceOf : ℕ → ℕ → ℕ
-  pub instance-is : (p f : ℕ) → f < countAt A p → (instanceOf p f < instances) × (owner (instanceOf p f) ≡ p) × (firing (instanceOf p f) ≡ f)
+  pub instance-is : (p f : ℕ) → f < countAt A p
+      → (instanceOf p f < instances) × (owner (instanceOf p f) ≡ p) × (firing (instanceOf p f) ≡ f)
   pub instance-of : (i : ℕ) → i < instances → (firing i < countAt A (owner i)) × (instanceOf (owner i) (firing i) ≡ i)
   pub instances-add : total (countAt A) (numbers (processCount A)) ≡ instances
   -- the number of the element of stream s that instance i touches: the one that its process uses on its pipe of s
@@ -124,9 +129,11 @@ pub record Wired (A : Array) : Type 0 where
   pub touch : (i q k : ℕ) → i < instances → k < stopsOn A q → processOn A q k ≡ owner i
       → touched i (streamOn A q) ≡ elementAt A q (usedIndex A q k (firing i))
   -- an instance touches no element of a pipe but those that its process uses there
-  pub find : (i q j : ℕ) → i < instances → j < elementsOn A q → touched i (streamOn A q) ≡ elementAt A q j → UsedAt A (owner i) (firing i) q j
+  pub find : (i q j : ℕ) → i < instances → j < elementsOn A q → touched i (streamOn A q) ≡ elementAt A q j
+      → UsedAt A (owner i) (firing i) q j
   -- of two instances that touch one element of a written stream the one before in written order comes to it before
-  pub meets : (s : ℕ) → s < streamCount A → writes A s ≡ true → (i i' : ℕ) → i < i' → i' < instances → touched i s ≡ touched i' s → Before (netOf A) owner firing i i'
+  pub meets : (s : ℕ) → s < streamCount A → writes A s ≡ true
+      → (i i' : ℕ) → i < i' → i' < instances → touched i s ≡ touched i' s → Before (netOf A) owner firing i i'
 
 -- ---- pipes past the number of pipes have nothing on them
 
@@ -183,7 +190,8 @@ module _ {A : Array} (W : Wired A) where
 
   pub rank-next : (q k : ℕ) → k < stopsOn A q → Next (rankAt A q k) (rankAt A q (suc k)) (kindOf (stopAt A q k .keeps))
   rank-next q k h =
-      go (stopAt A q k .keeps) (rankAt A q k) (rankAt A q (suc k)) (total-next (λ (t : Stop). cond (t .keeps) 1 0) (pipeAt A q .stops) k noStop h)
+      go (stopAt A q k .keeps) (rankAt A q k) (rankAt A q (suc k))
+      (total-next (λ (t : Stop). cond (t .keeps) 1 0) (pipeAt A q .stops) k noStop h)
     where
       go : (b : Bool) (r r' : ℕ) → r' ≡ r + cond b 1 0 → Next r r' (kindOf b)
       go true r r' e = rise (omega arith)
@@ -241,8 +249,11 @@ module _ {A : Array} (W : Wired A) where
   pub port-is : (q k : ℕ) → k < stopsOn A q
       → (streamOn A q < streamCount A) × (pipeThrough A (processOn A q k) (streamOn A q) ≡ q)
       × (placeAt A (processOn A q k) (streamOn A q) ≡ k)
-  port-is q k h =
-      (W .stream-lt q (stop-pipe A q k h), W .pipe-is q k h, ap (λ (r : ℕ). placeOn A (processOn A q k) r) (W .pipe-is q k h) ∙ W .place-is q k h)
+  port-is q k h = (
+    W .stream-lt q (stop-pipe A q k h),
+    W .pipe-is q k h,
+    ap (λ (r : ℕ). placeOn A (processOn A q k) r) (W .pipe-is q k h) ∙ W .place-is q k h,
+  )
 
   pub shape : (q k : ℕ) → k < stopsOn A q
       → Shape (elementsOn A q) (stopAt A q k .soak) (countAt A (processOn A q k)) (kindOf (stopAt A q k .keeps))
@@ -273,7 +284,8 @@ module _ {A : Array} (W : Wired A) where
       go true e f l = absurd (let z : _≡_ {A = ℕ} 0 1 = cc in omega arith)
       go false e f l = runs (λ m o. f m l o)
   timing-of q (stationary h e f l g) =
-      Clock.stationary (rankAt A q) h l (λ k o. go (stopAt A q k .keeps) (f k o) (rank-next q k o) (λ i. rank-keep (netOf A) rankedOf q k o i .1)) g
+      Clock.stationary (rankAt A q) h l
+      (λ k o. go (stopAt A q k .keeps) (f k o) (rank-next q k o) (λ i. rank-keep (netOf A) rankedOf q k o i .1)) g
     where
       go : {n t r r' : ℕ} (c : Bool) → (c ≡ false → t ≡ 0) → Next r r' (kindOf c) → (kindOf c ≡ keep → r < n) → Rest n t r r' (kindOf c)
       go true f (rise d) k = holds d (k refl)

@@ -8,7 +8,8 @@ use lib.ListN.{length, getD, take, length-map}
 use lib.Seq.{take-length, length-take-le, getD-take, ext-getD}
 use Rattle.meaning.specs.Lists.{each, total, numbers, numbersFrom}
 use Rattle.meaning.specs.Array.{Array, Pipe, processCount, streamCount, pipeNumber, noPipe, pipeAt}
-use Rattle.meaning.specs.State.{Word, Firings, Taken, Given, Hand, Keep, Place, Sent, Received, End, processStart, portStart, endStart, index, wordCount, portWords, processWords, pipeWords, words, read}
+use Rattle.meaning.specs.State.{Word, Firings, Taken, Given, Hand, Keep, Place, Sent, Received, End, processStart, portStart, endStart}
+use Rattle.meaning.specs.State.{index, wordCount, portWords, processWords, pipeWords, words, read}
 use Rattle.lists.specs.Sums.{total-next}
 use Rattle.lists.specs.Rows.{length-numbers, getD-first, same-numbers}
 use Rattle.network.specs.Layout.{Live}
@@ -49,7 +50,8 @@ upto-append {a} {b} {c} u v =
     let d : (b - a) + (c - b) ≡ c - a = omega arith in
     record {
       rises = omega arith;
-      is = ap₂ _++_ (u .is) (v .is ∙ ap (λ (i : ℕ). numbersFrom i (c - b)) (sym e)) ∙ numbers-append a (b - a) (c - b) ∙ ap (numbersFrom a) d;
+      is = ap₂ _++_ (u .is) (v .is ∙ ap (λ (i : ℕ). numbersFrom i (c - b)) (sym e)) ∙ numbers-append a (b - a) (c - b)
+          ∙ ap (numbersFrom a) d;
     }
 
 numbers-shift : (c j n : ℕ) → map (λ i. c + i) (numbersFrom j n) ≡ numbersFrom (c + j) n
@@ -82,7 +84,8 @@ module _ (A : Array) where
   -- the places of a link, from c on
   places-stand : (f : ℕ → Word) (c n b : ℕ) → ((i : ℕ) → index A (f i) ≡ c + i) → c + n ≡ b → Upto c b (map (index A) (map f (numbers n)))
   places-stand f c n b g e =
-      subst₂ (λ (b : ℕ) (l : List ℕ). Upto c b l) e (sym (map-map (index A) f (numbers n) ∙ same-numbers _ _ 0 n (λ i l m. g i))) (upto-places c n)
+      subst₂ (λ (b : ℕ) (l : List ℕ). Upto c b l) e
+      (sym (map-map (index A) f (numbers n) ∙ same-numbers _ _ 0 n (λ i l m. g i))) (upto-places c n)
 
   port-stands : (p s : ℕ) → s < streamCount A → Upto (portStart A p s) (portStart A p (suc s)) (map (index A) (portWords A p s))
   port-stands p s h =
@@ -148,7 +151,8 @@ module _ (A : Array) where
 
   pub words-length : length (words A) ≡ wordCount A
   words-length =
-      sym (length-map (words A) (index A)) ∙ ap length words-stand ∙ sym (length-map (numbers (wordCount A)) (λ i. i)) ∙ length-numbers (λ i. i) 0 (wordCount A)
+      sym (length-map (words A) (index A)) ∙ ap length words-stand ∙ sym (length-map (numbers (wordCount A)) (λ i. i))
+      ∙ length-numbers (λ i. i) 0 (wordCount A)
 
   -- a state is what its words read
   pub words-read : (st : List ℕ) → wordCount A ≤ length st → take (wordCount A) st ≡ map (read A st) (words A)

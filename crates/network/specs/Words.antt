@@ -4,13 +4,16 @@ use Prim.Native.Nat.{ℕ, zero, suc, _+_, _-_, _≤_, _<_}
 use native.Mathlib.Nat.{le-refl}
 use native.Mathlib.Omega.{arith}
 use Rattle.network.specs.Cases.{Equal, same, other, equal}
-use Rattle.network.specs.Counters.{Kind, through, keep, AtStop, passing, stop-order, Hand, empty, first, free, Offer, soaked, drained, used, passed, kept, hand, Step, put, get, Counts, Net, Guard, Inv, OneMore, Hit, hit, miss, hit?, put≢get, below-head}
+use Rattle.network.specs.Counters.{Kind, through, keep, AtStop, passing, stop-order, Hand, empty, first, free, Offer, soaked, drained}
+use Rattle.network.specs.Counters.{used, passed, kept, hand, Step, put, get, Counts, Net, Guard, Inv, OneMore, Hit, hit, miss, hit?}
+use Rattle.network.specs.Counters.{put≢get, below-head}
 use Rattle.network.specs.Ranks.{wrap, Wrap, low, high, wrapped, Next, level, rise, Ranked, rank-keep, wrap-end}
 
 -- a stop's hand word hv and keep word kv, the pipe's j-th element having the value B j
 pub data Hold (n r r' x y : ℕ) (B : ℕ → ℕ) (hv kv : ℕ) : Kind → Type 0 where
   passes : (x ≡ y → hv ≡ 0) → (x ≡ suc y → hv ≡ B (wrap n (r' + y))) → kv ≡ 0 → Hold n r r' x y B hv kv through
-  keeps : (x ≤ suc y → hv ≡ 0) → (x ≡ suc (suc y) → hv ≡ B (wrap n (r' + y))) → (x ≡ y → kv ≡ 0) → (y < x → kv ≡ B r) → Hold n r r' x y B hv kv keep
+  keeps : (x ≤ suc y → hv ≡ 0) → (x ≡ suc (suc y) → hv ≡ B (wrap n (r' + y))) → (x ≡ y → kv ≡ 0) → (y < x → kv ≡ B r)
+      → Hold n r r' x y B hv kv keep
 
 -- the rules on a stop's words: v is taken, v is given
 pub data Taking (x y hv kv v hv' kv' : ℕ) : Kind → Type 0 where
@@ -57,10 +60,11 @@ module _ {n s t x y f r r' hv kv v hv' kv' : ℕ} {B : ℕ → ℕ} where
   hold-put (passing a b _ _) O (passes d e u) (of-hand g h i) = passes (λ l. h) (λ l. absurd (omega arith)) (i ∙ u)
   hold-put S O (keeps a b u u') (of-other e g h i) = keeps (λ l. h) (λ l. absurd (omega arith)) (λ l. absurd (omega arith))
       (λ l. i ∙ u' (omega arith))
-  hold-put S O (keeps a b u u') (of-keep e g h i) = keeps (λ l. i ∙ a (omega arith)) (λ l. absurd (omega arith)) (λ l. h) (λ l. absurd (omega arith))
+  hold-put S O (keeps a b u u') (of-keep e g h i) =
+      keeps (λ l. i ∙ a (omega arith)) (λ l. absurd (omega arith)) (λ l. h) (λ l. absurd (omega arith))
 
-  given-is : {K : Kind} → Next r r' K → AtStop n s t x y f K → Offer n s t x y f K → Hold n r r' x y B hv kv K → Giving x y hv kv v hv' kv' K
-      → v ≡ B (wrap n (r' + y))
+  given-is : {K : Kind} → Next r r' K → AtStop n s t x y f K → Offer n s t x y f K → Hold n r r' x y B hv kv K
+      → Giving x y hv kv v hv' kv' K → v ≡ B (wrap n (r' + y))
   given-is N (passing a b _ _) O (passes d e u) (of-hand g h i) = g ∙ e (offered O)
     where
       offered : Offer n s t x y f through → x ≡ suc y
@@ -88,9 +92,11 @@ module _ (N : Net) (R : Ranked N) where
 
   -- what the words are, by the counters c and the values A of the pipes' elements
   pub record Stored (c : Counts) (A : ℕ → ℕ → ℕ) (W : Words) : Type 0 where
-    pub links : (q k a : ℕ) → k ≤ stops q → c (get q k) ≤ a → a < c (put q k) → W .link q k (a - c (get q k)) ≡ A q (wrap (elements q) (rank q k + a))
+    pub links : (q k a : ℕ) → k ≤ stops q → c (get q k) ≤ a → a < c (put q k)
+        → W .link q k (a - c (get q k)) ≡ A q (wrap (elements q) (rank q k + a))
     pub spare : (q k i : ℕ) → k ≤ stops q → c (put q k) ≤ c (get q k) + i → W .link q k i ≡ 0
-    pub holds : (q k : ℕ) → k < stops q → Hold (elements q) (rank q k) (rank q (suc k)) (c (get q k)) (c (put q (suc k))) (A q) (W .hand q k)
+    pub holds : (q k : ℕ) → k < stops q
+        → Hold (elements q) (rank q k) (rank q (suc k)) (c (get q k)) (c (put q (suc k))) (A q) (W .hand q k)
         (W .kept q k) (kind q k)
     pub outs : (q i : ℕ) → i < c (get q (stops q)) → W .out q i ≡ A q i
     pub blank : (q i : ℕ) → c (get q (stops q)) ≤ i → W .out q i ≡ 0
@@ -111,8 +117,8 @@ module _ (N : Net) (R : Ranked N) where
     pub other-link : (q k i : ℕ) → (a ≡ put q k → ⊥) → (a ≡ get q k → ⊥) → W' .link q k i ≡ W .link q k i
     pub other-stop : (q k : ℕ) → (a ≡ get q k → ⊥) → (a ≡ put q (suc k) → ⊥) → (W' .hand q k ≡ W .hand q k) × (W' .kept q k ≡ W .kept q k)
 
-  module _ {c c' : Counts} {a : Step} (B : OneMore c c' a) (I : Inv N c) (g : Guard N c a) (A : ℕ → ℕ → ℕ) (waiting : ℕ → ℕ → ℕ) {W W' : Words}
-      (M : Moves waiting c a W W') (F : Stored c A W)
+  module _ {c c' : Counts} {a : Step} (B : OneMore c c' a) (I : Inv N c) (g : Guard N c a) (A : ℕ → ℕ → ℕ)
+      (waiting : ℕ → ℕ → ℕ) {W W' : Words} (M : Moves waiting c a W W') (F : Stored c A W)
       (unsent : (q : ℕ) → c (put q 0) < elements q → A q (c (put q 0)) ≡ waiting q (c (put q 0))) where
     turned : {b : Step} → a ≡ b → Guard N c b
     turned {b} e = subst (λ (b : Step). Guard N c b) e g
@@ -144,7 +150,8 @@ module _ (N : Net) (R : Ranked N) where
 
             new : Equal (c (put q k)) b → W' .link q k i ≡ A q (wrap (elements q) (rank q k + b))
             new (same z) = M .filled q k i e (omega arith) ∙ moved-is q k l e ∙ ap (λ (b : ℕ). A q (wrap (elements q) (rank q k + b))) z
-            new (other z) = M .unfilled q k i e (omega arith) ∙ ap (λ (x : ℕ). W .link q k (b - x)) u ∙ F .links q k b l (omega arith) (omega arith)
+            new (other z) =
+                M .unfilled q k i e (omega arith) ∙ ap (λ (x : ℕ). W .link q k (b - x)) u ∙ F .links q k b l (omega arith) (omega arith)
         go (miss n u) (miss n' v) =
             M .other-link q k (b - c' (get q k)) n' n ∙ ap (λ (x : ℕ). W .link q k (b - x)) u ∙ F .links q k b l (omega arith) (omega arith)
 
@@ -162,7 +169,8 @@ module _ (N : Net) (R : Ranked N) where
     step-holds q k l = go (hit? B (get q k)) (hit? B (put q (suc k)))
       where
         go : Hit B (get q k) → Hit B (put q (suc k))
-            → Hold (elements q) (rank q k) (rank q (suc k)) (c' (get q k)) (c' (put q (suc k))) (A q) (W' .hand q k) (W' .kept q k) (kind q k)
+            → Hold (elements q) (rank q k) (rank q (suc k)) (c' (get q k)) (c' (put q (suc k))) (A q) (W' .hand q k)
+            (W' .kept q k) (kind q k)
         go (hit d u) (hit e v) = absurd (put≢get (sym e ∙ d))
         go (hit d u) (miss n v) =
             rw

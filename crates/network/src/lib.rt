@@ -1,7 +1,8 @@
 // The network proved: demand 3 for every description whose array is wired as geometry has to show. Theory only; what it says is in specs/.
 //
 // The abstract network, over numbers alone:
-//   Counters    stops, steps, rules and the counter invariant; `inv-step`: every granted step keeps it; `all-put`, `all-get`: all out, all done
+//   Counters    stops, steps, rules and the counter invariant; `inv-step`: every granted step keeps it; `all-put`, `all-get`: all out, all
+//               done
 //   Sound       what is asked of any state; `sound-step`: every granted step keeps it; `inv-sound`: the invariant implies it
 //   Waits, Due, Descent, Clock
 //               what an occurrence waits for is due earlier; `progress`: some step is ready until all is out; `in-time`; the due times
@@ -37,7 +38,8 @@
 //   Starts      `proper`, `cleared`: what a start that is not declined leaves; `passes-after`: after any calls the memory passes its tests
 //   Results     `result-early`, `result-only-early`, `result-late`: what Result answers; `in-element-order`
 //   Beyond      `call-beyond`: no call changes what stands past the words, on any memory
-//   Demand      `after-start`: demand 3 after every list of calls, from `Wired` and `Described`; `guarantee`: for every accepted description, from what geometry owes
+//   Demand      `after-start`: demand 3 after every list of calls, from `Wired` and `Described`; `guarantee`: for every accepted
+//               description, from what geometry owes
 //
 // Cases is what these use.
 pub fn one() -> usize {

@@ -42,7 +42,8 @@ pub record Numbered (n : Nest) (m : Matrix) (k : ℕ) : Type 0 where
 -- ---- widening, image by image
 
 pub around-start : (m : Matrix) (xs : List V3) → 0 < length xs
-    → widenAll (record { lo = image m (getD xs 0 zero3); hi = image m (getD xs 0 zero3) }) (map (image m) (drop 1 xs)) ≡ around (map (image m) xs)
+    → widenAll (record { lo = image m (getD xs 0 zero3); hi = image m (getD xs 0 zero3) }) (map (image m) (drop 1 xs))
+    ≡ around (map (image m) xs)
 unfolding around
 around-start m [] h = absurd (omega arith)
 around-start m (x ∷ l) h = refl
@@ -121,5 +122,8 @@ module _ (n : Nest) (m : Matrix) (e : Extent) (k : ℕ) {p : V2} (h : Numbered n
   pub image-number : {r : ℕ} → r ≡ rowIndex (boxed e) p
       → (r ≡ rowIndex (boxOf n m) (image m (getD (instances n) k zero3))) × (r < length (points (boxOf n m)))
   image-number g =
-      let q = g ∙ ap₂ rowIndex b i in
-      (q, subst (λ (r : ℕ). r < length (points (boxOf n m))) (sym q) (row-lt (boxOf n m) (image m (getD (instances n) k zero3)) (image-inside h)))
+      let q = g ∙ ap₂ rowIndex b i in (
+        q,
+        subst (λ (r : ℕ). r < length (points (boxOf n m))) (sym q)
+            (row-lt (boxOf n m) (image m (getD (instances n) k zero3)) (image-inside h)),
+      )

@@ -34,7 +34,8 @@ pub filled : {A B : Type 0} (f : A → B) (xs : List A) (d : A) (e : B) (out : L
     → fillBy (λ k. f (getD xs k d)) (length xs) out ≡ map f xs ++ drop (length xs) out
 filled {A} {B} f xs d e out h =
     ext-getD e _ _
-    (fill-length g (length xs) out ∙ sym (length-append (map f xs) (drop (length xs) out) ∙ omega (arith, length-map xs f, length-drop (length xs) out)))
+    (fill-length g (length xs) out
+    ∙ sym (length-append (map f xs) (drop (length xs) out) ∙ omega (arith, length-map xs f, length-drop (length xs) out)))
     λ i l. go i (omega (arith, fill-length g (length xs) out)) (decLe (length xs) i)
   where
     g : ℕ → B
@@ -48,4 +49,5 @@ filled {A} {B} f xs d e out h =
         let s : i ≡ length xs + (i - length xs) = omega arith in
         let t : i ≡ length (map f xs) + (i - length xs) = omega (arith, length-map xs f) in
         fill-past g (length xs) i out e k ∙ ap (λ (j : ℕ). getD out j e) s ∙ sym (getD-drop (length xs) out (i - length xs) e)
-        ∙ sym (ap (λ (j : ℕ). getD (map f xs ++ drop (length xs) out) j e) t ∙ getD-append-add (map f xs) (drop (length xs) out) (i - length xs) e)
+        ∙ sym (ap (λ (j : ℕ). getD (map f xs ++ drop (length xs) out) j e) t
+        ∙ getD-append-add (map f xs) (drop (length xs) out) (i - length xs) e)

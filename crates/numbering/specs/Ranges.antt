@@ -1,4 +1,5 @@
--- What the range tests of a description leave: a nest in range, one loop of it, small numbers and the words that hold them. Assumes nothing.
+-- What the range tests of a description leave: a nest in range, one loop of it, small numbers and the words that hold them.
+-- Assumes nothing.
 use mathlib.Core.Path.{_≡_, refl, sym, _∙_, ap, ap₂, subst₂}
 use mathlib.Core.Bool.{Bool}
 use mathlib.Core.List.{List}

@@ -157,7 +157,8 @@ instance-is n k u s =
     let t = turnsOf n in
     let x = getD (values (outerOf n)) (u .outer) (pos 0) in
     let y = getD (values (middleOf n)) (u .middle) (pos 0) in
-    sym (each-at (plane n) (t .middle * t .inner) (plane-length n) (values (outerOf n)) (u .outer) (u .middle * t .inner + u .inner) (pos 0) zero3
+    sym (each-at (plane n) (t .middle * t .inner) (plane-length n) (values (outerOf n)) (u .outer)
+    (u .middle * t .inner + u .inner) (pos 0) zero3
     (in-values (outerOf n) (s .outer)) (in-plane (u .middle) (u .inner) (t .middle) (t .inner) (s .middle) (s .inner))
     ∙ each-at (row n x) (t .inner) (row-length n x) (values (middleOf n)) (u .middle) (u .inner) (pos 0) zero3
     (in-values (middleOf n) (s .middle)) (s .inner)

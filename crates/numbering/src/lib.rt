@@ -1,5 +1,5 @@
-// The instances by their number in the written order, the box around their images under a matrix, and the table of the images' numbers in row
-// order: for place the numbers of the processes, for an index map those of the elements.
+// The instances by their number in the written order, the box around their images under a matrix, and the table of the images' numbers in
+// row order: for place the numbers of the processes, for an index map those of the elements.
 //
 // specs/, by file:
 //

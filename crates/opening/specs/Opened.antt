@@ -44,9 +44,11 @@ module _ {d : Description} (g : Grounds d) {M : Memory} {b : List ℕ} {z : Size
   count-is : (p : ℕ) → p < z .processes → portAt b p 0 .count ≡ countAt (arrayOf d) p
   count-is p h =
       let l : p < processCount (arrayOf d) = omega (arith, size-of .processes) in
-      ap (λ (r : Port). r .count) (o .planned .ports p 0 l (omega (arith, size-of .streams, size-of .some))) ∙ row-uses (arrayOf d) p 0 .count
+      ap (λ (r : Port). r .count) (o .planned .ports p 0 l (omega (arith, size-of .streams, size-of .some)))
+      ∙ row-uses (arrayOf d) p 0 .count
 
-  pub programmed : {spans : List ℕ} → Spans (d .nest) spans → length spans ≡ 3072 → Within 200 (increment (d .nest)) → Programmed (programOf d) spans b z
+  pub programmed : {spans : List ℕ} → Spans (d .nest) spans → length spans ≡ 3072 → Within 200 (increment (d .nest))
+      → Programmed (programOf d) spans b z
   programmed e l w =
       record {
         nest = g .described .nest;

@@ -51,7 +51,8 @@ pub record Grounds (d : Description) : Type 0 where
   pub size : SizeOf (arrayOf d) (sizeOf d)
   pub rows : (b : List ℕ) (n : ℕ) → PortsOf (arrayOf d) b → stateLength d ≤ n → RowsFit n b (sizeOf d)
   pub parts : (b : List ℕ) → PortsOf (arrayOf d) b → PartsFit (lengthOf d) b (sizeOf d)
-  pub on : (p i : ℕ) → p < processCount (arrayOf d) → i < streamCount (arrayOf d) → onPipe (arrayOf d) p i ≡ ltb 0 (rowOf (arrayOf d) p i .total)
+  pub on : (p i : ℕ) → p < processCount (arrayOf d) → i < streamCount (arrayOf d)
+      → onPipe (arrayOf d) p i ≡ ltb 0 (rowOf (arrayOf d) p i .total)
   pub lines : Fit (d .sizes .streams) (d .sizes .lines) (d .lines)
   pub lines-are : take (d .sizes .lines) (d .lines) ≡ arrayOf d .lines
   pub counts : (p : ℕ) → p < processCount (arrayOf d) → countAt (arrayOf d) p ≡ count (d .nest) (pointOf d p)
@@ -90,7 +91,8 @@ module _ {d : Description} {z : Size} {state ports : List ℕ} (h : Standing d z
 
   pub sound-by : stateSound b state z ≡ sound (arrayOf d) state
   sound-by =
-      sound-is (arrayOf d) (h .grounds .regular) (h .grounds .single) p (subst (SizeOf (arrayOf d)) (sym (h .size)) (h .grounds .size)) state
+      sound-is (arrayOf d) (h .grounds .regular) (h .grounds .single) p
+      (subst (SizeOf (arrayOf d)) (sym (h .size)) (h .grounds .size)) state
 
 -- nothing is refused: the port table is that of the array
 pub record Stood (d : Description) (M : Memory) (b : List ℕ) (z : Size) : Type 0 where
@@ -122,9 +124,11 @@ module _ (d : Description) (M : Memory) where
   -- 22 comes last
   lengths-first : refusal (memoryTests d M) ≡ orElse (refusal lengths) (refusal soundTest)
   unfolding refusal
-  lengths-first = go (not (eqb (length (M .waiting)) (lengthOf d))) (not (eqb (length (M .received)) (lengthOf d))) (ltb (length (M .state)) (stateLength d))
+  lengths-first = go (not (eqb (length (M .waiting)) (lengthOf d))) (not (eqb (length (M .received)) (lengthOf d)))
+      (ltb (length (M .state)) (stateLength d))
     where
-      go : (a b c : Bool) → refusal ((20 if a) ∷ (26 if b) ∷ (21 if c) ∷ soundTest) ≡ orElse (refusal ((20 if a) ∷ (26 if b) ∷ (21 if c) ∷ [])) (refusal soundTest)
+      go : (a b c : Bool) → refusal ((20 if a) ∷ (26 if b) ∷ (21 if c) ∷ soundTest)
+          ≡ orElse (refusal ((20 if a) ∷ (26 if b) ∷ (21 if c) ∷ [])) (refusal soundTest)
       go true b c = refl
       go false true c = refl
       go false false true = refl
@@ -134,8 +138,8 @@ module _ (d : Description) (M : Memory) where
   memory-first : (ts : List Test) → refusal (memoryTests d M ++ ts) ≡ orElse (refusal (memoryTests d M)) (refusal ts)
   unfolding refusal
   memory-first ts =
-      go (not (eqb (length (M .waiting)) (lengthOf d))) (not (eqb (length (M .received)) (lengthOf d))) (ltb (length (M .state)) (stateLength d))
-      (not (sound (arrayOf d) (M .state)))
+      go (not (eqb (length (M .waiting)) (lengthOf d))) (not (eqb (length (M .received)) (lengthOf d)))
+      (ltb (length (M .state)) (stateLength d)) (not (sound (arrayOf d) (M .state)))
     where
       go : (a b c e : Bool) → refusal ((20 if a) ∷ (26 if b) ∷ (21 if c) ∷ (22 if e) ∷ ts)
           ≡ orElse (refusal ((20 if a) ∷ (26 if b) ∷ (21 if c) ∷ (22 if e) ∷ [])) (refusal ts)
@@ -161,11 +165,14 @@ module _ (d : Description) {f : Figures} (e : f ≡ figures d) where
   pub size-is : sizeFrom d f ≡ sizeOf d
   size-is = ap (sizeFrom d) e
 
-  module _ (M : Memory) {n : ℕ} (r : n ≡ refusal (memoryLengths (f .elements) (f .words) (length (M .waiting)) (length (M .received)) (length (M .state)))) where
+  module _ (M : Memory) {n : ℕ}
+      (r : n ≡ refusal (memoryLengths (f .elements) (f .words) (length (M .waiting)) (length (M .received)) (length (M .state)))) where
     own : n ≡ refusal (lengths d M)
-    own = r ∙ ap (λ (f : Figures). refusal (memoryLengths (f .elements) (f .words) (length (M .waiting)) (length (M .received)) (length (M .state)))) e
+    own = r ∙ ap (λ (f : Figures).
+        refusal (memoryLengths (f .elements) (f .words) (length (M .waiting)) (length (M .received)) (length (M .state)))) e
 
-    pub lengths-hold : n ≡ 0 → (length (M .waiting) ≡ lengthOf d) × (length (M .received) ≡ lengthOf d) × (stateLength d ≤ length (M .state))
+    pub lengths-hold : n ≡ 0
+        → (length (M .waiting) ≡ lengthOf d) × (length (M .received) ≡ lengthOf d) × (stateLength d ≤ length (M .state))
     lengths-hold z = memory-fits (lengthOf d) (stateLength d) _ _ _ (sym own ∙ z)
 
     -- a length is refused

@@ -1,5 +1,5 @@
-// What Step, Run, Ready and Result begin with: the refusals of the description, then 20, 26, 21 and 22 of the lent memory; and, if nothing is refused,
-// the words of the processes, the port table of the array and its size.
+// What Step, Run, Ready and Result begin with: the refusals of the description, then 20, 26, 21 and 22 of the lent memory; and, if nothing
+// is refused, the words of the processes, the port table of the array and its size.
 //
 // specs/, by file:
 //
@@ -44,7 +44,8 @@ fn size_of(d: Description, f: Figures) -> Size
 // 0, or 22 where the state is not sound by the port table of the array.
 fn sound_refusal(d: Description, z: Size, state: &[u32], spans: &[u32], ports: &mut [u32]) -> u32
     requires { ⌜ (Standing d z (now state) (now ports)) × (Spans (d .nest) (now spans)) × (spanWords ≤ length (now spans)) ⌝ }
-    ensures { λ r. ⌜ (r ≡ refusal ((22 if not (sound (arrayOf d) (now (state .entry)))) ∷ [])) × (PortsOf (arrayOf d) (now (ports .exit))) ⌝ }
+    ensures { λ r. ⌜ (r ≡ refusal ((22 if not (sound (arrayOf d) (now (state .entry)))) ∷ []))
+        × (PortsOf (arrayOf d) (now (ports .exit))) ⌝ }
 {
     port_fill::fill_ports(d, spans, ports);
     if sound::sound(ports, state, z) { 0 } else { 22 }
@@ -91,7 +92,8 @@ fn open_within(
     requires { ⌜ (UpTo limits gaugeLimits) × (length (now ports) ≡ portTableWords) ⌝ }
     ensures { λ r. ⌜ (r .refusal ≡ refusedBy limits (now (s .entry)) (memoryTests (descriptionOf (now (s .entry)))
         (memoryOf (now (waiting .entry)) (now (received .entry)) (now (state .entry)))))
-        × (r .refusal ≡ 0 → Opened (now (s .entry)) (memoryOf (now (waiting .entry)) (now (received .entry)) (now (state .entry))) (now (ports .exit)) (r .size))
+        × (r .refusal ≡ 0 → Opened (now (s .entry)) (memoryOf (now (waiting .entry)) (now (received .entry)) (now (state .entry)))
+        (now (ports .exit)) (r .size))
         × (r .refusal ≡ 0 → Spans (descriptionOf (now (s .entry)) .nest) (now (spans .exit))) ⌝ }
 {
     let r = refuse::refusal_within(s, limits, spans);
@@ -129,7 +131,8 @@ pub fn open(
     requires { ⌜ length (now ports) ≡ portTableWords ⌝ }
     ensures { λ r. ⌜ (r .refusal ≡ refusedBy (limitsOf board) (now (s .entry)) (memoryTests (descriptionOf (now (s .entry)))
         (memoryOf (now (waiting .entry)) (now (received .entry)) (now (state .entry)))))
-        × (r .refusal ≡ 0 → Opened (now (s .entry)) (memoryOf (now (waiting .entry)) (now (received .entry)) (now (state .entry))) (now (ports .exit)) (r .size))
+        × (r .refusal ≡ 0 → Opened (now (s .entry)) (memoryOf (now (waiting .entry)) (now (received .entry)) (now (state .entry)))
+        (now (ports .exit)) (r .size))
         × (r .refusal ≡ 0 → Spans (descriptionOf (now (s .entry)) .nest) (now (spans .exit))) ⌝ }
 {
     let limits = boards::limits_of(board);

@@ -36,7 +36,8 @@ module _ {A : Type 0} where
       none [] = refl
       none (x ∷ l) = refl
 
-      go : (b : Bool) → total g (filter f (take 0 l)) ≡ 0 → total g (cond b (x ∷ filter f (take 0 l)) (filter f (take 0 l))) ≡ 0 + cond b (g x) 0
+      go : (b : Bool) → total g (filter f (take 0 l)) ≡ 0
+          → total g (cond b (x ∷ filter f (take 0 l)) (filter f (take 0 l))) ≡ 0 + cond b (g x) 0
       go true e = omega (arith, e)
       go false e = omega (arith, e)
   total-next g f (x ∷ l) (suc k) d h = go (f x) (total-next g f l k d (omega arith))

@@ -107,7 +107,8 @@ module _ {f : Flow} {spans : List ℕ} {p : ℕ} (a : At f spans p) where
 
     within : {x : V3} → RunAt n y x → {e : V2} → e ≡ image (s .map) x → Inside (boxed (f .elements)) e
     within {x} r e = subst (Inside (boxed (f .elements))) (sym e)
-        (subst (λ (k : Box). Inside k (image (s .map) x)) (sym (a .flows .elements-is)) (box-has (accepted .layout .dirs) (s .map) (r .within)))
+        (subst (λ (k : Box). Inside k (image (s .map) x)) (sym (a .flows .elements-is))
+        (box-has (accepted .layout .dirs) (s .map) (r .within)))
 
     pub going-back : {x : V3} → RunAt n y x → {e : V2} → e ≡ image (s .map) x → Going (boxed (f .elements)) (f .against) e
     going-back r e =
@@ -136,11 +137,15 @@ module _ {f : Flow} {spans : List ℕ} {p : ℕ} (a : At f spans p) where
     pub going-last : {e : V2} → e ≡ image (s .map) (last n y) → Going (boxed (f .elements)) (f .pass) e
     going-last e = going-on runs-last e
 
-    reach-against : {e : V2} {r : ℕ} (x : V3) → e ≡ image (s .map) x → r ≡ reach (boxed (f .elements)) (f .against) e → r ≡ reach box (neg2 (pass n s)) (image (s .map) x)
-    reach-against {e} x h k = k ∙ ap₂ (λ (b : Box) (d : V2). reach b d e) (a .flows .elements-is) (a .flows .against-is) ∙ ap (reach box (neg2 (pass n s))) h
+    reach-against : {e : V2} {r : ℕ} (x : V3) → e ≡ image (s .map) x → r ≡ reach (boxed (f .elements)) (f .against) e
+        → r ≡ reach box (neg2 (pass n s)) (image (s .map) x)
+    reach-against {e} x h k =
+        k ∙ ap₂ (λ (b : Box) (d : V2). reach b d e) (a .flows .elements-is) (a .flows .against-is) ∙ ap (reach box (neg2 (pass n s))) h
 
-    reach-on : {e : V2} {r : ℕ} (x : V3) → e ≡ image (s .map) x → r ≡ reach (boxed (f .elements)) (f .pass) e → r ≡ reach box (pass n s) (image (s .map) x)
-    reach-on {e} x h k = k ∙ ap₂ (λ (b : Box) (d : V2). reach b d e) (a .flows .elements-is) (a .flows .pass-is) ∙ ap (reach box (pass n s)) h
+    reach-on : {e : V2} {r : ℕ} (x : V3) → e ≡ image (s .map) x → r ≡ reach (boxed (f .elements)) (f .pass) e
+        → r ≡ reach box (pass n s) (image (s .map) x)
+    reach-on {e} x h k =
+        k ∙ ap₂ (λ (b : Box) (d : V2). reach b d e) (a .flows .elements-is) (a .flows .pass-is) ∙ ap (reach box (pass n s)) h
 
     -- the index of the element that an instance touches; the first one's is the soak
     pub index-moving : {x : V3} → RunAt n y x → {e : V2} {r : ℕ} → e ≡ image (s .map) x → r ≡ reach (boxed (f .elements)) (f .against) e
@@ -193,7 +198,8 @@ module _ {f : Flow} {spans lanes : List ℕ} {p : ℕ} (h : Near f spans lanes p
   pub few : length (processes (f .nest)) ≤ 1024
   few = h .seen .flows .laid .processes
 
-  pub held-there : getD lanes (2048 + getD lanes p 0) 0 ≡ length (filter (computing (f .nest)) (pipe (f .nest) (f .stream) (processOf (f .nest) p)))
+  pub held-there : getD lanes (2048 + getD lanes p 0) 0
+      ≡ length (filter (computing (f .nest)) (pipe (f .nest) (f .stream) (processOf (f .nest) p)))
   held-there =
       h .seen .of-lanes .held (getD lanes p 0) entry-lt
       ∙ ap (heldOn (f .nest) (f .stream) (length (processes (f .nest)))) (h .seen .of-lanes .entries p (h .lt)) ∙ held-is good inside
@@ -211,7 +217,8 @@ module _ {f : Flow} {spans lanes : List ℕ} {p : ℕ} (h : Near f spans lanes p
   pub still-of : f .moving ≡ false → T (stationary (f .nest) (f .stream))
   still-of e = subst T (sym (not-false (stationary (f .nest) (f .stream)) (sym (h .seen .flows .moving-is) ∙ e))) tt
 
-  pub total-still : f .moving ≡ false → getD lanes (2048 + getD lanes p 0) 0 ≡ length (pipeElements (f .nest) (f .stream) (processOf (f .nest) p))
+  pub total-still : f .moving ≡ false
+      → getD lanes (2048 + getD lanes p 0) 0 ≡ length (pipeElements (f .nest) (f .stream) (processOf (f .nest) p))
   total-still e = held-there ∙ sym (still-length good (still-of e) (processOf (f .nest) p))
 
   -- of a moving one: with nobody on the line there is no pipe
@@ -243,7 +250,8 @@ module _ {f : Flow} {spans lanes : List ℕ} {p : ℕ} (h : Near f spans lanes p
   pub at-one : {q : ℕ} → getD lanes (3072 + getD lanes p 0) 0 ≡ q → (q ≡ 0 → ⊥) → At f spans (q - 1)
   at-one e g = go (h .seen .of-lanes .one (getD lanes p 0) entry-lt) e g
     where
-      go : {w q : ℕ} → One (entryNumber (f .nest) (f .stream)) (computes (f .nest)) (length (processes (f .nest))) (getD lanes p 0) w → w ≡ q
+      go : {w q : ℕ}
+          → One (entryNumber (f .nest) (f .stream)) (computes (f .nest)) (length (processes (f .nest))) (getD lanes p 0) w → w ≡ q
           → (q ≡ 0 → ⊥) → At f spans (q - 1)
       go (nobody z k) e g = absurd (g (sym e ∙ z))
       go {q} (somebody i z b t r) e g =
@@ -256,17 +264,20 @@ module _ {f : Flow} {spans lanes : List ℕ} {p : ℕ} (h : Near f spans lanes p
       → r ≡ length (pipeElements (f .nest) (f .stream) (processOf (f .nest) p))
   total-one {q} {r} e g k = k ∙ go (h .seen .of-lanes .one (getD lanes p 0) entry-lt) e g
     where
-      go : {w q : ℕ} → One (entryNumber (f .nest) (f .stream)) (computes (f .nest)) (length (processes (f .nest))) (getD lanes p 0) w → w ≡ q
+      go : {w q : ℕ}
+          → One (entryNumber (f .nest) (f .stream)) (computes (f .nest)) (length (processes (f .nest))) (getD lanes p 0) w → w ≡ q
           → (q ≡ 0 → ⊥) → length (pipeElements (f .nest) (f .stream) (processOf (f .nest) (q - 1)))
           ≡ length (pipeElements (f .nest) (f .stream) (processOf (f .nest) p))
       go (nobody z k) e g = absurd (g (sym e ∙ z))
       go {q} (somebody i z b t r) e g =
           let j : i ≡ q - 1 = omega arith in
           let hi = points-inside (space (f .nest)) (processOf (f .nest) i) (getD-in (processes (f .nest)) i zero2 b) in
-          let o = one-number (space (f .nest)) (entry-is good hi .inside) (entry-is good inside .inside) (r ∙ h .seen .of-lanes .entries p (h .lt)) in
+          let o = one-number (space (f .nest)) (entry-is good hi .inside) (entry-is good inside .inside)
+          (r ∙ h .seen .of-lanes .entries p (h .lt)) in
           ap (λ (i : ℕ). length (pipeElements (f .nest) (f .stream) (processOf (f .nest) i))) (sym j)
           ∙ ap length (same-elements good inside hi
-          (join-pipe (entry-pipe good (processOf (f .nest) p)) (flip-pipe (subst (OnePipe (f .nest) (f .stream) (processOf (f .nest) i)) o (entry-pipe good (processOf (f .nest) i))))))
+          (join-pipe (entry-pipe good (processOf (f .nest) p))
+          (flip-pipe (subst (OnePipe (f .nest) (f .stream) (processOf (f .nest) i)) o (entry-pipe good (processOf (f .nest) i))))))
 
   -- ---- the rank of a computing process of a stationary stream
 
@@ -274,7 +285,8 @@ module _ {f : Flow} {spans lanes : List ℕ} {p : ℕ} (h : Near f spans lanes p
     running-is : getD lanes (1024 + p) 0 ≡ heldOn (f .nest) (f .stream) p (entryNumber (f .nest) (f .stream) p)
     running-is = h .seen .of-lanes .running p (h .lt) c
 
-    all-is : getD lanes (2048 + getD lanes p 0) 0 ≡ heldOn (f .nest) (f .stream) (length (processes (f .nest))) (entryNumber (f .nest) (f .stream) p)
+    all-is : getD lanes (2048 + getD lanes p 0) 0
+        ≡ heldOn (f .nest) (f .stream) (length (processes (f .nest))) (entryNumber (f .nest) (f .stream) p)
     all-is =
         h .seen .of-lanes .held (getD lanes p 0) entry-lt
         ∙ ap (heldOn (f .nest) (f .stream) (length (processes (f .nest)))) (h .seen .of-lanes .entries p (h .lt))
@@ -287,11 +299,14 @@ module _ {f : Flow} {spans lanes : List ℕ} {p : ℕ} (h : Near f spans lanes p
         ≡ cond b (getD lanes (2048 + getD lanes p 0) 0 - suc (getD lanes (1024 + p) 0)) (getD lanes (1024 + p) 0)
     still-soak t b e =
         soak-held good p (h .lt) c t
-        ∙ ap (λ (x : Bool). cond x (heldOn (f .nest) (f .stream) (length (processes (f .nest))) (entryNumber (f .nest) (f .stream) p) - suc (heldOn (f .nest) (f .stream) p (entryNumber (f .nest) (f .stream) p))) (heldOn (f .nest) (f .stream) p (entryNumber (f .nest) (f .stream) p))) (sym (e ∙ h .seen .flows .turned-is))
+        ∙ ap (λ (x : Bool). cond x (heldOn (f .nest) (f .stream) (length (processes (f .nest))) (entryNumber (f .nest) (f .stream) p)
+        - suc (heldOn (f .nest) (f .stream) p (entryNumber (f .nest) (f .stream) p)))
+        (heldOn (f .nest) (f .stream) p (entryNumber (f .nest) (f .stream) p))) (sym (e ∙ h .seen .flows .turned-is))
         ∙ ap₂ (λ (u v : ℕ). cond b (u - suc v) v) (sym all-is) (sym running-is)
 
     -- and its drain
-    pub still-drain : f .moving ≡ false → soak (f .nest) (f .stream) (processOf (f .nest) p) + 1 + drain (f .nest) (f .stream) (processOf (f .nest) p)
+    pub still-drain : f .moving ≡ false
+        → soak (f .nest) (f .stream) (processOf (f .nest) p) + 1 + drain (f .nest) (f .stream) (processOf (f .nest) p)
         ≡ getD lanes (2048 + getD lanes p 0) 0
     still-drain e =
         still-total good (still-of e) (run-first (good .layout) (processOf (f .nest) p) c)
@@ -319,8 +334,10 @@ module _ {f : Flow} {spans lanes : List ℕ} {p : ℕ} (h : Near f spans lanes p
   pub null-drain : getD spans p 0 ≡ 0 → 0 ≡ rowDrain (f .nest) (f .stream) (processOf (f .nest) p)
   null-drain e = rw (null e) refl
 
-  pub row-soak : (getD spans p 0 ≡ 0 → ⊥) → soak (f .nest) (f .stream) (processOf (f .nest) p) ≡ rowSoak (f .nest) (f .stream) (processOf (f .nest) p)
+  pub row-soak : (getD spans p 0 ≡ 0 → ⊥)
+      → soak (f .nest) (f .stream) (processOf (f .nest) p) ≡ rowSoak (f .nest) (f .stream) (processOf (f .nest) p)
   row-soak g = sym (yes-cond (computing (f .nest) (processOf (f .nest) p)) _ _ (at-here g .computing))
 
-  pub row-drain : (getD spans p 0 ≡ 0 → ⊥) → drain (f .nest) (f .stream) (processOf (f .nest) p) ≡ rowDrain (f .nest) (f .stream) (processOf (f .nest) p)
+  pub row-drain : (getD spans p 0 ≡ 0 → ⊥)
+      → drain (f .nest) (f .stream) (processOf (f .nest) p) ≡ rowDrain (f .nest) (f .stream) (processOf (f .nest) p)
   row-drain g = sym (yes-cond (computing (f .nest) (processOf (f .nest) p)) _ _ (at-here g .computing))

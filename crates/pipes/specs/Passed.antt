@@ -19,8 +19,8 @@ pub record Passed (n : Nest) (s : Stream) (w : List ℕ) : Type 0 where
   pub drains : (p : ℕ) → p < length (processes n) → getD w (1024 + p) 0 ≡ rowDrain n s (processOf n p)
 
 -- two parts filled one after the other
-pub passed : (n : Nest) (s : Stream) {n' : Nest} {s' : Stream} → n' ≡ n → s' ≡ s → (k : ℕ) → k ≡ length (processes n) → k ≤ 1024 → (xs a b : List ℕ) → 2048 ≤ length xs
-    → a ≡ fillBy (λ p. rowSoak n' s' (processOf n' p)) k (midOf 0 1024 xs)
+pub passed : (n : Nest) (s : Stream) {n' : Nest} {s' : Stream} → n' ≡ n → s' ≡ s → (k : ℕ) → k ≡ length (processes n) → k ≤ 1024
+    → (xs a b : List ℕ) → 2048 ≤ length xs → a ≡ fillBy (λ p. rowSoak n' s' (processOf n' p)) k (midOf 0 1024 xs)
     → b ≡ fillBy (λ p. rowDrain n' s' (processOf n' p)) k (midOf 1024 1024 (putMid 0 1024 xs a))
     → Passed n s (putMid 1024 1024 (putMid 0 1024 xs a) b)
 passed n s {n'} {s'} en es k c few xs a b long ea eb =

@@ -199,8 +199,8 @@ fn fill_drains(f: Flow, processes: u32, spans: &[u32], lanes: &[u32], out: &mut 
     }
 }
 
-// The soaks of a stream at all processes, and from word 1,024 on its drains; the words of the processes are lent as `layout::fill_processes` leaves
-// them.
+// The soaks of a stream at all processes, and from word 1,024 on its drains; the words of the processes are lent as
+// `layout::fill_processes` leaves them.
 pub fn fill_stream(n: Nest, s: Stream, spans: &[u32], block: &mut [u32])
     requires { ⌜ (Laid n s) × (Spans n (now spans)) × (spanWords ≤ length (now spans)) × (2048 ≤ length (now block)) ⌝ }
     ensures { λ r. ⌜ Passed n s (now (block .exit)) ⌝ }

@@ -55,12 +55,14 @@ module _ (n : Nest) (x : V3) where
   touched-at k (s ∷ ss) zero h = omega arith
   touched-at k (s ∷ ss) (suc i) h = touched-at (k + length (elements n s)) ss i (omega arith) ∙ omega arith
 
-  touched-lt : (k : ℕ) (ss : List Stream) → ((i : ℕ) → i < length ss → number n x (getD ss i noStream) < length (elements n (getD ss i noStream)))
+  touched-lt : (k : ℕ) (ss : List Stream)
+      → ((i : ℕ) → i < length ss → number n x (getD ss i noStream) < length (elements n (getD ss i noStream)))
       → (i : ℕ) → i < length ss → getD (touchedFrom n k ss x) i 0 < k + elementCount n ss
   unfolding touchedFrom total
   touched-lt k [] g i h = absurd (omega arith)
   touched-lt k (s ∷ ss) g zero h = omega (arith, g 0 (omega arith))
-  touched-lt k (s ∷ ss) g (suc i) h = omega (arith, touched-lt (k + length (elements n s)) ss (λ j l. g (suc j) (omega arith)) i (omega arith))
+  touched-lt k (s ∷ ss) g (suc i) h =
+      omega (arith, touched-lt (k + length (elements n s)) ss (λ j l. g (suc j) (omega arith)) i (omega arith))
 
 -- ---- the table
 
@@ -127,8 +129,8 @@ module _ (d : Description) where
   lent table k h l = let e : 6 * k + d .sizes .streams - 6 * k ≡ d .sizes .streams = omega arith in rw e (h .row k l)
 
   -- the column of stream i, as it is read
-  pub column-is : (i : ℕ) {s : Stream} {start : ℕ} (table : List ℕ) {out : List ℕ} → i < d .sizes .streams → s ≡ getD (d .streams) i noStream
-      → start ≡ streamStart (d .nest) (streamsOf d) i
+  pub column-is : (i : ℕ) {s : Stream} {start : ℕ} (table : List ℕ) {out : List ℕ} → i < d .sizes .streams
+      → s ≡ getD (d .streams) i noStream → start ≡ streamStart (d .nest) (streamsOf d) i
       → out ≡ column i (numberFrom (d .nest) (s .map) start) (length (instances (d .nest))) table
       → out ≡ column i (place i) (length (instances (d .nest))) table
   column-is i table l e g o =
@@ -148,7 +150,12 @@ module _ (d : Description) where
           few = h .instances;
           lt = omega (arith, h .few .ranged .sized .most-streams);
           fits =
-              omega (arith, start-next d six (h .few) i l e refl, start-most d six (h .few) (i + 1) (omega arith), h .few .ranged .sized .most-streams);
+              omega (
+                arith,
+                start-next d six (h .few) i l e refl,
+                start-most d six (h .few) (i + 1) (omega arith),
+                h .few .ranged .sized .most-streams,
+              );
         }
 
     places-length : (x : V3) → length (touchedBy d x) ≡ d .sizes .streams

@@ -52,12 +52,14 @@ use Rattle.port_table.specs.Rows.{portWords, endWords}
 use Rattle.port_table.specs.PortsOf.{PortsOf}
 use Rattle.port_fill.specs.declared.Sums.{Sums}
 use Rattle.port_fill.specs.Marks.{marks-length, marks-other, marks-at, read-port, read-end}
-use Rattle.port_fill.specs.Strung.{Slack, join, strandFrom, always, portPlace, portLine, portRows, onEnd, endLine, endSpot, endRows, streamRows, StreamFillable, entered-few}
+use Rattle.port_fill.specs.Strung.{Slack, join, strandFrom, always, portPlace, portLine, portRows, onEnd, endLine, endSpot, endRows}
+use Rattle.port_fill.specs.Strung.{streamRows, StreamFillable, entered-few}
 
 -- ---- numbers and lists
 
 -- rows of an earlier stream lie apart
-rows-apart : (p k v r i : ℕ) → k < i → i < 6 → v < 10 → (60 * p + 10 * k + v < 60 * r + 10 * i) ⊎ (60 * r + 10 * i + 10 ≤ 60 * p + 10 * k + v)
+rows-apart : (p k v r i : ℕ) → k < i → i < 6 → v < 10
+    → (60 * p + 10 * k + v < 60 * r + 10 * i) ⊎ (60 * r + 10 * i + 10 ≤ 60 * p + 10 * k + v)
 rows-apart p k v r i l hi hv = go (decLe p r)
   where
     go : Dec (p ≤ r) → (60 * p + 10 * k + v < 60 * r + 10 * i) ⊎ (60 * r + 10 * i + 10 ≤ 60 * p + 10 * k + v)
@@ -118,12 +120,13 @@ module _ (d : Description) (h : Described d) where
   pub sums-slack : (i : ℕ) → i ≤ d .sizes .streams → Slack (sumsOf d i)
   sums-slack i l = let r = totals-room d h i l in record { words = r .words; pipes = r .pipes; ends = r .ends }
 
-  next : (f : Stream → ℕ) (i : ℕ) → i < d .sizes .streams → total f (take i (streamsOf d)) + f (streamAt d i) ≡ total f (take (i + 1) (streamsOf d))
+  next : (f : Stream → ℕ) (i : ℕ) → i < d .sizes .streams
+      → total f (take i (streamsOf d)) + f (streamAt d i) ≡ total f (take (i + 1) (streamsOf d))
   next f i l =
       sym (ap (λ (k : ℕ). total f (take k (streamsOf d))) (add-one i) ∙ total-next f (streamsOf d) i noStream (omega (arith, h .in-use)))
 
-  pub sums-next : (i : ℕ) {s : Stream} → i < d .sizes .streams → s ≡ getD (d .streams) i noStream → {k c : ℕ} → k ≡ hop nest s → c ≡ length (entries nest s)
-      → {t : Sums} → t ≡ sumsOf d i → join t k c ≡ sumsOf d (i + 1)
+  pub sums-next : (i : ℕ) {s : Stream} → i < d .sizes .streams → s ≡ getD (d .streams) i noStream → {k c : ℕ} → k ≡ hop nest s
+      → c ≡ length (entries nest s) → {t : Sums} → t ≡ sumsOf d i → join t k c ≡ sumsOf d (i + 1)
   sums-next i {s} l e {k} {c} ek ec et =
       ap (λ (t : Sums). join t k c) et ∙ ap₂ (join (sumsOf d i)) ek ec
       ∙ ap (λ (s : Stream). join (sumsOf d i) (hop nest s) (length (entries nest s))) (stream-of i l e)
@@ -138,7 +141,8 @@ module _ (d : Description) (h : Described d) where
   stride-next i l e ek es =
       omega (arith, es, ek ∙ ap (hop nest) (stream-of i l e), next (portSize nest) i l)
 
-  pub stride-all : {i sum : ℕ} → i ≡ d .sizes .streams → sum ≡ 1 + total (portSize nest) (take i (streamsOf d)) → (sum ≡ strideOf d) × (sum ≤ processWordsMost)
+  pub stride-all : {i sum : ℕ} → i ≡ d .sizes .streams → sum ≡ 1 + total (portSize nest) (take i (streamsOf d))
+      → (sum ≡ strideOf d) × (sum ≤ processWordsMost)
   stride-all {i} e es = (
     es ∙ ap (λ (k : ℕ). 1 + total (portSize nest) (take k (streamsOf d))) (e ∙ sym (h .in-use))
         ∙ ap (λ (l : List Stream). 1 + total (portSize nest) l) (take-length (streamsOf d)),
@@ -159,7 +163,8 @@ module _ (d : Description) (h : Described d) where
       omega (
         arith,
         six,
-        total-most (λ s. length (elements nest s)) (streamsOf d) i 4096 noStream (omega (arith, h .in-use)) (λ j k. h .few .few j (omega (arith, h .in-use))),
+        total-most (λ s. length (elements nest s)) (streamsOf d) i 4096 noStream (omega (arith, h .in-use))
+            (λ j k. h .few .few j (omega (arith, h .in-use))),
       )
 
   -- stream i, as the functions ask
@@ -246,7 +251,8 @@ module _ (d : Description) (h : Described d) where
         let there : pointOf d p ≡ e = number-point d (entry-inside laid i j hi hj) in
         let lt : p < P = number-lt d (entry-inside laid i j hi hj) in
         let t : T (entering nest s (pointOf d p)) =
-        subst (λ (y : V2). T (entering nest s y)) (sym there) (filter-in (entering nest s) (processes nest) (getD-in (entries nest s) j zero2 hj) .ok) in
+        subst (λ (y : V2). T (entering nest s y)) (sym there)
+        (filter-in (entering nest s) (processes nest) (getD-in (entries nest s) j zero2 hj) .ok) in
         let on : onEnd nest s p ≡ true = is-true (entering nest s (pointOf d p)) t in
         let apart = row-distinct (points-sorted (space nest)) in
         let count : enteredAt nest s p ≡ j =
@@ -257,7 +263,14 @@ module _ (d : Description) (h : Described d) where
         ∙ ap (λ (m : List V2). first + total (λ y. length (pipeElements nest s y)) m) (take-filter (entering nest s) p (processes nest))) in
         ap (λ (c : ℕ). getD zs (61440 + 9 * (b + c) + v) 0) (sym count)
         ∙ marks-at (onEnd nest s) (endLine nest s g first) (endSpot nest s b) 9 P p v ys lt on hv
-        (omega (arith, marks-length always (portLine nest s g) (portPlace i) 10 P xs, done .words, base-most i l, entered-few nest s p, h .processes))
+        (omega (
+          arith,
+          marks-length always (portLine nest s g) (portPlace i) 10 P xs,
+          done .words,
+          base-most i l,
+          entered-few nest s p,
+          h .processes,
+        ))
         (λ r m k _. inl (omega (arith, up (suc p) r m (omega arith), entered-next nest s p lt 1 (one-yes nest s p on))))
         ∙ ap (λ (c : ℕ). getD (endWords (endFrom nest s g (startAt nest s first p) c p)) v 0) count
         ∙ ap (λ (k : End). getD (endWords k) v 0) (end-is laid sg j hj start)
@@ -268,7 +281,8 @@ module _ (d : Description) (h : Described d) where
         go : Dec (suc q ≤ b) → getD zs (61440 + 9 * q + v) 0 ≡ getD (endWords (endOf A q)) v 0
         go (yes k) =
             marks-other (onEnd nest s) (endLine nest s g first) (endSpot nest s b) 9 P (61440 + 9 * q + v) ys (λ p _ _. inl (omega arith))
-            ∙ marks-other always (portLine nest s g) (portPlace i) 10 P (61440 + 9 * q + v) xs (λ r m _. inr (omega (arith, h .processes, below)))
+            ∙ marks-other always (portLine nest s g) (portPlace i) 10 P (61440 + 9 * q + v) xs
+            (λ r m _. inr (omega (arith, h .processes, below)))
             ∙ done .ends q k v hv
         go (no k) =
             let e : b + (q - b) ≡ q = omega arith in
@@ -287,8 +301,10 @@ module _ (d : Description) (h : Described d) where
 
 -- ---- a turn of the loop over the streams
 
-module _ {d : Description} {stride count : ℕ} {spans : List ℕ} (h : Started d stride count spans) (i : ℕ) (l : i < d .sizes .streams) {s : Stream}
-    (es : s ≡ getD (d .streams) i noStream) {t : Sums} (et : t ≡ sumsOf d i) {g : Strand} (eg : g ≡ strandFrom (hop (d .nest) s) count stride t) where
+module _ {d : Description} {stride count : ℕ} {spans : List ℕ} (h : Started d stride count spans) (i : ℕ)
+    (l : i < d .sizes .streams) {s : Stream}
+    (es : s ≡ getD (d .streams) i noStream) {t : Sums} (et : t ≡ sumsOf d i) {g : Strand}
+    (eg : g ≡ strandFrom (hop (d .nest) s) count stride t) where
   strand-is : StrandOf d i g
   strand-is =
       record {

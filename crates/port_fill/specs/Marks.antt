@@ -88,8 +88,8 @@ module _ (on : ℕ → Bool) (row : ℕ → List ℕ) (at : ℕ → ℕ) (m : �
 module _ (l : List ℕ) (a : ℕ) where
   pub read-port : (k : Port) → ((v : ℕ) → v < 10 → getD l (a + v) 0 ≡ getD (portWords k) v 0) → portRead l a ≡ k
   read-port k h =
-      same-port (ap (λ (x : ℕ). getD l x 0) (sym (add-zero a)) ∙ h 0 (omega arith)) (h 1 (omega arith)) (h 2 (omega arith)) (h 3 (omega arith))
-      (h 4 (omega arith)) (h 5 (omega arith)) (h 6 (omega arith)) (h 7 (omega arith)) (h 8 (omega arith))
+      same-port (ap (λ (x : ℕ). getD l x 0) (sym (add-zero a)) ∙ h 0 (omega arith)) (h 1 (omega arith)) (h 2 (omega arith))
+      (h 3 (omega arith)) (h 4 (omega arith)) (h 5 (omega arith)) (h 6 (omega arith)) (h 7 (omega arith)) (h 8 (omega arith))
       (ap (λ (w : ℕ). not (eqb w 0)) (h 9 (omega arith)) ∙ truth (k .keeps))
     where
       truth : (b : Bool) → not (eqb (cond b 1 0) 0) ≡ b
@@ -98,5 +98,5 @@ module _ (l : List ℕ) (a : ℕ) where
 
   pub read-end : (e : End) → ((v : ℕ) → v < 9 → getD l (a + v) 0 ≡ getD (endWords e) v 0) → endRead l a ≡ e
   read-end e h =
-      same-end (ap (λ (x : ℕ). getD l x 0) (sym (add-zero a)) ∙ h 0 (omega arith)) (h 1 (omega arith)) (h 2 (omega arith)) (h 3 (omega arith))
-      (h 4 (omega arith)) (h 5 (omega arith)) (h 6 (omega arith)) (h 7 (omega arith)) (h 8 (omega arith))
+      same-end (ap (λ (x : ℕ). getD l x 0) (sym (add-zero a)) ∙ h 0 (omega arith)) (h 1 (omega arith)) (h 2 (omega arith))
+      (h 3 (omega arith)) (h 4 (omega arith)) (h 5 (omega arith)) (h 6 (omega arith)) (h 7 (omega arith)) (h 8 (omega arith))

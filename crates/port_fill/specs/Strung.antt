@@ -131,7 +131,8 @@ pub record StreamFillable (n : Nest) (s : Stream) (g : Strand) (i first base : �
 
 -- ---- a turn
 
-module _ {f : Flow} {g : Strand} {count : ℕ} {spans lanes entered : List ℕ} {i : ℕ} (h : PortsFillable f g count spans lanes entered i) where
+module _ {f : Flow} {g : Strand} {count : ℕ} {spans lanes entered : List ℕ} {i : ℕ}
+    (h : PortsFillable f g count spans lanes entered i) where
   pub port-fillable : (p : ℕ) → p < count → PortFillable f g spans lanes entered i p
   port-fillable p l =
       record {
@@ -154,8 +155,10 @@ pub entered-all : (n : Nest) (s : Stream) (p : ℕ) → p ≡ length (processes 
 entered-all n s p e =
     ap (enteredAt n s) e ∙ ap (λ (l : List V2). length (filter (entering n s) l)) (take-length (processes n))
 
-module _ {f : Flow} {g : Strand} {count : ℕ} {spans lanes starts : List ℕ} {first base : ℕ} (h : EndsFillable f g count spans lanes starts first base) where
-  pub end-fillable : (p : ℕ) → p < count → {j : ℕ} → j ≡ enteredAt (f .nest) (f .stream) p → EndFillable f g spans lanes (getD starts p 0) base j p
+module _ {f : Flow} {g : Strand} {count : ℕ} {spans lanes starts : List ℕ} {first base : ℕ}
+    (h : EndsFillable f g count spans lanes starts first base) where
+  pub end-fillable : (p : ℕ) → p < count → {j : ℕ} → j ≡ enteredAt (f .nest) (f .stream) p
+      → EndFillable f g spans lanes (getD starts p 0) base j p
   end-fillable p l e =
       record {
         near = record { seen = h .seen; lt = omega (arith, h .counted) };
@@ -182,8 +185,8 @@ module _ (n : Nest) (s : Stream) (g : Strand) (start base j p : ℕ) (l : List �
   abbrev ended : List ℕ
   ended = stored (endWords (endFrom n s g start j p)) (endPlace base j) 9 l
 
-  pub end-put : onEnd n s p ≡ true → {r : End} → r ≡ endFrom n s g start j p → {out : List ℕ} → out ≡ stored (endWords r) (endPlace base j) 9 l
-      → out ≡ endRow n s g start base j p l
+  pub end-put : onEnd n s p ≡ true → {r : End} → r ≡ endFrom n s g start j p → {out : List ℕ}
+      → out ≡ stored (endWords r) (endPlace base j) 9 l → out ≡ endRow n s g start base j p l
   end-put t er eo = eo ∙ ap (λ (r : End). stored (endWords r) (endPlace base j) 9 l) er ∙ sym (ap (λ (b : Bool). cond b ended l) t)
 
   pub end-left : onEnd n s p ≡ false → l ≡ endRow n s g start base j p l
@@ -210,12 +213,13 @@ module _ (n : Nest) (s : Stream) (g : Strand) (first base p : ℕ) (l : List ℕ
 
 -- ---- a stream by its flow
 
-module _ {f : Flow} (flows : Flows f) {n : Nest} {s : Stream} (en : f .nest ≡ n) (es : f .stream ≡ s) {g : Strand} {i first base : ℕ} {spans : List ℕ}
-    (h : StreamFillable n s g i first base spans) where
+module _ {f : Flow} (flows : Flows f) {n : Nest} {s : Stream} (en : f .nest ≡ n)
+    (es : f .stream ≡ s) {g : Strand} {i first base : ℕ} {spans : List ℕ} (h : StreamFillable n s g i first base spans) where
   pub small-here : length (elements (f .nest) (f .stream)) ≤ 4096
   small-here = subst₂ (λ (n : Nest) (s : Stream). length (elements n s) ≤ 4096) (sym en) (sym es) (h .sharing .elements)
 
-  module _ {lanes : List ℕ} (seen : Seen f spans lanes) {count : ℕ} (c : count ≡ length (processes (f .nest))) (xs : List ℕ) (w : length xs ≡ 1024) where
+  module _ {lanes : List ℕ} (seen : Seen f spans lanes) {count : ℕ} (c : count ≡ length (processes (f .nest))) (xs : List ℕ)
+      (w : length xs ≡ 1024) where
     filled-at : (v : ℕ → ℕ) {out : List ℕ} → out ≡ fillBy v count xs → (e : ℕ) → e < length (processes (f .nest)) → getD out e 0 ≡ v e
     filled-at v o e l =
         ap (λ (m : List ℕ). getD m e 0) o ∙ fill-at v count e xs 0 (omega (arith, c)) (omega (arith, c, w, flows .laid .processes))
@@ -223,7 +227,8 @@ module _ {f : Flow} (flows : Flows f) {n : Nest} {s : Stream} (en : f .nest ≡ 
     filled-long : (v : ℕ → ℕ) {out : List ℕ} → out ≡ fillBy v count xs → 1024 ≤ length out
     filled-long v o = omega (arith, ap length o, fill-length v count xs, w)
 
-    pub ports-fillable : {entered : List ℕ} → entered ≡ fillBy (enteredAt (f .nest) (f .stream)) count xs → PortsFillable f g count spans lanes entered i
+    pub ports-fillable : {entered : List ℕ} → entered ≡ fillBy (enteredAt (f .nest) (f .stream)) count xs
+        → PortsFillable f g count spans lanes entered i
     ports-fillable o =
         record {
           seen = seen;
@@ -235,7 +240,8 @@ module _ {f : Flow} (flows : Flows f) {n : Nest} {s : Stream} (en : f .nest ≡ 
           stream = h .stream;
         }
 
-    pub ends-fillable : {starts : List ℕ} → starts ≡ fillBy (startAt (f .nest) (f .stream) first) count xs → EndsFillable f g count spans lanes starts first base
+    pub ends-fillable : {starts : List ℕ} → starts ≡ fillBy (startAt (f .nest) (f .stream) first) count xs
+        → EndsFillable f g count spans lanes starts first base
     ends-fillable o =
         record {
           seen = seen;
@@ -248,7 +254,8 @@ module _ {f : Flow} (flows : Flows f) {n : Nest} {s : Stream} (en : f .nest ≡ 
           based = h .based;
         }
 
-  pub strung : {count : ℕ} → count ≡ length (processes (f .nest)) → (l : List ℕ) {x out : List ℕ} → x ≡ portRows (f .nest) (f .stream) g i count l
+  pub strung : {count : ℕ} → count ≡ length (processes (f .nest)) → (l : List ℕ) {x out : List ℕ}
+      → x ≡ portRows (f .nest) (f .stream) g i count l
       → out ≡ endRows (f .nest) (f .stream) g first base count x → out ≡ streamRows n s g i first base l
   strung {count} c l ex eo =
       eo ∙ ap (endRows (f .nest) (f .stream) g first base count) ex

@@ -29,7 +29,8 @@ use Rattle.pipes.specs.Elements.{Near, good, inside, few}
 use Rattle.pipe_parts.specs.Starts.{entered-le}
 use Rattle.port_rows.specs.declared.Strand.{Strand}
 use Rattle.stream_lines.specs.StateWords.{process-words, end-words}
-use Rattle.port_rows.specs.Strands.{Narrow, portIndex, endIndex, beforeFrom, afterFrom, roomFrom, pipeOf, portFrom, offFrom, rowFrom, endFrom, some-before, count-fits}
+use Rattle.port_rows.specs.Strands.{Narrow, portIndex, endIndex, beforeFrom, afterFrom, roomFrom, pipeOf, portFrom, offFrom, rowFrom}
+use Rattle.port_rows.specs.Strands.{endFrom, some-before, count-fits}
 use Rattle.port_table.specs.Rows.{PortWide, EndWide}
 
 wide : {a : ℕ} → a ≤ stateWordsMost + endWordsMost + 2 → a < 4294967296
@@ -57,7 +58,8 @@ module _ {g : Strand} (w : Narrow g) {f : Flow} {spans lanes : List ℕ} {p : �
       omega (
         arith,
         small,
-        fewer (elements-distinct (good h) y) (λ e i. inside-points (boxOf n (s .map)) e (at-box (good h .layout .dirs) (in-on (good h) (inside h) i .at))),
+        fewer (elements-distinct (good h) y)
+            (λ e i. inside-points (boxOf n (s .map)) e (at-box (good h .layout .dirs) (in-on (good h) (inside h) i .at))),
       )
 
   soak-low : rowSoak n s y ≤ 4096
@@ -74,10 +76,15 @@ module _ {g : Strand} (w : Narrow g) {f : Flow} {spans lanes : List ℕ} {p : �
     before-low : beforeFrom n s g sent p ≤ stateWordsMost + endWordsMost + 2
     before-low = go (eqb (before n s y) 0) refl
       where
-        go : (b : Bool) → eqb (before n s y) 0 ≡ b → cond b sent (portIndex g (rowIndex (space n) (backOf n s y)) + 1) ≤ stateWordsMost + endWordsMost + 2
+        go : (b : Bool) → eqb (before n s y) 0 ≡ b
+            → cond b sent (portIndex g (rowIndex (space n) (backOf n s y)) + 1) ≤ stateWordsMost + endWordsMost + 2
         go true e = omega arith
         go false e =
-            omega (arith, port-low (rowIndex (space n) (backOf n s y)) (row-lt (space n) (backOf n s y) (back-inside (good h) (inside h) (some-before e))))
+            omega (
+              arith,
+              port-low (rowIndex (space n) (backOf n s y))
+                  (row-lt (space n) (backOf n s y) (back-inside (good h) (inside h) (some-before e))),
+            )
 
     next-low : eqb (reach (space n) (move n s) y) 0 ≡ false → portIndex g (rowIndex (space n) (onOf n s y)) ≤ stateWordsMost
     next-low e = port-low (rowIndex (space n) (onOf n s y)) (row-lt (space n) (onOf n s y) (on-inside (good h) (inside h) (some-before e)))
@@ -85,14 +92,16 @@ module _ {g : Strand} (w : Narrow g) {f : Flow} {spans lanes : List ℕ} {p : �
     after-low : afterFrom n s g sent p ≤ stateWordsMost + endWordsMost + 2
     after-low = go (eqb (reach (space n) (move n s) y) 0) refl
       where
-        go : (b : Bool) → eqb (reach (space n) (move n s) y) 0 ≡ b → cond b (sent + 1) (portIndex g (rowIndex (space n) (onOf n s y))) ≤ stateWordsMost + endWordsMost + 2
+        go : (b : Bool) → eqb (reach (space n) (move n s) y) 0 ≡ b
+            → cond b (sent + 1) (portIndex g (rowIndex (space n) (onOf n s y))) ≤ stateWordsMost + endWordsMost + 2
         go true e = omega arith
         go false e = omega (arith, next-low e)
 
     room-low : roomFrom n s g sent p ≤ stateWordsMost + endWordsMost + 2
     room-low = go (eqb (reach (space n) (move n s) y) 0) refl
       where
-        go : (b : Bool) → eqb (reach (space n) (move n s) y) 0 ≡ b → cond b (sent + 2) (portIndex g (rowIndex (space n) (onOf n s y)) + 4) ≤ stateWordsMost + endWordsMost + 2
+        go : (b : Bool) → eqb (reach (space n) (move n s) y) 0 ≡ b
+            → cond b (sent + 2) (portIndex g (rowIndex (space n) (onOf n s y)) + 4) ≤ stateWordsMost + endWordsMost + 2
         go true e = omega arith
         go false e = omega (arith, next-low e)
 
@@ -142,7 +151,8 @@ module _ {g : Strand} (w : Narrow g) {f : Flow} {spans lanes : List ℕ} {p : �
         after = wide (omega (arith, port-low p (h .lt)));
         room = wide (omega (arith, port-low p (h .lt)));
         before =
-            wide (omega (arith, port-low (rowIndex (space n) (exitOf n s y)) (row-lt (space n) (exitOf n s y) (last-inside (good h) (inside h)))));
+            wide (omega
+            (arith, port-low (rowIndex (space n) (exitOf n s y)) (row-lt (space n) (exitOf n s y) (last-inside (good h) (inside h)))));
         received = wide (omega (arith, sent-low j b));
         last = wide (omega (arith, sent-low j b));
         hop = wide (omega (arith, w .hop));

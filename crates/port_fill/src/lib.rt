@@ -1,5 +1,5 @@
-// The port table of a description filled: the rows of all its ports and of all its pipes' ends. Stream by stream: what its rows share, by the sums
-// over the streams before it; then the row of each process, and the row of each pipe, by its entry.
+// The port table of a description filled: the rows of all its ports and of all its pipes' ends. Stream by stream: what its rows share, by
+// the sums over the streams before it; then the row of each process, and the row of each pipe, by its entry.
 //
 // specs/, by file:
 //
@@ -21,7 +21,8 @@ ghost use Rattle.pipe_parts.specs.Starts.{enteringOne};
 ghost use Rattle.figures.specs.Shares.{Described, Sharing};
 ghost use Rattle.port_rows.specs.Strands.{Narrow};
 ghost use Rattle.port_table.specs.PortsOf.{PortsOf, portTableWords};
-ghost use Rattle.port_fill.specs.Strung.{Slack, strandFrom, join, PortFillable, EndFillable, PortsFillable, EndsFillable, StreamFillable, portRow, endRow, portRows, endRows, streamRows};
+ghost use Rattle.port_fill.specs.Strung.{Slack, strandFrom, join, PortFillable, EndFillable, PortsFillable, EndsFillable};
+ghost use Rattle.port_fill.specs.Strung.{StreamFillable, portRow, endRow, portRows, endRows, streamRows};
 ghost use Rattle.port_fill.specs.Filled.{Started};
 use lanes::Flow;
 use lanes::LANES;
@@ -140,7 +141,8 @@ fn put_end(
     ports: &mut [u32],
 ) -> u32
     requires { ⌜ (EndFillable f g (now spans) (now lanes) start base j p) × (length (now ports) ≡ portTableWords) ⌝ }
-    ensures { λ r. ⌜ (r ≡ enteringOne (f .nest) (f .stream) p) × (now (ports .exit) ≡ endRow (f .nest) (f .stream) g start base j p (now (ports .entry))) ⌝ }
+    ensures { λ r. ⌜ (r ≡ enteringOne (f .nest) (f .stream) p)
+        × (now (ports .exit) ≡ endRow (f .nest) (f .stream) g start base j p (now (ports .entry))) ⌝ }
 {
     if pipe_parts::is_entry(f, spans, lanes, p) {
         let e = port_rows::end_of(f, g, spans, lanes, start, j, p);
@@ -164,7 +166,8 @@ fn put_ends(
     ports: &mut [u32],
 ) -> u32
     requires { ⌜ (EndsFillable f g processes (now spans) (now lanes) (now starts) first base) × (length (now ports) ≡ portTableWords) ⌝ }
-    ensures { λ r. ⌜ (r ≡ length (entries (f .nest) (f .stream))) × (now (ports .exit) ≡ endRows (f .nest) (f .stream) g first base processes (now (ports .entry))) ⌝ }
+    ensures { λ r. ⌜ (r ≡ length (entries (f .nest) (f .stream)))
+        × (now (ports .exit) ≡ endRows (f .nest) (f .stream) g first base processes (now (ports .entry))) ⌝ }
 {
     let mut j: u32 = 0;
     let mut p: u32 = 0;
@@ -231,7 +234,8 @@ fn fill_streams(d: Description, stride: u32, processes: u32, spans: &[u32], port
 
 // The port table of an accepted description.
 pub fn fill_ports(d: Description, spans: &[u32], ports: &mut [u32])
-    requires { ⌜ (Described d) × (Laid d) × (Spans (d .nest) (now spans)) × (spanWords ≤ length (now spans)) × (length (now ports) ≡ portTableWords) ⌝ }
+    requires { ⌜ (Described d) × (Laid d) × (Spans (d .nest) (now spans)) × (spanWords ≤ length (now spans))
+        × (length (now ports) ≡ portTableWords) ⌝ }
     ensures { λ r. ⌜ PortsOf (arrayOf d) (now (ports .exit)) ⌝ }
 {
     let n = d.nest;

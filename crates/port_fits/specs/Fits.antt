@@ -1,4 +1,5 @@
--- The port table of an accepted description's array: its rows' words lie in every state that is long enough, and its pipes' parts in the lists. Assumes nothing.
+-- The port table of an accepted description's array: its rows' words lie in every state that is long enough, and its pipes' parts in the
+-- lists. Assumes nothing.
 use mathlib.Core.Path.{_≡_, refl, sym, _∙_, subst}
 use mathlib.Core.Bool.{Bool, true, false, cond}
 use mathlib.Core.List.{List}

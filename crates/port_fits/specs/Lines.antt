@@ -24,7 +24,8 @@ module _ (s : List ℕ) (ok : refusalOf gaugeLimits s ≡ 0) where
         streams = r .sized .most-streams;
         lines = r .sized .most-lines;
         within = λ i l.
-            let w = r .lines i in record { target = omega (arith, w .target); first = omega (arith, w .first); second = omega (arith, w .second) };
+            let w = r .lines i in
+            record { target = omega (arith, w .target); first = omega (arith, w .first); second = omega (arith, w .second) };
       }
 
   pub lines-are : take (d .sizes .lines) (d .lines) ≡ arrayOf d .lines

@@ -23,7 +23,8 @@ use Rattle.geometry.specs.Arrays.{streamAt}
 use Rattle.addresses.specs.Pipes.{base, entryAt, hop-on, elements-on}
 use Rattle.addresses.specs.Through.{pointOf, entryNumber, through-is, entry-lt, entry-rank, on-is}
 use Rattle.addresses.specs.Ports.{process-on, keeps-is, soak-is, stream-is, hop-is, elements-is, count-at}
-use Rattle.addresses.specs.Ends.{backOf, onOf, put-first, put-given, taken-last, taken-next, link-last, link-next, exitOf, number-point, entry-inside, taken-entry, link-entry, put-end, link-end}
+use Rattle.addresses.specs.Ends.{backOf, onOf, put-first, put-given, taken-last, taken-next, link-last, link-next, exitOf, number-point}
+use Rattle.addresses.specs.Ends.{entry-inside, taken-entry, link-entry, put-end, link-end}
 use Rattle.addresses.specs.Indices.{portWords, endsWords, strideOf, endAt, firings-index, taken-index, sent-index}
 use Rattle.ports.specs.Ports.{portOf, PortIs, same-port}
 use Rattle.ports.specs.Rows.{offPort, rowOf}
@@ -76,7 +77,8 @@ module _ {d : Description} (laid : Laid d) {i : ℕ} {g : Strand} (h : StrandOf 
     j-le = entry-lt laid p i hp (h .lt) on
 
     sent-is : sent ≡ index A (Sent q)
-    sent-is = end-at j ∙ sym (sent-index d i j (h .lt) (omega (arith, j-le))) ∙ ap (λ (r : ℕ). index A (Sent r)) (sym (through-is laid p i hp (h .lt) on))
+    sent-is = end-at j ∙ sym (sent-index d i j (h .lt) (omega (arith, j-le)))
+        ∙ ap (λ (r : ℕ). index A (Sent r)) (sym (through-is laid p i hp (h .lt) on))
 
     received-is : sent + 1 ≡ index A (Received q)
     received-is = ap (λ (a : ℕ). a + 1) sent-is
@@ -96,37 +98,48 @@ module _ {d : Description} (laid : Laid d) {i : ℕ} {g : Strand} (h : StrandOf 
             ap (λ (b : Bool). cond b sent (portIndex g (rowIndex (space n) (backOf n s y)) + 1)) (eq-eqb (before n s y) 0 z)
             ∙ sent-is ∙ ap (index A) (sym (put-first laid p i hp (h .lt) on z))
         go (inr l) =
-            ap (λ (b : Bool). cond b sent (portIndex g (rowIndex (space n) (backOf n s y)) + 1)) (ne-eqb (before n s y) 0 (λ z. omega arith))
-            ∙ ap (λ (a : ℕ). a + 1) (port-index (rowIndex (space n) (backOf n s y))) ∙ ap (index A) (sym (put-given laid p i hp (h .lt) on l))
+            ap (λ (b : Bool). cond b sent (portIndex g (rowIndex (space n) (backOf n s y)) + 1))
+            (ne-eqb (before n s y) 0 (λ z. omega arith))
+            ∙ ap (λ (a : ℕ). a + 1) (port-index (rowIndex (space n) (backOf n s y)))
+            ∙ ap (index A) (sym (put-given laid p i hp (h .lt) on l))
 
     after-is : afterFrom n s g sent p ≡ index A (takenOut A q (suc k))
     after-is = go (either (reach (space n) (move n s) y))
       where
-        go : (reach (space n) (move n s) y ≡ 0) ⊎ (0 < reach (space n) (move n s) y) → afterFrom n s g sent p ≡ index A (takenOut A q (suc k))
+        go : (reach (space n) (move n s) y ≡ 0) ⊎ (0 < reach (space n) (move n s) y)
+            → afterFrom n s g sent p ≡ index A (takenOut A q (suc k))
         go (inl z) =
             ap (λ (b : Bool). cond b (sent + 1) (portIndex g (rowIndex (space n) (onOf n s y)))) (eq-eqb (reach (space n) (move n s) y) 0 z)
             ∙ received-is ∙ ap (index A) (sym (taken-last laid p i hp (h .lt) on z))
         go (inr l) =
-            ap (λ (b : Bool). cond b (sent + 1) (portIndex g (rowIndex (space n) (onOf n s y)))) (ne-eqb (reach (space n) (move n s) y) 0 (λ z. omega arith))
+            ap (λ (b : Bool). cond b (sent + 1) (portIndex g (rowIndex (space n) (onOf n s y))))
+            (ne-eqb (reach (space n) (move n s) y) 0 (λ z. omega arith))
             ∙ port-index (rowIndex (space n) (onOf n s y)) ∙ ap (index A) (sym (taken-next laid p i hp (h .lt) on l))
 
     room-is : roomFrom n s g sent p ≡ index A (linkPlace A q (suc k) 0)
     room-is = go (either (reach (space n) (move n s) y))
       where
-        go : (reach (space n) (move n s) y ≡ 0) ⊎ (0 < reach (space n) (move n s) y) → roomFrom n s g sent p ≡ index A (linkPlace A q (suc k) 0)
+        go : (reach (space n) (move n s) y ≡ 0) ⊎ (0 < reach (space n) (move n s) y)
+            → roomFrom n s g sent p ≡ index A (linkPlace A q (suc k) 0)
         go (inl z) =
-            ap (λ (b : Bool). cond b (sent + 2) (portIndex g (rowIndex (space n) (onOf n s y)) + 4)) (eq-eqb (reach (space n) (move n s) y) 0 z)
+            ap (λ (b : Bool). cond b (sent + 2) (portIndex g (rowIndex (space n) (onOf n s y)) + 4))
+            (eq-eqb (reach (space n) (move n s) y) 0 z)
             ∙ last-place ∙ ap (index A) (sym (link-last laid p i hp (h .lt) on z 0))
         go (inr l) =
-            ap (λ (b : Bool). cond b (sent + 2) (portIndex g (rowIndex (space n) (onOf n s y)) + 4)) (ne-eqb (reach (space n) (move n s) y) 0 (λ z. omega arith))
-            ∙ ap (λ (a : ℕ). a + 4) (port-index (rowIndex (space n) (onOf n s y))) ∙ omega arith ∙ ap (index A) (sym (link-next laid p i hp (h .lt) on l 0))
+            ap (λ (b : Bool). cond b (sent + 2) (portIndex g (rowIndex (space n) (onOf n s y)) + 4))
+            (ne-eqb (reach (space n) (move n s) y) 0 (λ z. omega arith))
+            ∙ ap (λ (a : ℕ). a + 4) (port-index (rowIndex (space n) (onOf n s y))) ∙ omega arith
+            ∙ ap (index A) (sym (link-next laid p i hp (h .lt) on l 0))
 
     -- the row of a port
     pub port-is : PortIs A q k (portFrom n s g p)
     port-is =
-        same-port (port-index p ∙ ap₂ (λ (a b : ℕ). index A (Taken a b)) (sym (process-on laid p i hp (h .lt) on)) (sym (stream-is laid p i hp (h .lt) on)))
-        (at-sent (λ x. beforeFrom n s g x p) ∙ before-is) (at-sent (λ x. afterFrom n s g x p) ∙ after-is) (at-sent (λ x. roomFrom n s g x p) ∙ room-is)
-        (ap (λ (a : ℕ). p * a) (h .stride) ∙ sym (firings-index d p) ∙ ap (λ (a : ℕ). index A (Firings a)) (sym (process-on laid p i hp (h .lt) on)))
+        same-port (port-index p
+        ∙ ap₂ (λ (a b : ℕ). index A (Taken a b)) (sym (process-on laid p i hp (h .lt) on)) (sym (stream-is laid p i hp (h .lt) on)))
+        (at-sent (λ x. beforeFrom n s g x p) ∙ before-is) (at-sent (λ x. afterFrom n s g x p) ∙ after-is)
+        (at-sent (λ x. roomFrom n s g x p) ∙ room-is)
+        (ap (λ (a : ℕ). p * a) (h .stride) ∙ sym (firings-index d p)
+        ∙ ap (λ (a : ℕ). index A (Firings a)) (sym (process-on laid p i hp (h .lt) on)))
         (h .hop ∙ sym (hop-is laid p i hp (h .lt) on)) (sym (soak-is laid p i hp (h .lt) on))
         (sym (count-at laid p hp) ∙ ap (countAt A) (sym (process-on laid p i hp (h .lt) on)))
         (sym (elements-is laid p i hp (h .lt) on)) (sym (keeps-is laid p i hp (h .lt) on))
@@ -139,13 +152,14 @@ module _ {d : Description} (laid : Laid d) {i : ℕ} {g : Strand} (h : StrandOf 
     off-is : offFrom g (count n (pointOf d p)) p ≡ offPort A p i
     off-is =
         let e = port-index p in
-        same-port e e (ap (λ (a : ℕ). a + 1) e) (ap (λ (a : ℕ). a + 4) e ∙ omega arith) (ap (λ (a : ℕ). p * a) (h .stride) ∙ sym (firings-index d p)) refl
-        refl (sym (count-at laid p hp)) refl refl
+        same-port e e (ap (λ (a : ℕ). a + 1) e) (ap (λ (a : ℕ). a + 4) e ∙ omega arith)
+        (ap (λ (a : ℕ). p * a) (h .stride) ∙ sym (firings-index d p)) refl refl (sym (count-at laid p hp)) refl refl
 
     pub row-is : rowFrom n s g p ≡ rowOf A p i
     row-is =
         go (isPipe n s (pointOf d p)) refl
-        ∙ ap (λ (b : Bool). cond b (portOf A (pipeThrough A p i) (placeOn A p (pipeThrough A p i))) (offPort A p i)) (sym (on-is laid p i hp (h .lt)))
+        ∙ ap (λ (b : Bool). cond b (portOf A (pipeThrough A p i) (placeOn A p (pipeThrough A p i))) (offPort A p i))
+        (sym (on-is laid p i hp (h .lt)))
       where
         go : (b : Bool) → isPipe n s (pointOf d p) ≡ b → cond b (portFrom n s g p) (offFrom g (count n (pointOf d p)) p)
             ≡ cond b (portOf A (pipeThrough A p i) (placeOn A p (pipeThrough A p i))) (offPort A p i)
@@ -175,5 +189,6 @@ module _ {d : Description} (laid : Laid d) {i : ℕ} {g : Strand} (h : StrandOf 
         (ap (λ (a : ℕ). a + 4) (port-index p) ∙ omega arith ∙ ap (index A) (sym (link-entry laid i j (h .lt) hj 0)))
         (ap (λ (a : ℕ). a + 1) (port-index (rowIndex (space n) (exitOf n s (pointOf d p))))
         ∙ ap (λ (v : V2). index A (Given (rowIndex (space n) (exitOf n s v)) i)) there ∙ ap (index A) (sym (put-end laid i j (h .lt) hj)))
-        (ap (λ (a : ℕ). a + 1) first-is) (ap (λ (a : ℕ). a + 2) first-is ∙ omega arith ∙ ap (index A) (sym (link-end laid i j (h .lt) hj 0)))
+        (ap (λ (a : ℕ). a + 1) first-is)
+        (ap (λ (a : ℕ). a + 2) first-is ∙ omega arith ∙ ap (index A) (sym (link-end laid i j (h .lt) hj 0)))
         (h .hop ∙ sym (hop-on d i j (h .lt) hj)) (ap (λ (v : V2). length (pipeElements n s v)) there ∙ sym (elements-on d i j (h .lt) hj)) w

@@ -47,21 +47,24 @@ pub record Narrow (g : Strand) : Type 0 where
 
 -- ---- points on a line
 
-module _ {f : Flow} (h : Flows f) {p : ℕ} (lt : p < length (processes (f .nest))) {y : V2} (ey : y ≡ getD (points (boxed (f .space))) p zero2) where
+module _ {f : Flow} (h : Flows f) {p : ℕ} (lt : p < length (processes (f .nest))) {y : V2}
+    (ey : y ≡ getD (points (boxed (f .space))) p zero2) where
   pub way-small : Within2 1 (f .way)
   way-small = subst (Within2 1) (sym (h .way-is)) (h .laid .small)
 
   pub on-far : {k : ℕ} → k ≤ reach (space (f .nest)) (move (f .nest) (f .stream)) (processOf (f .nest) p) → k ≤ 1536
   on-far l = omega (arith, reach-small (going-on h lt ey), reach-on h lt ey refl)
 
-  module _ {k : ℕ} (l : k ≤ reach (space (f .nest)) (move (f .nest) (f .stream)) (processOf (f .nest) p)) {z : V2} (ez : z ≡ shift2 y (pos k) (f .way)) where
+  module _ {k : ℕ} (l : k ≤ reach (space (f .nest)) (move (f .nest) (f .stream)) (processOf (f .nest) p)) {z : V2}
+      (ez : z ≡ shift2 y (pos k) (f .way)) where
     on-eq : z ≡ shift2 (processOf (f .nest) p) (pos k) (move (f .nest) (f .stream))
     on-eq = ez ∙ ap₂ (λ (v w : V2). shift2 v (pos k) w) (point-is h lt ey) (h .way-is)
 
     on-in : Inside (space (f .nest)) z
     on-in =
         subst (Inside (space (f .nest))) (sym on-eq)
-        (reach-in (space (f .nest)) (h .laid .accepted .goes) (subst (Inside (space (f .nest))) (point-is h lt ey) (inside-space h lt ey)) k l)
+        (reach-in (space (f .nest)) (h .laid .accepted .goes)
+        (subst (Inside (space (f .nest))) (point-is h lt ey) (inside-space h lt ey)) k l)
 
     pub on-box : Inside (boxed (f .space)) z
     on-box = subst (λ (b : Box). Inside b z) (sym (h .space-is)) on-in
@@ -179,8 +182,10 @@ module _ (n : Nest) (s : Stream) (g : Strand) (sent p : ℕ) where
       → at ≡ portIndex g k → (at ≡ afterFrom n s g sent p) × (at + 4 ≡ roomFrom n s g sent p)
   link-next f {k} {at} ek ea =
       let t = ne-eqb (reach (space n) (move n s) (processOf n p)) 0 f in
-      let e = ea ∙ ap (portIndex g) ek in
-      (e ∙ sym (ap (λ (b : Bool). cond b (sent + 1) next) t), ap (λ (a : ℕ). a + 4) e ∙ sym (ap (λ (b : Bool). cond b (sent + 2) (next + 4)) t))
+      let e = ea ∙ ap (portIndex g) ek in (
+        e ∙ sym (ap (λ (b : Bool). cond b (sent + 1) next) t),
+        ap (λ (a : ℕ). a + 4) e ∙ sym (ap (λ (b : Bool). cond b (sent + 2) (next + 4)) t),
+      )
 
 -- what the row of a port is read off: the lanes, and how many pipes enter before each process
 pub record PortGiven (f : Flow) (spans lanes entered : List ℕ) (p : ℕ) : Type 0 where
@@ -192,8 +197,10 @@ pub number-is : {f : Flow} {spans lanes entered : List ℕ} {p e : ℕ} → Port
     → (getD entered e 0 ≡ pipeOf (f .nest) (f .stream) p) × (getD entered e 0 ≤ 1024)
 number-is {f} {lanes} {entered} {p} {e} h q =
     let z = q ∙ h .near .seen .of-lanes .entries p (h .near .lt) in
-    let r = h .counts e (omega (arith, q, entry-lt (h .near))) in
-    (r ∙ ap (enteredAt (f .nest) (f .stream)) z, omega (arith, r, entered-le (f .nest) (f .stream) e, h .near .seen .flows .laid .processes))
+    let r = h .counts e (omega (arith, q, entry-lt (h .near))) in (
+      r ∙ ap (enteredAt (f .nest) (f .stream)) z,
+      omega (arith, r, entered-le (f .nest) (f .stream) e, h .near .seen .flows .laid .processes),
+    )
 
 -- ---- the row of a port, part by part
 
@@ -214,18 +221,20 @@ keeps-is {f} {p} h =
     twice true = refl
     twice false = refl
 
-pub port-row : {f : Flow} (g : Strand) {spans lanes : List ℕ} {p : ℕ} {r : Port} → Near f spans lanes p → (sent : ℕ) → sent ≡ endIndex g (pipeOf (f .nest) (f .stream) p)
+pub port-row : {f : Flow} (g : Strand) {spans lanes : List ℕ} {p : ℕ} {r : Port} → Near f spans lanes p → (sent : ℕ)
+    → sent ≡ endIndex g (pipeOf (f .nest) (f .stream) p)
     → r .at ≡ portIndex g p → r .before ≡ beforeFrom (f .nest) (f .stream) g sent p → r .after ≡ afterFrom (f .nest) (f .stream) g sent p
     → r .room ≡ roomFrom (f .nest) (f .stream) g sent p → r .fired ≡ p * g .stride → r .hop ≡ g .hop
     → r .soak ≡ rowSoak (f .nest) (f .stream) (processOf (f .nest) p) → r .count ≡ getD spans p 0
-    → r .total ≡ length (pipeElements (f .nest) (f .stream) (processOf (f .nest) p)) → r .keeps ≡ (not (f .moving) && not (eqb (getD spans p 0) 0))
-    → r ≡ portFrom (f .nest) (f .stream) g p
+    → r .total ≡ length (pipeElements (f .nest) (f .stream) (processOf (f .nest) p))
+    → r .keeps ≡ (not (f .moving) && not (eqb (getD spans p 0) 0)) → r ≡ portFrom (f .nest) (f .stream) g p
 port-row {f} g {p} h sent e a b c d k l m o q s =
     same-port a (b ∙ ap (λ (x : ℕ). beforeFrom (f .nest) (f .stream) g x p) e) (c ∙ ap (λ (x : ℕ). afterFrom (f .nest) (f .stream) g x p) e)
     (d ∙ ap (λ (x : ℕ). roomFrom (f .nest) (f .stream) g x p) e) k l m (o ∙ h .seen .of-spans .counts p (h .lt)) q (s ∙ keeps-is h)
 
 -- on a pipe where its line holds elements, off every one where it holds none
-module _ {f : Flow} {spans lanes : List ℕ} {p : ℕ} (h : Near f spans lanes p) {k : ℕ} (e : k ≡ getD lanes (2048 + getD lanes p 0) 0) (g : Strand) where
+module _ {f : Flow} {spans lanes : List ℕ} {p : ℕ} (h : Near f spans lanes p) {k : ℕ} (e : k ≡ getD lanes (2048 + getD lanes p 0) 0)
+    (g : Strand) where
   abbrev own : Bool → Port
   own b = cond b (portFrom (f .nest) (f .stream) g p) (offFrom g (count (f .nest) (processOf (f .nest) p)) p)
 

@@ -19,13 +19,14 @@ ghost use Rattle.addresses.specs.Ends.{backOf};
 ghost use Rattle.layout.specs.Spans.{processOf};
 ghost use Rattle.lanes.specs.Flow.{Flows};
 ghost use Rattle.pipes.specs.Elements.{Near};
-ghost use Rattle.port_rows.specs.Strands.{Narrow, beforeFrom, afterFrom, roomFrom, pipeOf, PortGiven, portFrom, offFrom, rowFrom, endFrom};
+ghost use Rattle.port_rows.specs.Strands.{Narrow, beforeFrom, afterFrom, roomFrom, pipeOf, PortGiven, portFrom, offFrom, rowFrom};
+ghost use Rattle.port_rows.specs.Strands.{endFrom};
 use lanes::Flow;
 use ports::End;
 use ports::Port;
 
-// What the rows of a stream share: the places of its links, the words of a process, where the stream's words begin among them, and the index of the
-// first word of its first pipe's ends.
+// What the rows of a stream share: the places of its links, the words of a process, where the stream's words begin among them, and the
+// index of the first word of its first pipe's ends.
 pub struct Strand {
     pub hop: u32,
     pub stride: u32,
@@ -68,8 +69,10 @@ pub fn position(f: Flow, p: u32) -> u32
 
 // The number of the process that lies k moves on from process p: the next one where k is 1.
 pub fn number_on(f: Flow, p: u32, k: u32) -> u32
-    requires { ⌜ (Flows f) × (p < length (processes (f .nest))) × (k ≤ reach (space (f .nest)) (move (f .nest) (f .stream)) (processOf (f .nest) p)) ⌝ }
-    ensures { λ r. ⌜ (r ≡ rowIndex (space (f .nest)) (shift2 (processOf (f .nest) p) (pos k) (move (f .nest) (f .stream)))) × (r < gaugeLimits .processes) ⌝ }
+    requires { ⌜ (Flows f) × (p < length (processes (f .nest)))
+        × (k ≤ reach (space (f .nest)) (move (f .nest) (f .stream)) (processOf (f .nest) p)) ⌝ }
+    ensures { λ r. ⌜ (r ≡ rowIndex (space (f .nest)) (shift2 (processOf (f .nest) p) (pos k) (move (f .nest) (f .stream))))
+        × (r < gaugeLimits .processes) ⌝ }
 {
     let space = f.space;
     let way = f.way;
@@ -80,7 +83,8 @@ pub fn number_on(f: Flow, p: u32, k: u32) -> u32
 // The number of the process before process p, which is no entry.
 pub fn number_back(f: Flow, p: u32) -> u32
     requires { ⌜ (Flows f) × (p < length (processes (f .nest))) × (0 < before (f .nest) (f .stream) (processOf (f .nest) p)) ⌝ }
-    ensures { λ r. ⌜ (r ≡ rowIndex (space (f .nest)) (backOf (f .nest) (f .stream) (processOf (f .nest) p))) × (r < gaugeLimits .processes) ⌝ }
+    ensures { λ r. ⌜ (r ≡ rowIndex (space (f .nest)) (backOf (f .nest) (f .stream) (processOf (f .nest) p)))
+        × (r < gaugeLimits .processes) ⌝ }
 {
     let space = f.space;
     let back = f.back;

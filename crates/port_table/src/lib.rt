@@ -1,5 +1,5 @@
-// The port table: the rows of all ports and of all pipes' ends as words of one lent list, written once and read by number. Port (p, i) has the ten
-// words from 60 p + 10 i on, pipe q the nine from 61,440 + 9 q on.
+// The port table: the rows of all ports and of all pipes' ends as words of one lent list, written once and read by number. Port (p, i) has
+// the ten words from 60 p + 10 i on, pipe q the nine from 61,440 + 9 q on.
 //
 // specs/, by file:
 //

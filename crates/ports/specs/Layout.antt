@@ -1,5 +1,5 @@
--- Where the words of a state lie: the rows of ports and ends fit every state that is long enough, and a place that a give or a send fills is not the
--- word where it counts. Assumes nothing.
+-- Where the words of a state lie: the rows of ports and ends fit every state that is long enough, and a place that a give or a send fills
+-- is not the word where it counts. Assumes nothing.
 use mathlib.Core.Path.{_≡_, refl}
 use mathlib.Core.Bool.{Bool, true, false, cond}
 use Prim.Native.Nat.{ℕ, zero, suc, _+_, _≤_, _<_}
@@ -107,11 +107,13 @@ module _ (A : Array) (reg : Regular A) (q i : ℕ) (h : i < pipeAt A q .hop) whe
   give-apart k on = go (ltb (suc k) (stopsOn A q)) refl
     where
       go : (b : Bool) → ltb (suc k) (stopsOn A q) ≡ b
-          → index A (Given (processOn A q k) (streamOn A q)) ≡ index A (cond b (Place (processOn A q (suc k)) (streamOn A q) i) (End q i)) → ⊥
+          → index A (Given (processOn A q k) (streamOn A q))
+          ≡ index A (cond b (Place (processOn A q (suc k)) (streamOn A q) i) (End q i)) → ⊥
       go true e d =
           let t = start A reg q k on in
           let w = port-inside A reg q k on in
           let z : t + 1 ≡ t + 4 + i =
-          parts-apart (stride A) (processOn A q k) (t + 1) (processOn A q (suc k)) (t + 4 + i) (omega arith) (omega arith) (omega arith) .1 in
+          parts-apart (stride A) (processOn A q k) (t + 1) (processOn A q (suc k)) (t + 4 + i) (omega arith) (omega arith)
+          (omega arith) .1 in
           omega arith
       go false e d = omega (arith, port-before-ends A reg q k on)

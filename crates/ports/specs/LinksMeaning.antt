@@ -1,4 +1,5 @@
--- Links that are filled no further than their places, and the words of a state that rules count in and hold elements in, as in document 01. Assumes nothing.
+-- Links that are filled no further than their places, and the words of a state that rules count in and hold elements in, as in document 01.
+-- Assumes nothing.
 use mathlib.Core.Path.{_≡_, refl, sym, _∙_, ap}
 use mathlib.Core.Bool.{Bool, true, false, cond}
 use mathlib.Core.List.{List}

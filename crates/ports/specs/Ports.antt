@@ -36,8 +36,8 @@ pub record PortFits (n : ℕ) (k : Port) : Type 0 where
   pub count : k .count < 4294967296
 
 -- rows with the same numbers are the same
-pub same-port : {x y : Port} → x .at ≡ y .at → x .before ≡ y .before → x .after ≡ y .after → x .room ≡ y .room → x .fired ≡ y .fired → x .hop ≡ y .hop
-    → x .soak ≡ y .soak → x .count ≡ y .count → x .total ≡ y .total → x .keeps ≡ y .keeps → x ≡ y
+pub same-port : {x y : Port} → x .at ≡ y .at → x .before ≡ y .before → x .after ≡ y .after → x .room ≡ y .room
+    → x .fired ≡ y .fired → x .hop ≡ y .hop → x .soak ≡ y .soak → x .count ≡ y .count → x .total ≡ y .total → x .keeps ≡ y .keeps → x ≡ y
 same-port a b c d k l m o q s =
     λ i. record {
       at = a i;

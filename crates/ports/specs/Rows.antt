@@ -1,5 +1,5 @@
--- The row of any process and stream. Off every pipe it has a link without places, so that its port can take and give nothing and is sound where its counts
--- are 0. Assumes nothing.
+-- The row of any process and stream. Off every pipe it has a link without places, so that its port can take and give nothing and is sound
+-- where its counts are 0. Assumes nothing.
 use mathlib.Core.Path.{_≡_, refl}
 use mathlib.Core.Bool.{Bool, true, false, cond}
 use Prim.Native.Nat.{ℕ, _+_, _≤_, _<_}

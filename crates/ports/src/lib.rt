@@ -1,6 +1,6 @@
-// Where the words of document 01's network stand in the lent words of a state, and the words of a link. A row, a struct by value, says at which
-// indices the words of a port (a process and a stream on a pipe) or of a pipe's ends stand. A link's fill is cut off at its places: every index is then
-// in range on any list, and no rule asks that the state be sound.
+// Where the words of document 01's network stand in the lent words of a state, and the words of a link. A row, a struct by value, says at
+// which indices the words of a port (a process and a stream on a pipe) or of a pipe's ends stand. A link's fill is cut off at its places:
+// every index is then in range on any list, and no rule asks that the state be sound.
 //
 // specs/, by file:
 //
@@ -17,9 +17,9 @@ ghost use Rattle.ports.specs.Links.{filled, fillAt, movedDown};
 
 // ---- rows
 
-// A port. Indices: `at` of taken, with given, hand, keep and the places of the link into the port behind it; `before` of what was put into that link;
-// `after` of what was taken out of the link out of the port, and `room` of that link's first place; `fired` of the process's firings. Then the
-// places of a link, soak and count of the process, the elements of the pipe, and whether the process keeps one.
+// A port. Indices: `at` of taken, with given, hand, keep and the places of the link into the port behind it; `before` of what was put into
+// that link; `after` of what was taken out of the link out of the port, and `room` of that link's first place; `fired` of the process's
+// firings. Then the places of a link, soak and count of the process, the elements of the pipe, and whether the process keeps one.
 pub struct Port {
     pub at: usize,
     pub before: usize,
@@ -33,8 +33,9 @@ pub struct Port {
     pub keeps: bool,
 }
 
-// The ends of a pipe. Indices, of the first link: `sent`, `after` of what was taken out of it, `room` of its first place; of the last one: `before` of
-// what was put into it, `received`, `last` of its first place. Then the places of a link, the elements of the pipe, and where its part of a list begins.
+// The ends of a pipe. Indices, of the first link: `sent`, `after` of what was taken out of it, `room` of its first place; of the last one:
+// `before` of what was put into it, `received`, `last` of its first place. Then the places of a link, the elements of the pipe, and where
+// its part of a list begins.
 pub struct End {
     pub sent: usize,
     pub after: usize,

@@ -1,6 +1,7 @@
-// The walk by process of a description: its bytes on standard input; on standard output how many processes and instances there are, then a line for each instance
-// as the walk comes to it, with its process's point (y), its step (t) and itself (x), or `refused` and the number, 33 or 1 to 10. The first argument names the board,
-// 0 gauge or 1 bench; without one it is the gauge. It reads up to 65,536 bytes, more than any description has.
+// The walk by process of a description: its bytes on standard input; on standard output how many processes and instances there are, then a
+// line for each instance as the walk comes to it, with its process's point (y), its step (t) and itself (x), or `refused` and the number,
+// 33 or 1 to 10. The first argument names the board, 0 gauge or 1 bench; without one it is the gauge. It reads up to 65,536 bytes, more
+// than any description has.
 ghost use Rattle.vectors.specs.Within.{Within};
 ghost use Rattle.numbering.specs.Ranges.{Bounded};
 ghost use Rattle.walk.specs.Walked.{Along, Readable};

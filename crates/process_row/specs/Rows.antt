@@ -1,5 +1,6 @@
--- The rows as they are read off the plan: word p of it is the count of process p, words 1024 + p and 2048 + p are the numbers plus one of its first
--- and last instance, 0 for none, and words 3072 + 2048 i + p and 4096 + 2048 i + p its soak and drain on stream i. Assumes nothing.
+-- The rows as they are read off the plan: word p of it is the count of process p, words 1024 + p and 2048 + p are the numbers plus one of
+-- its first and last instance, 0 for none, and words 3072 + 2048 i + p and 4096 + 2048 i + p its soak and drain on stream i.
+-- Assumes nothing.
 use mathlib.Core.Path.{_≡_, refl, ap}
 use mathlib.Core.Logic.{_≢_}
 use mathlib.Core.List.{List, [], _∷_}

@@ -54,7 +54,8 @@ module _ (b st : List ℕ) (z : Size) (words : List ℕ) where
     unfolding answerBy leftBy refusal
     answer-few f = go (ltb (length words) 16) e
       where
-        go : (b : Bool) → n ≡ refusal ((27 if b) ∷ []) → (Refused n ≡ cond b (Refused 27) (answerOf (z .processes) markedBy)) × (words ≡ cond b words markedBy)
+        go : (b : Bool) → n ≡ refusal ((27 if b) ∷ [])
+            → (Refused n ≡ cond b (Refused 27) (answerOf (z .processes) markedBy)) × (words ≡ cond b words markedBy)
         go true k = (ap Refused k, refl)
         go false k = absurd (f k)
 
@@ -103,11 +104,13 @@ module _ (l : Limits) (s words : List ℕ) (M : Memory) where
 
       marked-is : markedBy b (M .state) z words ≡ readied l s (M .state) words
       marked-is =
-          marked-same (movesBy b (M .state) (z .streams)) (canMove l s (M .state)) (z .processes) (cleared words) (moves-is t M (o .stood .sound))
+          marked-same (movesBy b (M .state) (z .streams)) (canMove l s (M .state)) (z .processes) (cleared words)
+          (moves-is t M (o .stood .sound))
           ∙ ap (λ (n : ℕ). markedTo (canMove l s (M .state)) n (cleared words)) (t .size .processes)
 
       -- nothing of the memory is refused
-      pub readies : {r : Readiness} {w : List ℕ} → (r ≡ answerBy b (M .state) z words) × (w ≡ leftBy b (M .state) z words) → Readies l s words M r w
+      pub readies : {r : Readiness} {w : List ℕ} → (r ≡ answerBy b (M .state) z words) × (w ≡ leftBy b (M .state) z words)
+          → Readies l s words M r w
       unfolding answerBy leftBy refusal
       readies {r} {w} k = go (ltb (length words) 16) refl
         where

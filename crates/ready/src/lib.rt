@@ -1,5 +1,5 @@
-// The call Ready: the processes that can take, fire or give, as bits of sixteen words; how many they are, and the lowest. In specs/, Call says
-// what the call answers and leaves.
+// The call Ready: the processes that can take, fire or give, as bits of sixteen words; how many they are, and the lowest. In specs/, Call
+// says what the call answers and leaves.
 ghost use mathlib.Core.Path.{_≡_};
 ghost use lib.ListN.{length};
 ghost use Rattle.meaning.specs.Limits.{limitsOf};

@@ -34,7 +34,8 @@ module _ (f : ℕ → Bool) where
       less true e = let h = ltb-true p n e in e ∙ sym (lt-ltb (suc p) (suc n) (omega arith))
       less false e = let h = ltb-false p n e in e ∙ sym (le-ltb (suc p) (suc n) (omega arith))
 
-      go : (b : Bool) → any f (numbersFrom (suc i) n) ≡ ltb p n → cond b true (any f (numbersFrom (suc i) n)) ≡ ltb (cond b 0 (suc p)) (suc n)
+      go : (b : Bool) → any f (numbersFrom (suc i) n) ≡ ltb p n
+          → cond b true (any f (numbersFrom (suc i) n)) ≡ ltb (cond b 0 (suc p)) (suc n)
       go true e = sym (lt-ltb 0 (suc n) (omega arith))
       go false e = e ∙ less (ltb p n) refl
 
@@ -93,12 +94,14 @@ module _ (f : ℕ → Bool) where
   first-far : (i m n : ℕ) → position f (numbersFrom i m) ≡ m → position f (numbersFrom i (m + n)) ≡ m + position f (numbersFrom (i + m) n)
   unfolding position numbersFrom
   first-far i zero n h = simp (zero-add, add-zero)
-  first-far i (suc m) n h = rw (suc-add m n, suc-add m (position f (numbersFrom (i + suc m) n)), add-suc i m) (go (f i) (first-far (suc i) m n) h)
+  first-far i (suc m) n h =
+      rw (suc-add m n, suc-add m (position f (numbersFrom (i + suc m) n)), add-suc i m) (go (f i) (first-far (suc i) m n) h)
     where
       p : ℕ
       p = position f (numbersFrom (suc i) m)
 
-      go : (b : Bool) → (p ≡ m → position f (numbersFrom (suc i) (m + n)) ≡ m + position f (numbersFrom (suc i + m) n)) → cond b 0 (suc p) ≡ suc m
+      go : (b : Bool) → (p ≡ m → position f (numbersFrom (suc i) (m + n)) ≡ m + position f (numbersFrom (suc i + m) n))
+          → cond b 0 (suc p) ≡ suc m
           → cond b 0 (suc (position f (numbersFrom (suc i) (m + n)))) ≡ suc (m + position f (numbersFrom (suc (i + m)) n))
       go true rest h = absurd (omega arith)
       go false rest h = ap suc (rw (← suc-add) (rest (omega arith)))
@@ -121,7 +124,8 @@ module _ (f : ℕ → Bool) where
 
   -- the first of n blocks from block k on, where j of them have no member
   pub record Blocks (k n j : ℕ) : Type 0 where
-    pub some : j < n → (position f (numbersFrom (32 * k) (32 * n)) ≡ 32 * j + inBlock f (k + j)) × (position f (numbersFrom (32 * k) (32 * n)) < 32 * n)
+    pub some : j < n
+        → (position f (numbersFrom (32 * k) (32 * n)) ≡ 32 * j + inBlock f (k + j)) × (position f (numbersFrom (32 * k) (32 * n)) < 32 * n)
     pub none : j ≡ n → position f (numbersFrom (32 * k) (32 * n)) ≡ 32 * n
 
   pub blocks : (k n : ℕ) → Blocks k n (position (mid f) (numbersFrom k n))
@@ -177,7 +181,8 @@ mid-none k = any-none 0 32
 pub mid-member : (f : ℕ → Bool) (r : ℕ) → f r ≡ true → mid f (r / 32) ≡ true
 unfolding mid
 mid-member f r e =
-    any-member (λ b. f (32 * (r / 32) + b)) 0 32 (r % 32) (omega arith) (omega (arith, mod-lt r (zero-lt-suc 31))) (ap f (div-add-mod r 32) ∙ e)
+    any-member (λ b. f (32 * (r / 32) + b)) 0 32 (r % 32) (omega arith) (omega (arith, mod-lt r (zero-lt-suc 31)))
+    (ap f (div-add-mod r 32) ∙ e)
 
 -- tests that differ at r alone have the same blocks but that of r
 pub mid-other : (f g : ℕ → Bool) (r : ℕ) → ((x : ℕ) → (x ≡ r → ⊥) → g x ≡ f x) → (k : ℕ) → (k ≡ r / 32 → ⊥) → mid g k ≡ mid f k

@@ -1,4 +1,5 @@
--- A set of numbers, as a test, in the words of a list: a flag for each number below 32,768, and two levels of words that say where flags are set.
+-- A set of numbers, as a test, in the words of a list: a flag for each number below 32,768, and two levels of words that say where flags
+-- are set.
 use mathlib.Core.Path.{_≡_}
 use mathlib.Core.Bool.{Bool, cond, not}
 use mathlib.Core.List.{List}

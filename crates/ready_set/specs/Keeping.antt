@@ -34,7 +34,8 @@ kept-agree f g l e h =
       words = h .words;
       low = λ r m. h .low r m ∙ ap flag (e r m);
       middle = λ k m. h .middle k m ∙ ap flag (blocks-agree k m);
-      high = λ k m. h .high k m ∙ ap flag (top-is f k ∙ mid-agree (mid f) (mid g) k (λ x l u. blocks-agree x (omega arith)) ∙ sym (top-is g k));
+      high = λ k m. h .high k m
+          ∙ ap flag (top-is f k ∙ mid-agree (mid f) (mid g) k (λ x l u. blocks-agree x (omega arith)) ∙ sym (top-is g k));
     }
   where
     blocks-agree : (k : ℕ) → k < 1024 → mid f k ≡ mid g k
@@ -162,13 +163,13 @@ put-all-kept f l r b h kept = go (eqb (getD l₁ (32768 + k) 0) w₂) refl
 
     middle₂ : (x : ℕ) → x < 1024 → getD l₂ (32768 + x) 0 ≡ flag (mid g x)
     middle₂ =
-        level-above f g r b differ member l₁ 0 1024 32768 (32 * k) (λ x m. ap (λ (x : ℕ). getD l₁ x 0) (zero-add x) ∙ low₁ x m) (omega arith) (omega arith)
-        (omega (arith, length₁)) middle₁
+        level-above f g r b differ member l₁ 0 1024 32768 (32 * k) (λ x m. ap (λ (x : ℕ). getD l₁ x 0) (zero-add x) ∙ low₁ x m)
+        (omega arith) (omega arith) (omega (arith, length₁)) middle₁
 
     high₃ : (x : ℕ) → x < 32 → getD l₃ (33792 + x) 0 ≡ flag (mid (mid g) x)
     high₃ =
-        level-above (mid f) (mid g) k b (mid-other f g r differ) (λ t. mid-member g r (member t)) l₂ 32768 32 33792 (32768 + 32 * j) middle₂ refl
-        (omega arith)
+        level-above (mid f) (mid g) k b (mid-other f g r differ) (λ t. mid-member g r (member t)) l₂ 32768 32 33792
+        (32768 + 32 * j) middle₂ refl (omega arith)
         (omega (arith, length₂))
         (λ x m. getD-set-other l₁ (32768 + k) (33792 + x) w₂ 0 (λ (e : 33792 + x ≡ 32768 + k). omega arith) ∙ high₁ x m)
 
@@ -231,11 +232,13 @@ module _ (f : ℕ → Bool) (l : List ℕ) (kept : Kept f l) where
   pub lowest-none : position (on l 33792) (numbers 32) ≡ 32 → 32768 ≡ position f (numbers 32768)
   lowest-none e = sym (blocks f 0 1024 .none (blocks (mid f) 0 32 .none (sym tops ∙ e)))
 
-  pub lowest-some : (j : ℕ) → j ≡ position (on l 33792) (numbers 32) → j < 32 → (k : ℕ) → k ≡ 32 * j + position (on l (32768 + 32 * j)) (numbers 32)
+  pub lowest-some : (j : ℕ) → j ≡ position (on l 33792) (numbers 32) → j < 32 → (k : ℕ)
+      → k ≡ 32 * j + position (on l (32768 + 32 * j)) (numbers 32)
       → 32 * k + position (on l (32 * k)) (numbers 32) ≡ position f (numbers 32768)
   lowest-some j e h k d =
       ap (λ (p : ℕ). 32 * k + p) (first-block f l 0 1024 (32 * k) k lows (omega arith) (omega (arith, found, up .1)))
-      ∙ ap (λ (k : ℕ). 32 * k + inBlock f k) found ∙ ap (λ (k : ℕ). 32 * K + inBlock f k) (sym (zero-add K)) ∙ sym (blocks f 0 1024 .some (up .1) .0)
+      ∙ ap (λ (k : ℕ). 32 * k + inBlock f k) found ∙ ap (λ (k : ℕ). 32 * K + inBlock f k) (sym (zero-add K))
+      ∙ sym (blocks f 0 1024 .some (up .1) .0)
     where
       K : ℕ
       K = position (mid f) (numbers 1024)
@@ -251,4 +254,5 @@ module _ (f : ℕ → Bool) (l : List ℕ) (kept : Kept f l) where
 
       found : k ≡ K
       found = d ∙ ap (λ (p : ℕ). 32 * j + p) (first-block (mid f) l 32768 32 (32768 + 32 * j) j (kept .middle) refl h)
-          ∙ ap (λ (j : ℕ). 32 * j + inBlock (mid f) j) (e ∙ tops) ∙ ap (λ (i : ℕ). 32 * J + inBlock (mid f) i) (sym (zero-add J)) ∙ sym (up .0)
+          ∙ ap (λ (j : ℕ). 32 * j + inBlock (mid f) j) (e ∙ tops)
+          ∙ ap (λ (i : ℕ). 32 * J + inBlock (mid f) i) (sym (zero-add J)) ∙ sym (up .0)

@@ -1,6 +1,6 @@
-// A set of numbers below 32,768 as flags in one lent list of 33,824 words, each 1 or 0, with two levels of summary: the lowest member is found in three
-// short scans. Word r is the flag of r, word 32,768 + k whether the block of the 32 flags from 32 k on has a member, and word 33,792 + k whether the 32
-// words from 32,768 + 32 k on have one that is set.
+// A set of numbers below 32,768 as flags in one lent list of 33,824 words, each 1 or 0, with two levels of summary: the lowest member is
+// found in three short scans. Word r is the flag of r, word 32,768 + k whether the block of the 32 flags from 32 k on has a member, and
+// word 33,792 + k whether the 32 words from 32,768 + 32 k on have one that is set.
 //
 // specs/, by file:
 //
@@ -68,7 +68,8 @@ fn put_above(l: &mut [u32], k: usize, b: bool)
 // Number r is put into the set if b is true, and taken out of it otherwise.
 pub fn put(l: &mut [u32], r: usize, b: bool)
     requires { ⌜ (length (now l) ≡ flagWords) × (r < members) ⌝ }
-    ensures { λ _. ⌜ (length (now (l .exit)) ≡ flagWords) × ((f : ℕ → Bool) → Kept f (now (l .entry)) → Kept (put f r b) (now (l .exit))) ⌝ }
+    ensures { λ _. ⌜ (length (now (l .exit)) ≡ flagWords)
+        × ((f : ℕ → Bool) → Kept f (now (l .entry)) → Kept (put f r b) (now (l .exit))) ⌝ }
 {
     let w = words::flag(b);
     if l[r] != w {

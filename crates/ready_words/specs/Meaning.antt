@@ -51,7 +51,8 @@ module _ (A : Array) (st : List ℕ) (p : ℕ) where
       ∙ order (any takesAt l) (ready A st (Fire p)) (any givesAt l)
       ∙ ap (λ (b : Bool). b || ready A st (Fire p)) (sym (any-either takesAt givesAt l))
 
-module _ {A : Array} {b : List ℕ} {z : Size} (s : Stands A b z) (M : Memory) (t : sound A (M .state) ≡ true) (p : ℕ) (h : p < z .processes) where
+module _ {A : Array} {b : List ℕ} {z : Size} (s : Stands A b z) (M : Memory) (t : sound A (M .state) ≡ true) (p : ℕ)
+    (h : p < z .processes) where
   abbrev st : List ℕ
   st = M .state
 

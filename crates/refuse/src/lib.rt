@@ -1,5 +1,6 @@
-// Whether a description is accepted, and by which number it is refused: 33 of request 2.9 and document 01's refusals 1 to 17, the first that applies. Between 10 and 11 the words of the
-// processes and of the walk are filled, once for all streams; those of the processes are handed on.
+// Whether a description is accepted, and by which number it is refused: 33 of request 2.9 and document 01's refusals 1 to 17, the first
+// that applies. Between 10 and 11 the words of the processes and of the walk are filled, once for all streams; those of the processes are
+// handed on.
 ghost use mathlib.Core.Path.{_≡_};
 ghost use mathlib.Core.List.{[], _∷_};
 ghost use Rattle.meaning.specs.Tests.{_if_, refusal};
@@ -61,7 +62,8 @@ fn fill_nest(n: Nest, spans: &mut [u32; SPANS], walk: &mut [i32; WALK])
 fn walk_within(s: &[u8], limits: Limits, spans: &mut [u32; SPANS], walk: &mut [i32; WALK]) -> u32
     requires { ⌜ UpTo limits gaugeLimits ⌝ }
     ensures { λ r. ⌜ (r ≡ walkRefusal limits (now (s .entry)))
-        × (r ≡ 0 → (Spans (descriptionOf (now (s .entry)) .nest) (now (spans .exit))) × (Along (descriptionOf (now (s .entry)) .nest) (now (walk .exit))))
+        × (r ≡ 0 → (Spans (descriptionOf (now (s .entry)) .nest) (now (spans .exit)))
+        × (Along (descriptionOf (now (s .entry)) .nest) (now (walk .exit))))
         × ((r ≡ 0 → ⊥) → (now (spans .exit) ≡ now (spans .entry)) × (now (walk .exit) ≡ now (walk .entry))) ⌝ }
 {
     let refusal = walk_refusal(s, limits);
@@ -72,10 +74,12 @@ fn walk_within(s: &[u8], limits: Limits, spans: &mut [u32; SPANS], walk: &mut [i
     refusal
 }
 
-// The number by which 33 and 1 to 10 refuse a description, and then no word changes, or 0, and then the words of its processes and of its walk are filled.
+// The number by which 33 and 1 to 10 refuse a description, and then no word changes, or 0, and then the words of its processes and of its
+// walk are filled.
 pub fn walk_of(board: u32, s: &[u8], spans: &mut [u32; SPANS], walk: &mut [i32; WALK]) -> u32
     ensures { λ r. ⌜ (r ≡ walkRefusal (limitsOf board) (now (s .entry)))
-        × (r ≡ 0 → (Spans (descriptionOf (now (s .entry)) .nest) (now (spans .exit))) × (Along (descriptionOf (now (s .entry)) .nest) (now (walk .exit))))
+        × (r ≡ 0 → (Spans (descriptionOf (now (s .entry)) .nest) (now (spans .exit)))
+        × (Along (descriptionOf (now (s .entry)) .nest) (now (walk .exit))))
         × ((r ≡ 0 → ⊥) → (now (spans .exit) ≡ now (spans .entry)) × (now (walk .exit) ≡ now (walk .entry))) ⌝ }
 {
     walk_within(s, boards::limits_of(board), spans, walk)
@@ -105,7 +109,8 @@ fn streams_refusal(d: Description, limits: Limits, walk: &[i32]) -> u32
 // The refusal of a description by its number, 0 if it is accepted; then count, first and last instance of its processes are filled.
 pub fn refusal_within(s: &[u8], limits: Limits, spans: &mut [u32; SPANS]) -> u32
     requires { ⌜ UpTo limits gaugeLimits ⌝ }
-    ensures { λ r. ⌜ (r ≡ refusalOf limits (now (s .entry))) × (r ≡ 0 → Spans (descriptionOf (now (s .entry)) .nest) (now (spans .exit))) ⌝ }
+    ensures { λ r. ⌜ (r ≡ refusalOf limits (now (s .entry)))
+        × (r ≡ 0 → Spans (descriptionOf (now (s .entry)) .nest) (now (spans .exit))) ⌝ }
 {
     let mut walk = [0i32; WALK];
     let r = walk_within(s, limits, spans, &mut walk);
@@ -118,7 +123,8 @@ pub fn refusal_within(s: &[u8], limits: Limits, spans: &mut [u32; SPANS]) -> u32
 
 // The same on a board.
 pub fn refusal_of(board: u32, s: &[u8], spans: &mut [u32; SPANS]) -> u32
-    ensures { λ r. ⌜ (r ≡ refusalOf (limitsOf board) (now (s .entry))) × (r ≡ 0 → Spans (descriptionOf (now (s .entry)) .nest) (now (spans .exit))) ⌝ }
+    ensures { λ r. ⌜ (r ≡ refusalOf (limitsOf board) (now (s .entry)))
+        × (r ≡ 0 → Spans (descriptionOf (now (s .entry)) .nest) (now (spans .exit))) ⌝ }
 {
     refusal_within(s, boards::limits_of(board), spans)
 }

@@ -1,5 +1,5 @@
-// Document 01's refusals 1 to 5: lengths, sizes, ranges and bounds of the words of a description. The definitions of the stages, and what a refusal of 0 leaves,
-// stand with the parts of a description in `decode`.
+// Document 01's refusals 1 to 5: lengths, sizes, ranges and bounds of the words of a description. The definitions of the stages, and what a
+// refusal of 0 leaves, stand with the parts of a description in `decode`.
 ghost use mathlib.Core.Path.{_≡_};
 ghost use mathlib.Core.Bool.{not, _&&_};
 ghost use lib.Dec.{leb};

@@ -1,7 +1,8 @@
-// Plays a replay script from standard input and prints a line for Accept, one for Start and one for each call, all of them told the script's
-// board word. Calls: 0 step (kind, number, stream), 1 run (steps), 2 ready, 3 window (pipe, side), 4 result, 5 show the state, 6 show the
-// received list, 7 poke (word of the state, value), 8 lend (list, length); any other number ends the script. Several scripts stand behind the
-// word 2^32 - 1, each behind a word with its number of bytes, and what each prints stands below a line with `script` and its number.
+// Plays a replay script from standard input and prints a line for Accept, one for Start and one for each call, all of them told the
+// script's board word. Calls: 0 step (kind, number, stream), 1 run (steps), 2 ready, 3 window (pipe, side), 4 result, 5 show the state, 6
+// show the received list, 7 poke (word of the state, value), 8 lend (list, length); any other number ends the script. Several scripts stand
+// behind the word 2^32 - 1, each behind a word with its number of bytes, and what each prints stands below a line with `script` and its
+// number.
 use meaning::Acceptance;
 use meaning::Answer;
 use meaning::Divisors;

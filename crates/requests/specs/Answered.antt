@@ -30,7 +30,8 @@ answered l s = go (eqb (refusalOf l s) 0) (accepted-exactly l s .0) (λ k. refus
     says : Bool → Acceptance
     says b = cond b (Accepted (figures (descriptionOf s)) (divisors (descriptionOf s))) (Refused (refusalOf l s))
 
-    go : (b : Bool) → (says b ≡ Accepted (figures (descriptionOf s)) (divisors (descriptionOf s)) → Meets l s) → ((k : ℕ) → says b ≡ Refused k → FirstFails l s k) → Answered l s
+    go : (b : Bool) → (says b ≡ Accepted (figures (descriptionOf s)) (divisors (descriptionOf s)) → Meets l s)
+        → ((k : ℕ) → says b ≡ Refused k → FirstFails l s k) → Answered l s
     go true m f = meets (m refl)
     go false m f = fails (refusalOf l s) (f (refusalOf l s) refl)
 

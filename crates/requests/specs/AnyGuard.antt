@@ -26,7 +26,8 @@ module _ {s t : List ℕ} (o : OtherGuards s t) where
   -- word 4, 5 or 6 of line i
   in-guard : (i d : ℕ) → i < z .lines → d < 3 → Alike (lineAt z i + (4 + d))
   in-guard i zero g b = let h = o .guards i g in both-true (index-word s z i) (index-word t z i) (h .0 .index) (h .1 .index)
-  in-guard i (suc zero) g b = let h = o .guards i g in both-true (comparison-word s z i) (comparison-word t z i) (h .0 .comparison) (h .1 .comparison)
+  in-guard i (suc zero) g b = let h = o .guards i g in
+      both-true (comparison-word s z i) (comparison-word t z i) (h .0 .comparison) (h .1 .comparison)
   in-guard i (suc (suc zero)) g b = let h = o .guards i g in both-true (bound-word s z i) (bound-word t z i) (h .0 .bound) (h .1 .bound)
   in-guard i (suc (suc (suc d))) g b = absurd (omega arith)
 

@@ -1,4 +1,5 @@
--- Accept does not look at which of the operations a line has: two descriptions that differ in operation words alone are answered alike. Assumes nothing.
+-- Accept does not look at which of the operations a line has: two descriptions that differ in operation words alone are answered alike.
+-- Assumes nothing.
 use mathlib.Core.Path.{_≡_, ap, subst}
 use mathlib.Core.List.{List}
 use Prim.Native.Nat.{ℕ, _+_, _-_, _/_, _%_, _≤_, _<_}

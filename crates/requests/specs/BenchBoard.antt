@@ -1,5 +1,5 @@
--- Request 2.9, "the bench board": another board word is 33, the gauge answers as before, the bench accepts what the gauge accepts and the bench can hold, and what is
--- accepted under some limits every call answers alike under higher ones. Assumes nothing.
+-- Request 2.9, "the bench board": another board word is 33, the gauge answers as before, the bench accepts what the gauge accepts and the
+-- bench can hold, and what is accepted under some limits every call answers alike under higher ones. Assumes nothing.
 use mathlib.Core.Path.{_≡_, refl, sym, _∙_, ap, subst}
 use mathlib.Core.Bool.{not}
 use mathlib.Core.List.{List, [], _∷_, _++_, List·Memᴰ as In, List·Memᴰ·head as here, List·Memᴰ·tail as there, Memᴰ·append-right}
@@ -19,7 +19,10 @@ use Rattle.meaning.specs.Loops.{instances}
 use Rattle.meaning.specs.Space.{processes}
 use Rattle.meaning.specs.Description.{descriptionOf, streamsOf, written}
 use Rattle.meaning.specs.Accept.{refused33, byteTests, nestTests, streamTests, testsFrom, refusalOf, accept, Accepts}
-use Rattle.meaning.specs.Conditions.{Known, Condition, Condition.Board, Condition.Begins, Condition.Sizes-fit, Condition.Long, Condition.Words-fit, Condition.Bounds-fit, Condition.Instances, Condition.Place-rank, Condition.Increment, Condition.Processes, Condition.Rank, Condition.Line, Condition.Move, Condition.Hop, Condition.Order, Condition.Loading, Condition.Touched, Asks, numberOf}
+use Rattle.meaning.specs.Conditions.{Known, Condition, Condition.Board, Condition.Begins, Condition.Sizes-fit, Condition.Long}
+use Rattle.meaning.specs.Conditions.{Condition.Words-fit, Condition.Bounds-fit, Condition.Instances, Condition.Place-rank}
+use Rattle.meaning.specs.Conditions.{Condition.Increment, Condition.Processes, Condition.Rank, Condition.Line, Condition.Move}
+use Rattle.meaning.specs.Conditions.{Condition.Hop, Condition.Order, Condition.Loading, Condition.Touched, Asks, numberOf}
 use Rattle.meaning.specs.Alike.{DeclinedBy}
 use Rattle.meaning.specs.BenchBoard.{formerAccept, OnBench, TheBenchBoard}
 use Rattle.geometry.specs.Descriptions.{walk-passes, walk-tests}
@@ -62,7 +65,8 @@ module _ (s : List ℕ) where
   no-other : (board : ℕ) → accept (limitsOf board) s ≡ Refused 33 → 1 < board
   no-other board e =
       let f = refused-exactly (limitsOf board) s 33 .0 e in
-      let broken : Known (limitsOf board) → ⊥ = subst (λ (c : Condition). Asks (limitsOf board) s c → ⊥) (sym (only-board (f .failed) (f .number))) (f .fails) in
+      let broken : Known (limitsOf board) → ⊥ = subst (λ (c : Condition). Asks (limitsOf board) s c → ⊥)
+      (sym (only-board (f .failed) (f .number))) (f .fails) in
       omega (arith, broken)
 
   gauge-as-before : accept gaugeLimits s ≡ formerAccept s
@@ -112,8 +116,10 @@ module _ (s : List ℕ) where
   on-bench : Accepts benchLimits s → Accepts gaugeLimits s × OnBench s
   on-bench e =
       let r = accepted-not-refused benchLimits s e in
-      let h = held benchLimits r in
-      (accepts gaugeLimits (sym (higher benchLimits gaugeLimits bench-up-to (omega arith) e) ∙ r), record { instances = h .0; processes = h .1 })
+      let h = held benchLimits r in (
+        accepts gaugeLimits (sym (higher benchLimits gaugeLimits bench-up-to (omega arith) e) ∙ r),
+        record { instances = h .0; processes = h .1 },
+      )
 
 -- REQUEST 2.9
 pub bench-board : TheBenchBoard

@@ -1,4 +1,5 @@
--- The lines of a description: each is that of its number, as each stream is, and those of one that meets the conditions have words in range. Assumes nothing.
+-- The lines of a description: each is that of its number, as each stream is, and those of one that meets the conditions have words in
+-- range. Assumes nothing.
 use mathlib.Core.Path.{_≡_, refl, sym, _∙_, ap, subst}
 use mathlib.Core.Bool.{Bool, true, false}
 use mathlib.Core.List.{List, _++_, map, List·Memᴰ as In, Memᴰ·map as in-map}
@@ -40,7 +41,8 @@ decoded u z =
 module _ {A : Type 0} (f : ℕ → A) (n : ℕ) (rest : List A) where
   parts-are : take n (map f (numbers n) ++ rest) ≡ map f (numbers n)
   parts-are =
-      subst (λ (k : ℕ). take k (map f (numbers n) ++ rest) ≡ map f (numbers n)) (length-numbers f 0 n) (take-append-seam (map f (numbers n)) rest)
+      subst (λ (k : ℕ). take k (map f (numbers n) ++ rest) ≡ map f (numbers n)) (length-numbers f 0 n)
+      (take-append-seam (map f (numbers n)) rest)
 
   part-at : (d : A) (i : ℕ) → i < n → getD (take n (map f (numbers n) ++ rest)) i d ≡ f i
   part-at d i h = ap (λ (l : List A). getD l i d) parts-are ∙ getD-first f d n i h
@@ -85,7 +87,8 @@ module _ (s : List ℕ) where
 
   pub of-line : (i : ℕ) → i < z .lines → In (bodyLine s z i) (linesOf (descriptionOf s))
   unfolding descriptionOf
-  of-line i h = subst (In (bodyLine s z i)) (sym (lines-are s z)) (in-map (bodyLine s z) (in-numbers 0 (z .lines) i (omega arith) (omega arith)))
+  of-line i h =
+      subst (In (bodyLine s z i)) (sym (lines-are s z)) (in-map (bodyLine s z) (in-numbers 0 (z .lines) i (omega arith) (omega arith)))
 
   pub line-at : (i : ℕ) → i < z .lines → getD (linesOf (descriptionOf s)) i noLine ≡ bodyLine s z i
   unfolding descriptionOf

@@ -1,4 +1,5 @@
--- Request 2.7: the divisors in Accept's answer are those that the shortening rule takes out, and tell how far apart values and working processes lie. Assumes nothing.
+-- Request 2.7: the divisors in Accept's answer are those that the shortening rule takes out, and tell how far apart values and working
+-- processes lie. Assumes nothing.
 use mathlib.Core.Path.{_≡_, refl, sym, _∙_, ap, subst}
 use mathlib.Core.Logic.{_↔_}
 use mathlib.Core.Bool.{Bool, true, false}

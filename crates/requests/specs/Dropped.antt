@@ -1,5 +1,5 @@
--- A test that Accept once had between its others. Where those before it pass and it applied, its number was given, and now the answer is that of those after
--- it; elsewhere the answer is what it was. Assumes nothing.
+-- A test that Accept once had between its others. Where those before it pass and it applied, its number was given, and now the answer is
+-- that of those after it; elsewhere the answer is what it was. Assumes nothing.
 use mathlib.Core.Path.{_≡_, refl, sym, _∙_, ap}
 use mathlib.Core.Bool.{Bool, cond}
 use mathlib.Core.List.{List, [], _∷_, _++_, List·Memᴰ as In, List·Memᴰ·head as here, List·Memᴰ·tail as there}

@@ -1,5 +1,5 @@
--- Request 2.8, "five places are enough": what has no moving hop from 6 to 8 is answered as before, what has one is refused by 14 or by what comes before
--- it, and no answer becomes another one than 14. Assumes nothing.
+-- Request 2.8, "five places are enough": what has no moving hop from 6 to 8 is answered as before, what has one is refused by 14 or by what
+-- comes before it, and no answer becomes another one than 14. Assumes nothing.
 use mathlib.Core.Path.{_≡_, refl, sym, _∙_, ap, subst}
 use mathlib.Core.Logic.{_⊎_, inl, inr}
 use mathlib.Core.Bool.{Bool, true, false}
@@ -17,11 +17,15 @@ use Rattle.meaning.specs.Loops.{stepOf}
 use Rattle.meaning.specs.Points.{Between}
 use Rattle.meaning.specs.Description.{sizesOf, descriptionOf}
 use Rattle.meaning.specs.Accept.{accept}
-use Rattle.meaning.specs.Conditions.{Condition, Condition.Board, Condition.Begins, Condition.Sizes-fit, Condition.Long, Condition.Words-fit, Condition.Bounds-fit, Condition.Instances, Condition.Place-rank, Condition.Increment, Condition.Processes, Condition.Rank, Condition.Line, Condition.Move, Condition.Hop, Condition.Order, Condition.Loading, Condition.Touched, Asks, numberOf, ofStream, conditions}
+use Rattle.meaning.specs.Conditions.{Condition, Condition.Board, Condition.Begins, Condition.Sizes-fit, Condition.Long, Condition.Words-fit}
+use Rattle.meaning.specs.Conditions.{Condition.Bounds-fit, Condition.Instances, Condition.Place-rank, Condition.Increment}
+use Rattle.meaning.specs.Conditions.{Condition.Processes, Condition.Rank, Condition.Line, Condition.Move, Condition.Hop, Condition.Order}
+use Rattle.meaning.specs.Conditions.{Condition.Loading, Condition.Touched, Asks, numberOf, ofStream, conditions}
 use Rattle.meaning.specs.FivePlaces.{LongHop, RefusedByThen, FivePlacesAreEnough}
 use Rattle.lists.specs.Members.{in-each, each-in, in-numbers, numbers-in}
 use Rattle.guarantee.specs.Acceptance.{refused-exactly}
-use Rattle.requests.specs.Answered.{Answered, Answered.meets, Answered.fails, answered, Listed, both-accept, both-refuse, same-answer, alike}
+use Rattle.requests.specs.Answered.{Answered, Answered.meets, Answered.fails, answered, Listed, both-accept, both-refuse, same-answer}
+use Rattle.requests.specs.Answered.{alike}
 
 -- ---- hops are listed for the streams in use
 
@@ -147,7 +151,8 @@ module _ (board : ℕ) (s : List ℕ) where
   only-fourteen : (accept (limitsOf board) s ≡ accept (formerLimits board) s) ⊎ (accept (limitsOf board) s ≡ Refused 14)
   only-fourteen = go (answered (limitsOf board) s)
     where
-      go : Answered (limitsOf board) s → (accept (limitsOf board) s ≡ accept (formerLimits board) s) ⊎ (accept (limitsOf board) s ≡ Refused 14)
+      go : Answered (limitsOf board) s
+          → (accept (limitsOf board) s ≡ accept (formerLimits board) s) ⊎ (accept (limitsOf board) s ≡ Refused 14)
       go (meets m) = inl (both-accept widened m)
       go (fails k f) = by (compared (f .failed))
         where

@@ -1,4 +1,5 @@
--- Request 2.1, "fixed point products": an operation word of 6 no longer meets refusal 4, and the plain run and the network have it. Assumes nothing.
+-- Request 2.1, "fixed point products": an operation word of 6 no longer meets refusal 4, and the plain run and the network have it.
+-- Assumes nothing.
 use mathlib.Core.Path.{_≡_, refl, sym, ap}
 use mathlib.Core.Logic.{_↔_}
 use mathlib.Core.List.{List}
@@ -15,7 +16,8 @@ use Rattle.meaning.specs.Points.{Between}
 use Rattle.meaning.specs.Description.{sizesOf, lineAt, bodyLine, descriptionOf, linesOf}
 use Rattle.meaning.specs.Accept.{refusalOf, answerOf, accept}
 use Rattle.meaning.specs.Conditions.{WordsFit}
-use Rattle.meaning.specs.FixedPoint.{testsBefore, HasSix, hasSix, testsAfter, formerTests, formerAccept, conditionsBefore, conditionsAfter, WasFour, FixedPoint}
+use Rattle.meaning.specs.FixedPoint.{testsBefore, HasSix, hasSix, testsAfter, formerTests, formerAccept, conditionsBefore, conditionsAfter}
+use Rattle.meaning.specs.FixedPoint.{WasFour, FixedPoint}
 use Rattle.geometry.specs.Tests.{numbered}
 use Rattle.network.specs.Decide.{Says}
 use Rattle.guarantee.specs.StreamConditions.{says-line}
@@ -39,7 +41,8 @@ module _ (l : Limits) (s : List ℕ) where
 
   four : Dropped l s conditionsBefore (conditionsAfter (sizesOf s .streams)) (HasSix d) 4 (refusal (formerTests l s))
   unfolding refusalOf numbered
-  four = dropped l s conditionsBefore (conditionsAfter (sizesOf s .streams)) (testsBefore l s) (testsAfter l s) 4 (says-six d) refl tt (tries l s) refl
+  four = dropped l s conditionsBefore (conditionsAfter (sizesOf s .streams)) (testsBefore l s) (testsAfter l s) 4
+      (says-six d) refl tt (tries l s) refl
 
   as-before : (WasFour l s → ⊥) → accept l s ≡ formerAccept l s
   unfolding accept
@@ -58,7 +61,8 @@ module _ (l : Limits) (s : List ℕ) where
         let u = bitsAt s (lineAt z i) in
         let m : u ≤ 6 = bits-most u 6 (f .operation i h) in
         between-bits u 5 (not-six u m (λ e. none (bodyLine s z i, of-line s i h, e))) (omega arith),
-    λ five p. let r = line-of s (p .1) in omega (arith, bits-most (bitsAt s (lineAt z (r .0))) 5 (five (r .0) (r .1)), ap (λ (u : Line). u .operation) (r .2), p .2),
+    λ five p. let r = line-of s (p .1) in
+        omega (arith, bits-most (bitsAt s (lineAt z (r .0))) 5 (five (r .0) (r .1)), ap (λ (u : Line). u .operation) (r .2), p .2),
   )
     where
       not-six : (u : ℕ) → u ≤ 6 → (u ≡ 6 → ⊥) → u ≤ 5

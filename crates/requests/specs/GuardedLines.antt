@@ -1,5 +1,5 @@
--- Request 2.5, "guards on body lines": descriptions of the older length are declined by 3, guards out of range by 4, and a line runs only if its index compares
--- so. Assumes nothing.
+-- Request 2.5, "guards on body lines": descriptions of the older length are declined by 3, guards out of range by 4, and a line runs only
+-- if its index compares so. Assumes nothing.
 use mathlib.Core.Path.{_≡_, refl, sym, subst}
 use mathlib.Core.List.{List, [], _∷_, List·Memᴰ as In, List·Memᴰ·head as here, List·Memᴰ·tail as there}
 use Prim.Native.Nat.{ℕ, _+_, _*_, _-_, _^_, _<_}
@@ -15,7 +15,8 @@ use Rattle.meaning.specs.Operations.{lastOperation}
 use Rattle.meaning.specs.Guards.{indexOf}
 use Rattle.meaning.specs.Description.{sizesOf, bodyLine, noLine, descriptionOf, linesOf}
 use Rattle.meaning.specs.Accept.{accept, Accepts}
-use Rattle.meaning.specs.Conditions.{Known, SizesFit, formerTotal, GuardFits, WordsFit, Meets, Condition, Condition.Board, Condition.Begins, Condition.Sizes-fit, Condition.Long, Condition.Words-fit, Asks}
+use Rattle.meaning.specs.Conditions.{Known, SizesFit, formerTotal, GuardFits, WordsFit, Meets, Condition, Condition.Board, Condition.Begins}
+use Rattle.meaning.specs.Conditions.{Condition.Sizes-fit, Condition.Long, Condition.Words-fit, Asks}
 use Rattle.meaning.specs.FixedPoint.{conditionsAfter}
 use Rattle.meaning.specs.Alike.{DeclinedBy}
 use Rattle.meaning.specs.Leaves.{Compares, Compares.always, Runs}

@@ -7,7 +7,8 @@ use lib.Signed.{_≤ℤ_}
 use Rattle.integers.specs.declared.V3.{V3}
 use Rattle.meaning.specs.declared.Line.{Line}
 use Rattle.meaning.specs.Guards.{lastComparison, indexOf, compares, admits}
-use Rattle.meaning.specs.Leaves.{Index, Index.of-first, Index.of-second, Index.of-third, Compares, Compares.always, Compares.equal, Compares.at-most, Compares.at-least, Runs}
+use Rattle.meaning.specs.Leaves.{Index, Index.of-first, Index.of-second, Index.of-third, Compares, Compares.always, Compares.equal}
+use Rattle.meaning.specs.Leaves.{Compares.at-most, Compares.at-least, Runs}
 use Rattle.network.specs.Decide.{Says, Says.holds, says-as}
 use Rattle.guarantee.specs.Refusals.{says-eqZ, says-leZ}
 

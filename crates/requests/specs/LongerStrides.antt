@@ -1,5 +1,5 @@
--- Request 2.2, "longer strides": Accept without refusal 9 beside Accept with it. What was refused by 9 is answered by what comes after it, all else as
--- before, and first and last of Table's rows are outermost. Assumes nothing.
+-- Request 2.2, "longer strides": Accept without refusal 9 beside Accept with it. What was refused by 9 is answered by what comes after it,
+-- all else as before, and first and last of Table's rows are outermost. Assumes nothing.
 use mathlib.Core.Path.{_≡_, refl, sym, _∙_, ap, subst}
 use mathlib.Core.List.{List, List·Memᴰ·head as here, List·Memᴰ·tail as there}
 use Prim.Native.Nat.{ℕ}
@@ -13,7 +13,8 @@ use Rattle.meaning.specs.Points.{IsLine}
 use Rattle.meaning.specs.Description.{sizesOf, descriptionOf}
 use Rattle.meaning.specs.Accept.{refusalOf, answerOf, accept}
 use Rattle.meaning.specs.Conditions.{Small, Condition.Place-rank, Condition.Increment}
-use Rattle.meaning.specs.LongerStrides.{formerNine, testsBefore, testsAfter, formerTests, formerAccept, conditionsBefore, conditionsAfter, WasNine, LongerStrides}
+use Rattle.meaning.specs.LongerStrides.{formerNine, testsBefore, testsAfter, formerTests, formerAccept, conditionsBefore, conditionsAfter}
+use Rattle.meaning.specs.LongerStrides.{WasNine, LongerStrides}
 use Rattle.geometry.specs.Tests.{numbered}
 use Rattle.geometry.specs.Lines.{line-unique}
 use Rattle.network.specs.Decide.{Says, says-as, says-and, says-not}
@@ -51,7 +52,8 @@ module _ (l : Limits) (s : List ℕ) where
   nine : Dropped l s conditionsBefore (conditionsAfter (sizesOf s .streams)) (Short (increment n) → ⊥) 9 (refusal (formerTests l s))
   unfolding refusalOf numbered
   nine =
-      dropped l s conditionsBefore (conditionsAfter (sizesOf s .streams)) (testsBefore l s) (testsAfter l s) 9 (says-stride n) refl tt (tries l s) refl
+      dropped l s conditionsBefore (conditionsAfter (sizesOf s .streams)) (testsBefore l s) (testsAfter l s) 9
+      (says-stride n) refl tt (tries l s) refl
 
   -- ---- the claims
 

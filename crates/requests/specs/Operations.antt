@@ -7,7 +7,8 @@ use native.Mathlib.Omega.{arith}
 use lib.Dec.{ltb}
 use borrow.Author.Tests.{ltb-true, ltb-false}
 use Rattle.meaning.specs.Operations.{modulus, lastOperation, operate}
-use Rattle.meaning.specs.Leaves.{Modulo, Divided, Puts, Puts.copies, Puts.adds, Puts.subtracts, Puts.multiplies, Puts.smaller, Puts.larger, Puts.fixed}
+use Rattle.meaning.specs.Leaves.{Modulo, Divided, Puts, Puts.copies, Puts.adds, Puts.subtracts, Puts.multiplies, Puts.smaller, Puts.larger}
+use Rattle.meaning.specs.Leaves.{Puts.fixed}
 
 -- ---- remainders and quotients
 
@@ -48,7 +49,8 @@ module _ {a b : ℕ} (wa : a < modulus) (wb : b < modulus) where
   -- a result of words is a word
   pub word-result : (op : ℕ) → op ≤ lastOperation → operate op a b < modulus
   word-result =
-      each-operation (λ op. operate op a b < modulus) wa (remainder (a + b) .word) (remainder (a + (modulus - b)) .word) (remainder (a * b) .word)
+      each-operation (λ op. operate op a b < modulus) wa (remainder (a + b) .word) (remainder (a + (modulus - b)) .word)
+      (remainder (a * b) .word)
       (chosen (λ r. r < modulus) b a b a (λ _. wb) (λ _. wa)) (chosen (λ r. r < modulus) a b b a (λ _. wb) (λ _. wa))
       (remainder (a * b / 2 ^ 16) .word)
 

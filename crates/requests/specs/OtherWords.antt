@@ -1,4 +1,5 @@
--- Of a line Accept looks at its target, and whether its words are in range: two descriptions that differ in nothing else are answered alike. Assumes nothing.
+-- Of a line Accept looks at its target, and whether its words are in range: two descriptions that differ in nothing else are answered
+-- alike. Assumes nothing.
 use mathlib.Core.Path.{_≡_, refl, sym, _∙_, ap, ap₂}
 use mathlib.Core.Bool.{Bool, true, false, not, cond}
 use mathlib.Core.List.{List, [], _∷_, _++_, map}
@@ -24,7 +25,9 @@ use Rattle.meaning.specs.declared.Acceptance.{Acceptance}
 use Rattle.meaning.specs.declared.Acceptance.the-variants.{Accepted, Refused}
 use Rattle.meaning.specs.Tests.{_if_, refusal}
 use Rattle.meaning.specs.Lists.{any, numbersFrom}
-use Rattle.meaning.specs.Description.{sizesOf, matrixWords, leftAt, rightAt, directionAt, stepAt, placeAt, mapAt, loadingAt, lineAt, wordsOf, inRange, vectorAt, unit3, matrixAt, nestOf, loadingOf, streamOf, bodyLine, noStream, descriptionOf, streamsOf, written, refused1, refused2, refused3, refused4}
+use Rattle.meaning.specs.Description.{sizesOf, matrixWords, leftAt, rightAt, directionAt, stepAt, placeAt, mapAt, loadingAt, lineAt}
+use Rattle.meaning.specs.Description.{wordsOf, inRange, vectorAt, unit3, matrixAt, nestOf, loadingOf, streamOf, bodyLine, noStream}
+use Rattle.meaning.specs.Description.{descriptionOf, streamsOf, written, refused1, refused2, refused3, refused4}
 use Rattle.meaning.specs.Accept.{refused33, nestTests, testsFrom, refusalOf, figures, divisors, accept}
 use Rattle.meaning.specs.Conditions.{SizesFit}
 use Rattle.lists.specs.Rows.{same-numbers, same-every}
@@ -41,7 +44,8 @@ module _ (l : Limits) where
   answered u z d =
       let k =
       refusal
-      ((33 if refused33 l) ∷ (1 if refused1 u) ∷ (2 if refused2 z) ∷ (3 if refused3 u z) ∷ (4 if refused4 u z) ∷ (nestTests l (d .nest) ++ testsFrom l d 0 (streamsOf d))) in
+      ((33 if refused33 l) ∷ (1 if refused1 u) ∷ (2 if refused2 z) ∷ (3 if refused3 u z) ∷ (4 if refused4 u z)
+      ∷ (nestTests l (d .nest) ++ testsFrom l d 0 (streamsOf d))) in
       cond (eqb k 0) (Accepted (figures d) (divisors d)) (Refused k)
 
   accept-is : (u : List ℕ) → accept l u ≡ answered u (sizesOf u) (decoded u (sizesOf u))
@@ -49,7 +53,8 @@ module _ (l : Limits) where
   accept-is u = refl
 
   -- sizes that do not fit are refused before anything is decoded
-  by-sizes : (u : List ℕ) (z : Sizes) (d : Description) → refused2 z ≡ true → answered u z d ≡ Refused (cond (refused33 l) 33 (cond (refused1 u) 1 2))
+  by-sizes : (u : List ℕ) (z : Sizes) (d : Description) → refused2 z ≡ true
+      → answered u z d ≡ Refused (cond (refused33 l) 33 (cond (refused1 u) 1 2))
   unfolding refusal
   by-sizes u z d e = rw e (go (refused33 l) (refused1 u))
     where
@@ -105,7 +110,8 @@ module _ {s t : List ℕ} (o : OtherWords s t) where
 
   words-same : refused4 s z ≡ refused4 t z
   words-same =
-      ap not (same-every (λ k. inRange z k (wordAt s k)) (λ k. inRange z k (wordAt t k)) 3 (wordsOf z - 3) (λ k l m. range-same k l (omega arith)))
+      ap not
+      (same-every (λ k. inRange z k (wordAt s k)) (λ k. inRange z k (wordAt t k)) 3 (wordsOf z - 3) (λ k l m. range-same k l (omega arith)))
 
   -- ---- what stands before the body
 
@@ -151,13 +157,17 @@ module _ {s t : List ℕ} (o : OtherWords s t) where
     stream-same : (i : ℕ) → i < z .streams → streamOf s z i ≡ streamOf t z i
     unfolding streamOf
     stream-same i m =
-        rw (matrix-same (mapAt z i) (omega (arith, part m (matrixWords z))), loading-same (loadingAt z i) (omega (arith, part m (z .loops - 1))))
+        rw (
+          matrix-same (mapAt z i) (omega (arith, part m (matrixWords z))),
+          loading-same (loadingAt z i) (omega (arith, part m (z .loops - 1))),
+        )
       where
         loading-same : (k : ℕ) → k + (z .loops - 1) ≤ lineAt z 0 → loadingOf s z k ≡ loadingOf t z k
         loading-same k m = go (eqb (z .loops) 2) (eqb-false (z .loops) 2)
           where
             go : (b : Bool) → (b ≡ false → z .loops ≡ 2 → ⊥)
-                → _≡_ {A = V2} (record { a = wordAt s k; b = cond b (pos 0) (wordAt s (k + 1)) }) (record { a = wordAt t k; b = cond b (pos 0) (wordAt t (k + 1)) })
+                → _≡_ {A = V2} (record { a = wordAt s k; b = cond b (pos 0) (wordAt s (k + 1)) })
+                (record { a = wordAt t k; b = cond b (pos 0) (wordAt t (k + 1)) })
             go true f = rw (word k (omega (arith, h .loops)))
             go false f = let n = three (f refl) in rw (word k (omega arith), word (k + 1) (omega arith))
 
@@ -194,5 +204,6 @@ module _ {s t : List ℕ} (o : OtherWords s t) where
           ∙ sym (by-sizes l t z (decoded t z) e) ∙ sym other
       go false e (met h) =
           accept-is l s
-          ∙ answered-same l (decoded s z) (decoded t z) (nest-same h) written-same s t z (ap (take (z .streams)) (streams-same h)) (o .long) words-same
+          ∙ answered-same l (decoded s z) (decoded t z) (nest-same h) written-same s t z (ap (take (z .streams)) (streams-same h))
+          (o .long) words-same
           ∙ sym other

@@ -1,5 +1,5 @@
--- First and last of a computing process's row, as Table leaves it, are the outermost whole points of the process's own line in the bounds. Nothing is
--- asked of the increment's components. Assumes nothing.
+-- First and last of a computing process's row, as Table leaves it, are the outermost whole points of the process's own line in the bounds.
+-- Nothing is asked of the increment's components. Assumes nothing.
 use mathlib.Core.Path.{_≡_, refl, sym, _∙_, ap, subst}
 use mathlib.Core.List.{List}
 use Prim.Native.Nat.{ℕ, _≤_, _<_}

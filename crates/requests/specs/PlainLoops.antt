@@ -1,4 +1,5 @@
--- The loops, a line at a time by whether it runs and what its operation puts, leave exactly what the plain run computes, for words. Assumes nothing.
+-- The loops, a line at a time by whether it runs and what its operation puts, leave exactly what the plain run computes, for words.
+-- Assumes nothing.
 use mathlib.Core.Path.{_≡_, refl, sym, _∙_, ap, subst}
 use mathlib.Core.Logic.{_⊎_, inl, inr, _↔_}
 use mathlib.Core.Bool.{Bool, cond}
@@ -14,7 +15,8 @@ use Rattle.meaning.specs.Guards.{admits}
 use Rattle.meaning.specs.Description.{linesOf}
 use Rattle.meaning.specs.Body.{resultOf, runLine, runLines, touchedBy, gather, scatter, execute, executeAll}
 use Rattle.meaning.specs.Lines.{line-leaves}
-use Rattle.meaning.specs.Leaves.{Runs, LinesLeave, LinesLeave.none as lines-end, LinesLeave.runs, LinesLeave.stays, LoopsLeave, LoopsLeave.none as loops-end, LoopsLeave.next as instance, Words}
+use Rattle.meaning.specs.Leaves.{Runs, LinesLeave, LinesLeave.none as lines-end, LinesLeave.runs, LinesLeave.stays, LoopsLeave}
+use Rattle.meaning.specs.Leaves.{LoopsLeave.none as loops-end, LoopsLeave.next as instance, Words}
 use Rattle.lists.specs.Members.{map-in}
 use Rattle.lists.specs.Stores.{scatter-first}
 use Rattle.network.specs.Decide.{Says, Says.holds, Says.fails, says-true}
@@ -40,7 +42,8 @@ words-scatter : (store es vs : List ℕ) → Words store → Words vs → Words 
 unfolding scatter
 words-scatter store [] vs w u = w
 words-scatter store (e ∷ es) [] w u = w
-words-scatter store (e ∷ es) (v ∷ vs) w u = words-scatter (set store e v) es vs (words-set store e v w (u v (here refl))) (λ t j. u t (there j))
+words-scatter store (e ∷ es) (v ∷ vs) w u =
+    words-scatter (set store e v) es vs (words-set store e v w (u v (here refl))) (λ t j. u t (there j))
 
 -- as an instance begins
 words-gather : (store es : List ℕ) → Words store → Words (gather store es ++ (0 ∷ 0 ∷ []))
@@ -63,7 +66,8 @@ module _ (x : V3) where
 
   words-after : (t : Line) (vs : List ℕ) → Allowed t → Words vs → Words (after t vs)
   words-after t vs h w =
-      words-set vs (t .target) (resultOf t vs) w (word-result (word-at vs w (t .first)) (word-at vs w (t .second)) (t .operation) (h .operation))
+      words-set vs (t .target) (resultOf t vs) w
+      (word-result (word-at vs w (t .first)) (word-at vs w (t .second)) (t .operation) (h .operation))
 
   words-line : (t : Line) (vs : List ℕ) → Allowed t → Words vs → Words (runLine x t vs)
   words-line t vs h w = line-leaves x Words t vs (words-after t vs h w) w
@@ -87,7 +91,8 @@ module _ (x : V3) where
       go : {b : Bool} → Says (Runs x t) b → ((us : List ℕ) → Words us → LinesLeave x ts us (runLines x ts us))
           → LinesLeave x (t ∷ ts) vs (runLines x ts (cond b (after t vs) vs))
       go (holds r) ih =
-          runs r (puts-exactly (word-at vs w (t .first)) (word-at vs w (t .second)) (h .operation) .1 refl) (ih (after t vs) (words-after t vs h w))
+          runs r (puts-exactly (word-at vs w (t .first)) (word-at vs w (t .second)) (h .operation) .1 refl)
+          (ih (after t vs) (words-after t vs h w))
       go (fails n) ih = stays n (ih vs w)
 
   -- a line that runs, and one that does not

@@ -1,5 +1,5 @@
--- Request 2.4, "walk by process": a whole walk comes to every instance exactly once and to nothing else, in that order, and Accept answers every description as
--- before. Assumes nothing.
+-- Request 2.4, "walk by process": a whole walk comes to every instance exactly once and to nothing else, in that order, and Accept answers
+-- every description as before. Assumes nothing.
 use mathlib.Core.Path.{_≡_, refl, sym, _∙_, ap, ap₂}
 use mathlib.Core.Logic.{_⊎_, inl, inr}
 use mathlib.Core.Bool.{Bool, true, false, not, cond}
@@ -37,8 +37,8 @@ walking-same : (l : Limits) (d : Description) → Layout (d .nest) → (i : ℕ)
 unfolding walkingFrom testsFrom
 walking-same l d layout i [] = refl
 walking-same l d layout i (s ∷ ss) =
-    ap₂ (λ (b : Bool) (t : List Test). (take 6 (streamTests l (d .nest) (written d i) s) ++ ((17 if b) ∷ [])) ++ t) (untouched-same layout s)
-    (walking-same l d layout (suc i) ss)
+    ap₂ (λ (b : Bool) (t : List Test). (take 6 (streamTests l (d .nest) (written d i) s) ++ ((17 if b) ∷ [])) ++ t)
+    (untouched-same layout s) (walking-same l d layout (suc i) ss)
 
 -- ---- numbers
 
@@ -92,7 +92,8 @@ module _ (l : Limits) (s : List ℕ) where
       go : Dec (walkRefusal l s ≡ 0) → refusal (walkTests l s ++ walkingFrom l d 0 (streamsOf d)) ≡ refusalOf l s
       go (yes e) = ap (λ (t : List Test). refusal (walkTests l s ++ t)) (walking-same l d (walk-layout l s e) 0 (streamsOf d))
       go (no f) =
-          sym (one-applies (walkTests l s) (walkingFrom l d 0 (streamsOf d)) f) ∙ one-applies (walkTests l s) (testsFrom l d 0 (streamsOf d)) f
+          sym (one-applies (walkTests l s) (walkingFrom l d 0 (streamsOf d)) f)
+          ∙ one-applies (walkTests l s) (testsFrom l d 0 (streamsOf d)) f
 
 -- REQUEST 2.4
 pub walk-by-process : (l : Limits) (s : List ℕ) → WalkByProcess l s

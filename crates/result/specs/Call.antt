@@ -51,7 +51,8 @@ module _ {s b : List ℕ} {z : Size} {received state : List ℕ} (h : Drawable s
   own : n ≡ refusal (testsOf s state output)
   own =
       r
-      ∙ ap₂ (λ (out : Bool) (e : ℕ). refusal (resultTests out (eqb (length output) e))) (o ∙ all-out gaugeLimits s (h .planned) (h .size) state) (h .long)
+      ∙ ap₂ (λ (out : Bool) (e : ℕ). refusal (resultTests out (eqb (length output) e)))
+      (o ∙ all-out gaugeLimits s (h .planned) (h .size) state) (h .long)
 
   -- none of them applies
   module _ (none : n ≡ 0) {d : Description} (e : d ≡ descriptionOf s) where

@@ -49,7 +49,8 @@ module _ {d : Description} (h : Placeable d) {places : List ℕ} (of : PlacesOf 
         }
 
     pub ordered : {out : List ℕ} → out ≡ fillBy (placed received places) (length received) output → out ≡ elementOrder d received
-    ordered o = o ∙ ext-getD 0 _ _ (size ∙ sym (length-map (numbers (lengthOf d)) at ∙ numbers-length 0 (lengthOf d))) (λ k l. go k (omega (arith, size)))
+    ordered o = o ∙ ext-getD 0 _ _ (size ∙ sym (length-map (numbers (lengthOf d)) at ∙ numbers-length 0 (lengthOf d)))
+        (λ k l. go k (omega (arith, size)))
       where
         at : ℕ → ℕ
         at e = getD received (placeOfElement d e) 0
@@ -57,7 +58,8 @@ module _ {d : Description} (h : Placeable d) {places : List ℕ} (of : PlacesOf 
         size : length (fillBy (placed received places) (length received) output) ≡ lengthOf d
         size = fill-length (placed received places) (length received) output ∙ lo
 
-        go : (k : ℕ) → k < lengthOf d → getD (fillBy (placed received places) (length received) output) k 0 ≡ getD (elementOrder d received) k 0
+        go : (k : ℕ) → k < lengthOf d
+            → getD (fillBy (placed received places) (length received) output) k 0 ≡ getD (elementOrder d received) k 0
         go k l =
             fill-at (placed received places) (length received) k output 0 (omega (arith, lr)) (omega (arith, lr, lo))
             ∙ ap (λ (i : ℕ). getD received i 0) (of .places k l)

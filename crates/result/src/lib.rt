@@ -99,9 +99,11 @@ pub fn result(
     state: &[u32],
 ) -> Answer
     ensures { λ r. ⌜ (r
-        ≡ result (limitsOf board) (now (s .entry)) (now (output .entry)) (memoryOf (now (waiting .entry)) (now (received .entry)) (now (state .entry))) .answer)
+        ≡ result (limitsOf board) (now (s .entry)) (now (output .entry))
+        (memoryOf (now (waiting .entry)) (now (received .entry)) (now (state .entry))) .answer)
         × (now (output .exit)
-        ≡ result (limitsOf board) (now (s .entry)) (now (output .entry)) (memoryOf (now (waiting .entry)) (now (received .entry)) (now (state .entry))) .output) ⌝ }
+        ≡ result (limitsOf board) (now (s .entry)) (now (output .entry))
+        (memoryOf (now (waiting .entry)) (now (received .entry)) (now (state .entry))) .output) ⌝ }
 {
     let mut spans = [0u32; SPANS];
     let mut ports = [0u32; PORTS];

@@ -18,11 +18,13 @@ use Rattle.run_steps.specs.Runs.{Ended, any-left}
 
 -- what it answers and leaves once the memory is opened
 pub record RanBy (s : List ℕ) (steps : ℕ) (M : Memory) (r : Ran.Ran) (M' : Memory) : Type 0 where
-  pub answers : r ≡ Ran.the-variants.Ran (length (runSteps (arrayOf (descriptionOf s)) steps M)) (anyReady (arrayOf (descriptionOf s)) (M' .state))
+  pub answers : r
+      ≡ Ran.the-variants.Ran (length (runSteps (arrayOf (descriptionOf s)) steps M)) (anyReady (arrayOf (descriptionOf s)) (M' .state))
   pub leaves : M' ≡ applyAll (arrayOf (descriptionOf s)) M (runSteps (arrayOf (descriptionOf s)) steps M)
 
 pub ran-by : {s b : List ℕ} {z : Size} {steps : ℕ} {M : Memory} {done : ℕ} {M' : Memory} {flags : List ℕ} {r : ℕ}
-    → Ended s b z steps M done M' flags → r ≡ position (flagAt b (M' .state) z) (numbers 32768) → RanBy s steps M (Ran.the-variants.Ran done (ltb r 32768)) M'
+    → Ended s b z steps M done M' flags → r ≡ position (flagAt b (M' .state) z) (numbers 32768)
+    → RanBy s steps M (Ran.the-variants.Ran done (ltb r 32768)) M'
 ran-by h e =
     record {
       answers = ap₂ Ran.the-variants.Ran (sym (h .count)) (sym (any-left (h .ready) e));
@@ -36,7 +38,11 @@ module _ (l : Limits) (s : List ℕ) (steps : ℕ) (M : Memory) {n : ℕ} (e : n
   unfolding run
   opened-call h t =
       let z : refusedBy l s (memoryTests (descriptionOf s) M) ≡ 0 = sym e ∙ h in
-      rw z (t .answers ∙ ap (λ (N : Memory). Ran.the-variants.Ran (length (runSteps (arrayOf (descriptionOf s)) steps M)) (anyReady (arrayOf (descriptionOf s)) (N .state))) (t .leaves), t .leaves)
+      rw z (
+        t .answers ∙ ap (λ (N : Memory). Ran.the-variants.Ran (length (runSteps (arrayOf (descriptionOf s)) steps M))
+            (anyReady (arrayOf (descriptionOf s)) (N .state))) (t .leaves),
+        t .leaves,
+      )
 
   pub refused-call : (n ≡ 0 → ⊥) → (Ran.the-variants.Refused n ≡ run l s steps M .answer) × (M ≡ run l s steps M .memory)
   unfolding run

@@ -65,9 +65,11 @@ pub fn run(
     received: &mut [u32],
     state: &mut [u32],
 ) -> Ran
-    ensures { λ r. ⌜ (r ≡ run (limitsOf board) (now (s .entry)) steps (memoryOf (now (waiting .entry)) (now (received .entry)) (now (state .entry))) .answer)
+    ensures { λ r. ⌜ (r ≡ run (limitsOf board) (now (s .entry)) steps
+        (memoryOf (now (waiting .entry)) (now (received .entry)) (now (state .entry))) .answer)
         × (memoryOf (now (waiting .entry)) (now (received .exit)) (now (state .exit))
-        ≡ run (limitsOf board) (now (s .entry)) steps (memoryOf (now (waiting .entry)) (now (received .entry)) (now (state .entry))) .memory) ⌝ }
+        ≡ run (limitsOf board) (now (s .entry)) steps
+        (memoryOf (now (waiting .entry)) (now (received .entry)) (now (state .entry))) .memory) ⌝ }
 {
     let mut spans = [0u32; SPANS];
     let mut ports = [0u32; PORTS];

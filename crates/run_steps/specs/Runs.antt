@@ -57,10 +57,19 @@ pub record Ended (s : List ℕ) (b : List ℕ) (z : Size) (steps : ℕ) (M : Mem
   pub count : length (runSteps (arrayOf (descriptionOf s)) steps M) ≡ done
   pub memory : applyAll (arrayOf (descriptionOf s)) M (runSteps (arrayOf (descriptionOf s)) steps M) ≡ M'
 
-pub partly-start : (s b : List ℕ) (z : Size) (steps : ℕ) (M : Memory) (flags : List ℕ) → Ready s b z M flags → Partly s b z steps M 0 M flags
+pub partly-start : (s b : List ℕ) (z : Size) (steps : ℕ) (M : Memory) (flags : List ℕ) → Ready s b z M flags
+    → Partly s b z steps M 0 M flags
 unfolding applyAll
 partly-start s b z steps M flags r =
-    record { ready = r; within = omega arith; words = refl; first = []; count = refl; memory = refl; rest = let e : steps - 0 ≡ steps = omega arith in rw e refl }
+    record {
+      ready = r;
+      within = omega arith;
+      words = refl;
+      first = [];
+      count = refl;
+      memory = refl;
+      rest = let e : steps - 0 ≡ steps = omega arith in rw e refl;
+    }
 
 -- one step, none
 apply-one : (A : Array) (M : Memory) (a : Step) → applyAll A M (a ∷ []) ≡ apply A M a
@@ -127,7 +136,8 @@ module _ {s : List ℕ} {b : List ℕ} {z : Size} {M : Memory} {flags : List ℕ
     any-left = any-ready (stand .size) (M .state) ∙ go (ltb r 32768) refl
       where
         go : (x : Bool) → ltb r 32768 ≡ x → ltb (position readyRank (numbers (rankCount z))) (rankCount z) ≡ x
-        go true u = let l = ltb-true r 32768 u in lt-ltb (position readyRank (numbers (rankCount z))) (rankCount z) (omega (arith, first-rank l, some-rank l))
+        go true u = let l = ltb-true r 32768 u in
+            lt-ltb (position readyRank (numbers (rankCount z))) (rankCount z) (omega (arith, first-rank l, some-rank l))
         go false u = le-ltb (position readyRank (numbers (rankCount z))) (rankCount z) (none-rank (ltb-false r 32768 u))
 
   -- the step of a rank that can be done is one of the array's, and ready
@@ -147,7 +157,8 @@ module _ {s : List ℕ} {b : List ℕ} {z : Size} {M : Memory} {flags : List ℕ
 
 -- ---- turns of the loop
 
-module _ {s b : List ℕ} {z : Size} {steps : ℕ} {M : Memory} {done : ℕ} {M' : Memory} {flags : List ℕ} (h : Partly s b z steps M done M' flags) where
+module _ {s b : List ℕ} {z : Size} {steps : ℕ} {M : Memory} {done : ℕ} {M' : Memory} {flags : List ℕ}
+    (h : Partly s b z steps M done M' flags) where
   abbrev B : Array
   B = arrayOf (descriptionOf s)
 
@@ -162,8 +173,8 @@ module _ {s b : List ℕ} {z : Size} {steps : ℕ} {M : Memory} {done : ℕ} {M'
   no-steps e zero = refl
   no-steps e (suc n) = rw e refl
 
-  pub partly-next : (a : Step) {M'' : Memory} {flags' : List ℕ} → done < steps → lowest B (M' .state) ≡ at a → M'' ≡ apply B M' a → Ready s b z M'' flags'
-      → length (M'' .state) ≡ length (M' .state) → Partly s b z steps M (done + 1) M'' flags'
+  pub partly-next : (a : Step) {M'' : Memory} {flags' : List ℕ} → done < steps → lowest B (M' .state) ≡ at a → M'' ≡ apply B M' a
+      → Ready s b z M'' flags' → length (M'' .state) ≡ length (M' .state) → Partly s b z steps M (done + 1) M'' flags'
   partly-next a {M''} l e m r w =
       record {
         ready = r;

@@ -32,7 +32,8 @@ use Rattle.addresses.specs.Indices.{word-count}
 use Rattle.opening.specs.Opening.{Grounds, grounds, Opened}
 use Rattle.opening.specs.Opened.{fits, waiting-fits, received-fits, stands, programmed, performs}
 use Rattle.run_steps.specs.Going.{long}
-use Rattle.run_steps.specs.Runs.{Started, Partly, sized, inside, some-rank, can-rank, lowest-at, rank-ready, opened-next, words-next, partly-next}
+use Rattle.run_steps.specs.Runs.{Started, Partly, sized, inside, some-rank, can-rank, lowest-at, rank-ready, opened-next, words-next}
+use Rattle.run_steps.specs.Runs.{partly-next}
 
 -- the rows of a port table lie in the table of words
 pub rows-in-table : {s : List ℕ} {M : Memory} {b : List ℕ} {z : Size} → Opened s M b z → RowsFit stateWordsMost b z
@@ -43,7 +44,8 @@ rows-in-table {s} {b = b} {z} o =
 
 -- what the tables are filled by
 module _ {s : List ℕ} {M : Memory} {b : List ℕ} {z : Size} (o : Opened s M b z) where
-  pub table-asks : (RowsFit stateWordsMost b z) × (Sized z) × (Apart b z) × (replicate {A = ℕ} (1 + stateWordsMost) 0 ≡ replicate (1 + stateWordsMost) 0)
+  pub table-asks : (RowsFit stateWordsMost b z) × (Sized z) × (Apart b z)
+      × (replicate {A = ℕ} (1 + stateWordsMost) 0 ≡ replicate (1 + stateWordsMost) 0)
   table-asks =
       let g = grounds s (o .accepted) in
       let f = fits g (o .stood) in (
@@ -57,8 +59,10 @@ module _ {s : List ℕ} {M : Memory} {b : List ℕ} {z : Size} (o : Opened s M b
   flags-ask = (fits (grounds s (o .accepted)) (o .stood), table-asks .1, kept-none)
 
   -- the loop starts
-  pub starts : {d : Description} {g : Program} {spans wakeups flags : List ℕ} → d ≡ descriptionOf s → g ≡ programOf d → Within 200 (g .increment)
-      → Spans (descriptionOf s .nest) spans → length spans ≡ 3072 → WakeupsOf b z wakeups → Kept (flagAt b (M .state) z) flags → Started s g b spans wakeups z M flags
+  pub starts : {d : Description} {g : Program} {spans wakeups flags : List ℕ} → d ≡ descriptionOf s → g ≡ programOf d
+      → Within 200 (g .increment)
+      → Spans (descriptionOf s .nest) spans → length spans ≡ 3072 → WakeupsOf b z wakeups → Kept (flagAt b (M .state) z) flags
+      → Started s g b spans wakeups z M flags
   starts e f w h l t k =
       let p = f ∙ ap programOf e in
       let i : Within 200 (increment (descriptionOf s .nest)) = rw p at w in
@@ -70,7 +74,8 @@ module _ {s : List ℕ} {M : Memory} {b : List ℕ} {z : Size} (o : Opened s M b
         kept = k;
       }
 
-module _ {s : List ℕ} {g : Program} {b spans wakeups : List ℕ} {z : Size} {M₀ : Memory} {flags₀ : List ℕ} (st : Started s g b spans wakeups z M₀ flags₀)
+module _ {s : List ℕ} {g : Program} {b spans wakeups : List ℕ} {z : Size} {M₀ : Memory} {flags₀ : List ℕ}
+    (st : Started s g b spans wakeups z M₀ flags₀)
     {steps : ℕ} {done : ℕ} {M : Memory} {flags : List ℕ} (h : Partly s b z steps M₀ done M flags)
     {r : ℕ} (e : r ≡ position (flagAt b (M .state) z) (numbers 32768)) (l : r < 32768) where
   abbrev A : Array
@@ -100,7 +105,8 @@ module _ {s : List ℕ} {g : Program} {b spans wakeups : List ℕ} {z : Size} {M
   acted : actBy g (z .streams) b M (name .kind) (name .number) (name .stream) ≡ apply A M (stepAt z r)
   acted =
       rw (st .program)
-      (act-is (stands ground (h .ready .opened .stood)) M (h .ready .opened .stood .sound) (programOf (descriptionOf s)) (performs ground) (name .kind)
+      (act-is (stands ground (h .ready .opened .stood)) M (h .ready .opened .stood .sound) (programOf (descriptionOf s))
+      (performs ground) (name .kind)
       (name .number) (name .stream) (inside (h .ready) r (rank-in .1)) (rank-ready (h .ready) r (rank-in .1) can))
 
   module _ {M' : Memory} (m : M' ≡ actBy g (z .streams) b M (name .kind) (name .number) (name .stream)) where
@@ -108,18 +114,21 @@ module _ {s : List ℕ} {g : Program} {b spans wakeups : List ℕ} {z : Size} {M
     next = subst (λ (N : Memory). Opened s N b z) (sym (m ∙ acted)) (opened-next (h .ready) r (rank-in .1) can)
 
     -- what the flags ask
-    pub renews : (RowsFit (length (M' .state)) b z) × (RowsFit stateWordsMost b z) × (Sized z) × (WakeupsOf b z wakeups) × (r < rankCount z) × (length flags ≡ 33824)
+    pub renews : (RowsFit (length (M' .state)) b z) × (RowsFit stateWordsMost b z) × (Sized z) × (WakeupsOf b z wakeups) × (r < rankCount z)
+        × (length flags ≡ 33824)
     renews = (fits ground (next .stood), rows-in-table next, rank-in .0, st .wakeups-of, rank-in .1, h .ready .kept .words)
 
     nearby : Local b z wakeups (M .state) (M' .state) r
     nearby =
         subst (λ (N : Memory). Local b z wakeups (M .state) (N .state) r) (sym (m ∙ acted))
-        (local (wired gaugeLimits s (h .ready .opened .accepted)) (stands ground (h .ready .opened .stood)) (words-few s (h .ready .opened .accepted)) M wakeups (st .wakeups-of)
+        (local (wired gaugeLimits s (h .ready .opened .accepted)) (stands ground (h .ready .opened .stood))
+        (words-few s (h .ready .opened .accepted)) M wakeups (st .wakeups-of)
         (long (h .ready .opened)) (h .ready .opened .stood .sound) r (rank-in .1) can)
 
     pub turned : {flags' : List ℕ} → done < steps
         → ((old : List ℕ) → Local b z wakeups old (M' .state) r → Kept (flagAt b old z) flags → Kept (flagAt b (M' .state) z) flags')
         → Partly s b z steps M₀ (done + 1) M' flags'
     turned k f =
-        partly-next h (stepAt z r) k (lowest-at (h .ready) e l) (m ∙ acted) (record { opened = next; kept = f (M .state) nearby (h .ready .kept) })
+        partly-next h (stepAt z r) k (lowest-at (h .ready) e l) (m ∙ acted)
+        (record { opened = next; kept = f (M .state) nearby (h .ready .kept) })
         (ap (λ (N : Memory). length (N .state)) (m ∙ acted) ∙ words-next (h .ready) r (rank-in .1) can)

@@ -1,5 +1,5 @@
-// Run's steps: always the lowest ready one, until there are enough or none is ready. The ready steps stand as flags by their ranks; after a step
-// the flags of the steps near it are tested anew, and nothing is searched from the beginning.
+// Run's steps: always the lowest ready one, until there are enough or none is ready. The ready steps stand as flags by their ranks; after a
+// step the flags of the steps near it are tested anew, and nothing is searched from the beginning.
 //
 // specs/, by file:
 //
@@ -27,8 +27,10 @@ pub fn run_steps(
     state: &mut [u32],
     flags: &mut [u32],
 ) -> u32
-    requires { ⌜ Started (now s) g (now ports) (now spans) (now wakeups) z (memoryOf (now waiting) (now received) (now state)) (now flags) ⌝ }
-    ensures { λ r. ⌜ Ended (now (s .entry)) (now (ports .entry)) z steps (memoryOf (now (waiting .entry)) (now (received .entry)) (now (state .entry))) r
+    requires { ⌜ Started (now s) g (now ports) (now spans) (now wakeups) z
+        (memoryOf (now waiting) (now received) (now state)) (now flags) ⌝ }
+    ensures { λ r. ⌜ Ended (now (s .entry)) (now (ports .entry)) z steps
+        (memoryOf (now (waiting .entry)) (now (received .entry)) (now (state .entry))) r
         (memoryOf (now (waiting .entry)) (now (received .exit)) (now (state .exit))) (now (flags .exit)) ⌝ }
 {
     let mut done: u32 = 0;

@@ -11,7 +11,8 @@ use lib.Seq.{getD-set-other}
 use borrow.Author.Tests.{lt-ltb, le-ltb, ltb-true}
 use Rattle.meaning.specs.Array.{Array, pipeAt, stopsOn, elementsOn, partStart}
 use Rattle.meaning.specs.State.{Taken, Sent, Received, End, index, read}
-use Rattle.meaning.specs.Rules.{processOn, streamOn, putIn, linkPlace, fill, withoutOldest, readyToSend, readyToReceive, doSend, doReceive, receivedThen}
+use Rattle.meaning.specs.Rules.{processOn, streamOn, putIn, linkPlace, fill, withoutOldest, readyToSend, readyToReceive, doSend, doReceive}
+use Rattle.meaning.specs.Rules.{receivedThen}
 use Rattle.ports.specs.declared.End as row
 use Rattle.ports.specs.Links.{word, filled, movedDown, move-before}
 use Rattle.ports.specs.Ends.{endOf, EndIs}
@@ -53,7 +54,8 @@ module _ (A : Array) (st : List ℕ) (q : ℕ) (r : row.End) (is : EndIs A q r) 
     last-is : fillLast st r ≡ fill A st q n
     last-is =
         ap (fillLast st) is
-        ∙ ap (λ (t : Bool). filled (read A st (putIn A q n)) (read A st (cond t (Taken (processOn A q n) (streamOn A q)) (Received q))) (pipeAt A q .hop))
+        ∙ ap (λ (t : Bool).
+        filled (read A st (putIn A q n)) (read A st (cond t (Taken (processOn A q n) (streamOn A q)) (Received q))) (pipeAt A q .hop))
         (sym (le-ltb n n (omega arith)))
         ∙ fill-cut _ _ _ b
 

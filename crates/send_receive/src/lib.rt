@@ -1,5 +1,5 @@
-// Document 01's rules of the two ends of a pipe: send and receive. In specs/, Moves has the code as functions of lists, and MovesMeaning says that this
-// is what document 01 says, where links are filled no further than their places.
+// Document 01's rules of the two ends of a pipe: send and receive. In specs/, Moves has the code as functions of lists, and MovesMeaning
+// says that this is what document 01 says, where links are filled no further than their places.
 ghost use mathlib.Core.Path.{_≡_};
 ghost use mathlib.Core.Bool.{true};
 ghost use Prim.Native.Nat.{_+_, _≤_};
@@ -55,7 +55,8 @@ pub fn can_receive(state: &[u32], e: End) -> bool
 // The oldest element of the last link goes to the pipe's next received place.
 pub fn receive(state: &mut [u32], out: &mut [u32], e: End)
     requires { ⌜ EndFits (length (now state)) e × (e .offset + e .total ≤ length (now out)) × (canReceive (now state) e ≡ true) ⌝ }
-    ensures { λ r. ⌜ (now (state .exit) ≡ received (now (state .entry)) e) × (now (out .exit) ≡ receivedList (now (out .entry)) (now (state .entry)) e) ⌝ }
+    ensures { λ r. ⌜ (now (state .exit) ≡ received (now (state .entry)) e)
+        × (now (out .exit) ≡ receivedList (now (out .entry)) (now (state .entry)) e) ⌝ }
 {
     let at = e.received;
     let last = e.last;

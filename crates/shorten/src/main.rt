@@ -1,5 +1,5 @@
-// Shortens vectors: three words a vector on standard input, a line `DIVISOR X Y Z` for each on standard output. It reads up to 65,536 bytes;
-// what is left of them after the last whole vector is not looked at.
+// Shortens vectors: three words a vector on standard input, a line `DIVISOR X Y Z` for each on standard output. It reads up to 65,536
+// bytes; what is left of them after the last whole vector is not looked at.
 ghost use Prim.Native.Nat.{_<_};
 use integers::V3;
 use libc::STDIN_FILENO;

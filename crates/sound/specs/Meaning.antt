@@ -27,7 +27,8 @@ same true b f g = sym (f refl)
 same false true f g = g refl
 same false false f g = refl
 
-module _ (A : Array) (reg : Regular A) (one : Single A) {b : List ℕ} (ports : PortsOf A b) {z : Size} (size : SizeOf A z) (st : List ℕ) where
+module _ (A : Array) (reg : Regular A) (one : Single A) {b : List ℕ} (ports : PortsOf A b) {z : Size} (size : SizeOf A z)
+    (st : List ℕ) where
   firings-is : (p : ℕ) → p < processCount A → firingsSound b st p ≡ leb (word st (rowOf A p 0 .fired)) (rowOf A p 0 .count)
   firings-is p h = ap (λ (r : Port). leb (word st (r .fired)) (r .count)) (ports .ports p 0 h (omega (arith, size .streams, size .some)))
 
@@ -46,7 +47,8 @@ module _ (A : Array) (reg : Regular A) (one : Single A) {b : List ℕ} (ports : 
         firings = λ p l. sym (firings-is p l) ∙ both-true (firingsSound b st p) (portsSound b st (z .streams) p) (p-all p l) .0;
         ports = λ p i l k.
             sym (port-is p i l k)
-            ∙ every-number (λ i. portSound st (portAt b p i)) (z .streams) (both-true (firingsSound b st p) (portsSound b st (z .streams) p) (p-all p l) .1) i
+            ∙ every-number (λ i. portSound st (portAt b p i)) (z .streams)
+            (both-true (firingsSound b st p) (portsSound b st (z .streams) p) (p-all p l) .1) i
             (omega (arith, size .streams));
         ends = λ q l. sym (end-is q l) ∙ every-number (pipeSound b st) (z .pipes) (w .1) q (omega (arith, size .pipes));
       }

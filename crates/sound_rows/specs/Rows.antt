@@ -7,7 +7,8 @@ use native.Mathlib.Omega.{arith}
 use lib.Dec.{leb}
 use lib.ListN.{length, getD, List·getD-eq-default}
 use borrow.Author.Tests.{ltb-false, leb-true, lt-ltb}
-use Rattle.meaning.specs.Array.{Array, Pipe, processCount, streamCount, pipeNumber, noPipe, noStop, pipeAt, stopsOn, pipeThrough, onPipe, placeOn}
+use Rattle.meaning.specs.Array.{Array, Pipe, processCount, streamCount, pipeNumber, noPipe, noStop, pipeAt, stopsOn, pipeThrough, onPipe}
+use Rattle.meaning.specs.Array.{placeOn}
 use Rattle.meaning.specs.State.{Taken, Given, read}
 use Rattle.meaning.specs.Rules.{sound, Take, Give, Memory, ready, processOn, streamOn}
 use Rattle.lists.specs.Tests.{both-true}

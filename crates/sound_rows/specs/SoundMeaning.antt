@@ -1,5 +1,5 @@
--- A state is sound where the code says so of every row; and what that says of a pipe's links: each is filled no further than its places, and no more
--- was put in than the pipe has elements. Assumes nothing.
+-- A state is sound where the code says so of every row; and what that says of a pipe's links: each is filled no further than its places,
+-- and no more was put in than the pipe has elements. Assumes nothing.
 use mathlib.Core.Path.{_≡_, refl, sym, _∙_, ap}
 use mathlib.Core.Bool.{Bool, true, false, cond, _&&_, _||_, true≢false}
 use mathlib.Core.Logic.{_⊎_, inl, inr}
@@ -12,9 +12,11 @@ use lib.Dec.{eqb, leb}
 use lib.ListN.{length, List·getD-eq-default}
 use borrow.Author.Tests.{eqb-true, leb-true, leb-false, ltb-false, lt-ltb, le-ltb, le-leb, lt-leb}
 use Rattle.meaning.specs.Lists.{every, numbers}
-use Rattle.meaning.specs.Array.{Array, Pipe, noPipe, stopsOn, stopAt, elementsOn, processCount, streamCount, pipeNumber, pipeThrough, onPipe}
+use Rattle.meaning.specs.Array.{Array, Pipe, noPipe, stopsOn, stopAt, elementsOn, processCount, streamCount, pipeNumber, pipeThrough}
+use Rattle.meaning.specs.Array.{onPipe}
 use Rattle.meaning.specs.State.{Firings, Taken, Given, Sent, Received, read}
-use Rattle.meaning.specs.Rules.{processOn, streamOn, putIn, takenOut, soundCount, soundHand, soundLink, soundStop, soundPipe, soundPort, soundProcess, sound}
+use Rattle.meaning.specs.Rules.{processOn, streamOn, putIn, takenOut, soundCount, soundHand, soundLink, soundStop, soundPipe, soundPort}
+use Rattle.meaning.specs.Rules.{soundProcess, sound}
 use Rattle.ports.specs.Ports.{portOf}
 use Rattle.ports.specs.Ends.{endOf}
 use Rattle.lists.specs.Tests.{both-true, true-both}
@@ -146,7 +148,8 @@ pub record RowsSound (A : Array) (st : List ℕ) : Type 0 where
       → (read A st (Taken p i) ≡ 0) × (read A st (Given p i) ≡ 0)
 
 module _ (A : Array) (st : List ℕ) (s : sound A st ≡ true) where
-  process-sound : (p : ℕ) → p < processCount A → (soundCount A st (Firings p) ≡ true) × (every (soundPort A st p) (numbers (streamCount A)) ≡ true)
+  process-sound : (p : ℕ) → p < processCount A
+      → (soundCount A st (Firings p) ≡ true) × (every (soundPort A st p) (numbers (streamCount A)) ≡ true)
   unfolding sound
   process-sound p h =
       both-true (soundCount A st (Firings p)) (every (soundPort A st p) (numbers (streamCount A)))
@@ -156,7 +159,8 @@ module _ (A : Array) (st : List ℕ) (s : sound A st ≡ true) where
   off-sound : (p i : ℕ) → p < processCount A → i < streamCount A → onPipe A p i ≡ false
       → (read A st (Taken p i) ≡ 0) × (read A st (Given p i) ≡ 0)
   off-sound p i h l o =
-      let w = both-true (soundCount A st (Taken p i)) (soundCount A st (Given p i)) (every-number (soundPort A st p) (streamCount A) (process-sound p h .1) i l) in
+      let w = both-true (soundCount A st (Taken p i)) (soundCount A st (Given p i))
+      (every-number (soundPort A st p) (streamCount A) (process-sound p h .1) i l) in
       let n = elementsOn A (pipeThrough A p i) in
       let e : n ≡ 0 = ap (λ (r : Pipe). length (r .elements)) (List·getD-eq-default (A .pipes) noPipe (ltb-false _ _ o)) in
       (omega (arith, leb-true (read A st (Taken p i)) n (w .0)), omega (arith, leb-true (read A st (Given p i)) n (w .1)))
@@ -210,4 +214,5 @@ module _ (A : Array) (st : List ℕ) (r : RowsSound A st) where
 
   pub rows-sound : sound A st ≡ true
   unfolding sound
-  rows-sound = true-both (all-numbers (soundProcess A st) (processCount A) process-tested) (all-numbers (soundPipe A st) (pipeNumber A) pipe-tested)
+  rows-sound =
+      true-both (all-numbers (soundProcess A st) (processCount A) process-tested) (all-numbers (soundPipe A st) (pipeNumber A) pipe-tested)

@@ -1,4 +1,5 @@
--- Document 01's steps of a sound state, by the rows of the pipe: ready where the code's test says so, and leaving what the code leaves. Assumes nothing.
+-- Document 01's steps of a sound state, by the rows of the pipe: ready where the code's test says so, and leaving what the code leaves.
+-- Assumes nothing.
 use mathlib.Core.Path.{_≡_, ap}
 use mathlib.Core.Bool.{true}
 use mathlib.Core.List.{List}

@@ -1,5 +1,5 @@
-// Sound states, row by row: counts up to their totals, links filled up to their places, and in hand and keep what was taken and not given; and the
-// theorem over the five rules, whose code is in `take_give`, `send_receive` and `fire`. In specs/, by file:
+// Sound states, row by row: counts up to their totals, links filled up to their places, and in hand and keep what was taken and not given;
+// and the theorem over the five rules, whose code is in `take_give`, `send_receive` and `fire`. In specs/, by file:
 //
 //   Sound            a sound state, row by row, as the code tests it
 //   SoundMeaning     a state is sound where every row is; the links of a sound state

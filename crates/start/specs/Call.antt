@@ -34,7 +34,8 @@ startedBy d values M =
 
 -- the call's own refusal
 abbrev pub ownRefusal : Description → List ℕ → Memory → ℕ
-ownRefusal d values M = refusal (startLengths (lengthOf d) (stateLength d) (length values) (length (M .waiting)) (length (M .received)) (length (M .state)))
+ownRefusal d values M =
+    refusal (startLengths (lengthOf d) (stateLength d) (length values) (length (M .waiting)) (length (M .received)) (length (M .state)))
 
 -- what it answers and leaves once its description is accepted
 pub record Called (d : Description) (values : List ℕ) (M : Memory) (r : Answer) (M' : Memory) : Type 0 where
@@ -61,11 +62,13 @@ module _ {d : Description} {f : Figures} {values : List ℕ} {M : Memory} (h : F
   pub putting : {places : List ℕ} → PlacesOf d places → 24576 ≤ length places → Puttable values places (M .waiting)
   putting of l = puttable (h .placeable .laid) of values (M .waiting) (h .given) (h .waiting) l (elements-most (h .placeable .described))
 
-  pub memory-filled : {places waiting received state : List ℕ} → PlacesOf d places → waiting ≡ put values places (length values) (M .waiting)
+  pub memory-filled : {places waiting received state : List ℕ} → PlacesOf d places
+      → waiting ≡ put values places (length values) (M .waiting)
       → received ≡ fillBy (λ p. 0) (f .elements) (M .received) → state ≡ fillBy (λ p. 0) (f .words) (M .state)
       → memoryOf waiting received state ≡ startedBy d values M
   memory-filled {places} {waiting} {received} {state} of w r s =
-      let a : waiting ≡ gather values (pipeOrder (arrayOf d)) = gathered (h .placeable .laid) of values (M .waiting) (h .given) (h .waiting) w in
+      let a : waiting ≡ gather values (pipeOrder (arrayOf d)) = gathered (h .placeable .laid) of values (M .waiting)
+      (h .given) (h .waiting) w in
       let b : received ≡ replicate (lengthOf d) 0 =
       r ∙ ap (λ (k : ℕ). fillBy (λ p. 0) k (M .received)) elements-is ∙ cleared-all (lengthOf d) (M .received) (h .received) in
       let c : state ≡ replicate (stateLength d) 0 ++ drop (stateLength d) (M .state) =
@@ -73,11 +76,13 @@ module _ {d : Description} {f : Figures} {values : List ℕ} {M : Memory} (h : F
       λ i. record { waiting = a i; received = b i; state = c i }
 
 module _ (d : Description) {f : Figures} (e : f ≡ figures d) (values : List ℕ) (M : Memory) {n : ℕ}
-    (r : n ≡ refusal (startLengths (f .elements) (f .words) (length values) (length (M .waiting)) (length (M .received)) (length (M .state)))) where
+    (r : n ≡ refusal
+    (startLengths (f .elements) (f .words) (length values) (length (M .waiting)) (length (M .received)) (length (M .state)))) where
   own : n ≡ ownRefusal d values M
   own =
       r
-      ∙ ap (λ (f : Figures). refusal (startLengths (f .elements) (f .words) (length values) (length (M .waiting)) (length (M .received)) (length (M .state)))) e
+      ∙ ap (λ (f : Figures).
+      refusal (startLengths (f .elements) (f .words) (length values) (length (M .waiting)) (length (M .received)) (length (M .state)))) e
 
   -- none of them applies
   pub fitting : Placeable d → n ≡ 0 → Fitting d f values M

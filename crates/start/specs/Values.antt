@@ -4,7 +4,8 @@ use mathlib.Core.List.{List, _++_, append-nil}
 use Prim.Native.Nat.{ℕ, _+_, _-_, _≤_, _<_}
 use native.Mathlib.Decide.{decLe}
 use native.Mathlib.Omega.{arith}
-use lib.ListN.{length, getD, drop, replicate, length-append, length-map, length-drop, length-replicate, getD-replicate, drop-of-length-le, List·getD-append}
+use lib.ListN.{length, getD, drop, replicate, length-append, length-map, length-drop, length-replicate, getD-replicate, drop-of-length-le}
+use lib.ListN.{List·getD-append}
 use lib.Seq.{ext-getD, getD-append-add, getD-drop}
 use Rattle.integers.specs.Fill.{fillBy, fill-length, fill-at, fill-past}
 use Rattle.meaning.specs.declared.Description.{Description}
@@ -84,8 +85,8 @@ module _ {d : Description} (laid : Laid d) {places : List ℕ} (of : PlacesOf d 
             let b : e < lengthOf d = numbers-lt laid (getD-in order k 0 l) in
             let q : getD places e 0 ≡ k = of .places e b ∙ found-at laid k l e refl in
             subst (λ (k : ℕ). getD (put values places (length values) waiting) k 0 ≡ getD (gather values order) k 0) q
-            (spread-puts (λ e. getD places e 0) (λ k. getD (gather values order) k 0) (λ e. getD values e 0) (length values) waiting right low e
-            (omega (arith, b, lv)))
+            (spread-puts (λ e. getD places e 0) (λ k. getD (gather values order) k 0) (λ e. getD values e 0)
+            (length values) waiting right low e (omega (arith, b, lv)))
 
 -- ---- words cleared
 
@@ -101,7 +102,8 @@ cleared k xs h =
     go : (i : ℕ) → i < length xs → Dec (k ≤ i) → getD (fillBy (λ p. 0) k xs) i 0 ≡ getD (replicate k 0 ++ drop k xs) i 0
     go i l (no c) =
         fill-at (λ p. 0) k i xs 0 (omega arith) h
-        ∙ sym (List·getD-append (replicate k 0) (drop k xs) 0 i (omega (arith, length-replicate {A = ℕ} k 0)) ∙ getD-replicate k i 0 0 (omega arith))
+        ∙ sym (List·getD-append (replicate k 0) (drop k xs) 0 i (omega (arith, length-replicate {A = ℕ} k 0))
+        ∙ getD-replicate k i 0 0 (omega arith))
     go i l (yes c) =
         let s : i ≡ length {A = ℕ} (replicate k 0) + (i - k) = omega (arith, length-replicate {A = ℕ} k 0) in
         let t : k + (i - k) ≡ i = omega arith in

@@ -23,7 +23,8 @@ use meaning::Figures;
 // The values at the places of their elements.
 fn put_values(values: &[u32], places: &[u32], waiting: &mut [u32])
     requires { ⌜ Puttable (now values) (now places) (now waiting) ⌝ }
-    ensures { λ r. ⌜ now (waiting .exit) ≡ put (now (values .entry)) (now (places .entry)) (length (now (values .entry))) (now (waiting .entry)) ⌝ }
+    ensures { λ r. ⌜ now (waiting .exit)
+        ≡ put (now (values .entry)) (now (places .entry)) (length (now (values .entry))) (now (waiting .entry)) ⌝ }
 {
     let mut e = 0;
     while e < values.len() {
@@ -43,7 +44,8 @@ fn fill_memory(
     received: &mut [u32],
     state: &mut [u32],
 )
-    requires { ⌜ (Fitting d f (now values) (memoryOf (now waiting) (now received) (now state))) × (Spans (d .nest) (now spans)) × (spanWords ≤ length (now spans)) ⌝ }
+    requires { ⌜ (Fitting d f (now values) (memoryOf (now waiting) (now received) (now state))) × (Spans (d .nest) (now spans))
+        × (spanWords ≤ length (now spans)) ⌝ }
     ensures { λ r. ⌜ memoryOf (now (waiting .exit)) (now (received .exit)) (now (state .exit))
         ≡ startedBy d (now (values .entry)) (memoryOf (now (waiting .entry)) (now (received .entry)) (now (state .entry))) ⌝ }
 {
@@ -86,9 +88,11 @@ pub fn start(
     received: &mut [u32],
     state: &mut [u32],
 ) -> Answer
-    ensures { λ r. ⌜ (r ≡ start (limitsOf board) (now (s .entry)) (now (values .entry)) (memoryOf (now (waiting .entry)) (now (received .entry)) (now (state .entry))) .answer)
+    ensures { λ r. ⌜ (r ≡ start (limitsOf board) (now (s .entry)) (now (values .entry))
+        (memoryOf (now (waiting .entry)) (now (received .entry)) (now (state .entry))) .answer)
         × (memoryOf (now (waiting .exit)) (now (received .exit)) (now (state .exit))
-        ≡ start (limitsOf board) (now (s .entry)) (now (values .entry)) (memoryOf (now (waiting .entry)) (now (received .entry)) (now (state .entry))) .memory) ⌝ }
+        ≡ start (limitsOf board) (now (s .entry)) (now (values .entry))
+        (memoryOf (now (waiting .entry)) (now (received .entry)) (now (state .entry))) .memory) ⌝ }
 {
     let mut spans = [0u32; SPANS];
     let r = refuse::refusal_of(board, s, &mut spans);

@@ -14,7 +14,8 @@ use Rattle.opening.specs.Opening.{own-last}
 use Rattle.named_step.specs.Stepped.{ownTests, Stepped}
 
 -- the whole call
-module _ (l : Limits) (s : List ℕ) (kind number stream : ℕ) (M : Memory) {n : ℕ} (e : n ≡ refusedBy l s (memoryTests (descriptionOf s) M)) where
+module _ (l : Limits) (s : List ℕ) (kind number stream : ℕ) (M : Memory) {n : ℕ}
+    (e : n ≡ refusedBy l s (memoryTests (descriptionOf s) M)) where
   abbrev whole : ℕ
   whole = refusedBy l s (memoryTests (descriptionOf s) M ++ ownTests l s M (stepOf l s kind number stream))
 

@@ -18,9 +18,11 @@ pub fn step(
     received: &mut [u32],
     state: &mut [u32],
 ) -> Answer
-    ensures { λ r. ⌜ (r ≡ step (limitsOf board) (now (s .entry)) kind number stream (memoryOf (now (waiting .entry)) (now (received .entry)) (now (state .entry))) .answer)
+    ensures { λ r. ⌜ (r ≡ step (limitsOf board) (now (s .entry)) kind number stream
+        (memoryOf (now (waiting .entry)) (now (received .entry)) (now (state .entry))) .answer)
         × (memoryOf (now (waiting .entry)) (now (received .exit)) (now (state .exit))
-        ≡ step (limitsOf board) (now (s .entry)) kind number stream (memoryOf (now (waiting .entry)) (now (received .entry)) (now (state .entry))) .memory) ⌝ }
+        ≡ step (limitsOf board) (now (s .entry)) kind number stream
+        (memoryOf (now (waiting .entry)) (now (received .entry)) (now (state .entry))) .memory) ⌝ }
 {
     let mut spans = [0u32; SPANS];
     let mut ports = [0u32; PORTS];

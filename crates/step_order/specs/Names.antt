@@ -3,14 +3,16 @@ use mathlib.Core.Path.{_≡_, refl, sym, _∙_, ap}
 use mathlib.Core.Logic.{⊎-elim}
 use mathlib.Core.Bool.{Bool, true, false}
 use Prim.Native.Nat.{ℕ, _+_, _*_, _-_, _/_, _%_, _<_}
-use native.Mathlib.Nat.{add-zero, mul-add-div-right, mul-add-mod-self-right, div-eq-of-lt, mod-eq-of-lt, div-add-mod', div-lt-iff-lt-mul, mod-lt}
+use native.Mathlib.Nat.{add-zero, mul-add-div-right, mul-add-mod-self-right, div-eq-of-lt, mod-eq-of-lt, div-add-mod', div-lt-iff-lt-mul}
+use native.Mathlib.Nat.{mod-lt}
 use native.Mathlib.Omega.{arith}
 use lib.Dec.{ltb}
 use borrow.Author.Tests.{ltb-true, ltb-false, lt-ltb, le-ltb, eq-eqb, ne-eqb}
 use Rattle.meaning.specs.Rules.{Step, Send, Take, Fire, Give, Receive}
 use Rattle.port_table.specs.declared.Size.{Size}
 use Rattle.step_rules.specs.Fits.{Inside}
-use Rattle.step_order.specs.Ranks.{width, rankCount, named, processName, nameAt, stepAt, takeRank, fireRank, giveRank, receiveRank, steps-inside}
+use Rattle.step_order.specs.Ranks.{width, rankCount, named, processName, nameAt, stepAt, takeRank, fireRank, giveRank, receiveRank}
+use Rattle.step_order.specs.Ranks.{steps-inside}
 
 -- ---- the name of a step's rank
 
@@ -89,7 +91,8 @@ module _ (z : Size) (r : ℕ) where
           let k = r - z .pipes in
           let w : 0 < width z = omega arith in
           let l = ltb-false r (z .pipes) b in
-          placed (k / width z) (k % width z) (div-lt-iff-lt-mul w .1 (ltb-true _ _ d)) (mod-lt k w) (omega (arith, div-add-mod' k (width z)))
+          placed (k / width z) (k % width z) (div-lt-iff-lt-mul w .1 (ltb-true _ _ d)) (mod-lt k w)
+          (omega (arith, div-add-mod' k (width z)))
       go false b false d =
           let l = ltb-false r (z .pipes) b in
           let m = ltb-false (r - z .pipes) (z .processes * width z) d in

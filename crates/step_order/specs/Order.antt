@@ -17,7 +17,8 @@ use Rattle.lists.specs.Sums.{total-same}
 use Rattle.port_table.specs.declared.Size.{Size}
 use Rattle.port_table.specs.PortsOf.{SizeOf}
 use Rattle.step_order.specs.Ranks.{width, rankCount, stepAt, takeRank, fireRank, giveRank, receiveRank, steps-inside}
-use Rattle.step_order.specs.Names.{Ranked, send, take, fire, give, receive, ranked, send-name, take-name, fire-name, give-name, receive-name}
+use Rattle.step_order.specs.Names.{Ranked, send, take, fire, give, receive, ranked, send-name, take-name, fire-name, give-name}
+use Rattle.step_order.specs.Names.{receive-name}
 
 -- ---- the order by the numbers of pipes, processes and streams
 
@@ -55,7 +56,8 @@ module _ (z : Size) where
   order-many : length order ≡ rankCount z
   order-many =
       length-append (map Send (numbers (z .pipes))) _
-      ∙ ap₂ _+_ (many Send (z .pipes)) (length-append (each (stepsBy (z .streams)) (numbers (z .processes))) _ ∙ ap₂ _+_ all-many (many Receive (z .pipes)))
+      ∙ ap₂ _+_ (many Send (z .pipes))
+      (length-append (each (stepsBy (z .streams)) (numbers (z .processes))) _ ∙ ap₂ _+_ all-many (many Receive (z .pipes)))
       ∙ omega arith
 
   -- place o of process p
@@ -63,7 +65,8 @@ module _ (z : Size) where
       → getD order r (Send 0) ≡ getD (stepsBy (z .streams) p) o (Send 0)
   process-at p o r h l e =
       past (map Send (numbers (z .pipes))) _ (z .pipes) (p * width z + o) r (many Send (z .pipes)) e
-      ∙ List·getD-append (each (stepsBy (z .streams)) (numbers (z .processes))) _ (Send 0) (p * width z + o) (omega (arith, all-many, steps-inside z h))
+      ∙ List·getD-append (each (stepsBy (z .streams)) (numbers (z .processes))) _ (Send 0) (p * width z + o)
+      (omega (arith, all-many, steps-inside z h))
       ∙ each-at (stepsBy (z .streams)) (width z) steps-many (numbers (z .processes)) p o 0 (Send 0) (rw numbers-length h) l
       ∙ ap (λ (p : ℕ). getD (stepsBy (z .streams) p) o (Send 0)) (numbers-at 0 (z .processes) p 0 h ∙ zero-add p)
 
@@ -74,7 +77,8 @@ module _ (z : Size) where
   order-at r (take p i h l e) =
       rw (e, take-name z p i h l)
       (process-at p i (takeRank z p i) h (omega arith) (omega arith)
-      ∙ List·getD-append (map (Take p) (numbers (z .streams))) _ (Send 0) i (omega (arith, many (Take p) (z .streams))) ∙ numbered (Take p) (z .streams) i l)
+      ∙ List·getD-append (map (Take p) (numbers (z .streams))) _ (Send 0) i (omega (arith, many (Take p) (z .streams)))
+      ∙ numbered (Take p) (z .streams) i l)
   order-at r (fire p h e) =
       rw (e, fire-name z p h)
       (process-at p (z .streams) (fireRank z p) h (omega arith) (omega arith)
@@ -93,7 +97,8 @@ module _ (z : Size) where
   order-is : order ≡ map (stepAt z) (numbers (rankCount z))
   order-is =
       ext-getD (Send 0) order (map (stepAt z) (numbers (rankCount z))) (order-many ∙ sym (many (stepAt z) (rankCount z)))
-      (λ r h. let l : r < rankCount z = omega (arith, order-many) in order-at r (ranked z r l) ∙ sym (numbered (stepAt z) (rankCount z) r l))
+      (λ r h. let l : r < rankCount z = omega (arith, order-many) in
+      order-at r (ranked z r l) ∙ sym (numbered (stepAt z) (rankCount z) r l))
 
 pub in-order : {A : Array} {z : Size} → SizeOf A z → inOrder A ≡ map (stepAt z) (numbers (rankCount z))
 in-order {A} {z} s =
@@ -111,7 +116,8 @@ module _ (f : Step → Bool) (g : ℕ → Step) where
   first-some [] h = absurd (omega arith)
   first-some (x ∷ l) h = go (f (g x)) h (first-some l)
     where
-      go : (b : Bool) → cond b 0 (suc (place l)) < suc (length l) → (place l < length l → firstReady f (map g l) ≡ at (g (getD l (place l) 0)))
+      go : (b : Bool) → cond b 0 (suc (place l)) < suc (length l)
+          → (place l < length l → firstReady f (map g l) ≡ at (g (getD l (place l) 0)))
           → cond b (at (g x)) (firstReady f (map g l)) ≡ at (g (getD (x ∷ l) (cond b 0 (suc (place l))) 0))
       go true h ih = refl
       go false h ih = ih (omega arith)
@@ -131,7 +137,8 @@ module _ (f : Step → Bool) (g : ℕ → Step) where
   any-some [] = refl
   any-some (x ∷ l) = go (f (g x)) (any-some l)
     where
-      go : (b : Bool) → any f (map g l) ≡ ltb (place l) (length l) → cond b true (any f (map g l)) ≡ ltb (cond b 0 (suc (place l))) (suc (length l))
+      go : (b : Bool) → any f (map g l) ≡ ltb (place l) (length l)
+          → cond b true (any f (map g l)) ≡ ltb (cond b 0 (suc (place l))) (suc (length l))
       go true ih = sym (lt-ltb 0 (suc (length l)) (omega arith))
       go false ih = ih ∙ sym (leb·suc-suc (suc (place l)) (length l))
 

@@ -1,10 +1,13 @@
-// Run's order of steps: sends by pipe, then by process takes by stream, fire, gives by stream, then receives. A step's rank is its place in that order.
+// Run's order of steps: sends by pipe, then by process takes by stream, fire, gives by stream, then receives. A step's rank is its place in
+// that order.
 //
 // specs/, by file:
 //
 //   Ranks     the step of a rank, and the rank of a step
-//   Names     the name of a step's rank, as `take-name`; a rank's step is inside the array: `name-inside`, and has no other rank: `rank-apart`
-//   Order     the steps of the ranks are Run's order: `in-order`, and the lowest ready step is that of the lowest rank: `lowest-some`, `lowest-none`
+//   Names     the name of a step's rank, as `take-name`; a rank's step is inside the array: `name-inside`, and has no other rank:
+//             `rank-apart`
+//   Order     the steps of the ranks are Run's order: `in-order`, and the lowest ready step is that of the lowest rank: `lowest-some`,
+//             `lowest-none`
 ghost use mathlib.Core.Path.{_≡_};
 ghost use Prim.Native.Nat.{_≤_, _<_};
 ghost use Rattle.step_order.specs.Ranks.{Sized, rankCount, nameAt, processName, takeRank, fireRank, giveRank};

@@ -58,8 +58,10 @@ module _ {n : ℕ} {b : List ℕ} {z : Size} (f : RowsFit n b z) (p : ℕ) (h : 
       }
 
 -- the next instance of a process that can fire
-pub next-runs : {n : ℕ} {b : List ℕ} {z : Size} {g : Program} {spans : List ℕ} (st : List ℕ) (p : ℕ) → RowsFit n b z → Programmed g spans b z
-    → p < z .processes → canFire st (portsAt b p) (z .streams) ≡ true → Runs (g .nest) (g .increment) spans p (word st (portAt b p 0 .fired))
+pub next-runs : {n : ℕ} {b : List ℕ} {z : Size} {g : Program} {spans : List ℕ} (st : List ℕ) (p : ℕ) → RowsFit n b z
+    → Programmed g spans b z
+    → p < z .processes → canFire st (portsAt b p) (z .streams) ≡ true
+    → Runs (g .nest) (g .increment) spans p (word st (portAt b p 0 .fired))
 next-runs {b = b} {z} {g} st p f w h e =
     let l = fire-facts st (portsAt b p) (z .streams) e in
     record {

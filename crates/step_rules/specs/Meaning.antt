@@ -18,7 +18,8 @@ use Rattle.ports.specs.Layout.{Regular}
 use Rattle.ports.specs.Rows.{rowOf, row-on}
 use Rattle.take_give.specs.Moves.{canTake, canGive}
 use Rattle.fire.specs.FiringMeaning.{ProcessIs}
-use Rattle.sound_rows.specs.Steps.{take-applied, give-applied, send-tested, send-applied, receive-tested, receive-applied, fire-tested, fire-applied}
+use Rattle.sound_rows.specs.Steps.{take-applied, give-applied, send-tested, send-applied, receive-tested, receive-applied, fire-tested}
+use Rattle.sound_rows.specs.Steps.{fire-applied}
 use Rattle.sound_rows.specs.Rows.{take-row, give-row, process-rows}
 use Rattle.port_table.specs.declared.Size.{Size}
 use Rattle.port_table.specs.PortsOf.{portAt, portsAt, endAt, SizeOf, PortsOf}
@@ -80,10 +81,12 @@ module _ {A : Array} {b : List ℕ} {z : Size} (s : Stands A b z) where
             let h : number < pipeNumber A = omega (arith, i .pipe (inl refl), s .size .pipes) in
             send-tested A M t number h (endAt b number) (s .planned .ends number h)
         go is-take i =
-            ap (canTake st) (port-row number stream (i .process (omega arith) (omega arith)) (i .port (inl refl))) ∙ take-row A number stream M t
+            ap (canTake st) (port-row number stream (i .process (omega arith) (omega arith)) (i .port (inl refl)))
+            ∙ take-row A number stream M t
         go is-fire i = fire-tested A M number (portsAt b number) (z .streams) (process-is number (i .process (omega arith) (omega arith)))
         go is-give i =
-            ap (canGive st) (port-row number stream (i .process (omega arith) (omega arith)) (i .port (inr refl))) ∙ give-row A number stream M t
+            ap (canGive st) (port-row number stream (i .process (omega arith) (omega arith)) (i .port (inr refl)))
+            ∙ give-row A number stream M t
         go (is-receive k l) i =
             let h : number < pipeNumber A = omega (arith, i .pipe (inr l), s .size .pipes) in
             by-last k l _ _ _ _ _ ∙ receive-tested A M t number h (endAt b number) (s .planned .ends number h)
@@ -118,7 +121,8 @@ module _ {A : Array} {b : List ℕ} {z : Size} (s : Stands A b z) where
         go is-give i r =
             let on : onPipe A number stream ≡ true = both-true _ _ r .0 in
             give-applied A M t number stream on (portAt b number stream)
-            (port-row number stream (i .process (omega arith) (omega arith)) (i .port (inr refl)) ∙ row-on A number stream on) (s .regular) r
+            (port-row number stream (i .process (omega arith) (omega arith)) (i .port (inr refl))
+            ∙ row-on A number stream on) (s .regular) r
         go (is-receive k l) i r =
             let h : number < pipeNumber A = omega (arith, i .pipe (inr l), s .size .pipes) in
             by-last k l _ _ _ _ _ ∙ receive-applied A M t number h (endAt b number) (s .planned .ends number h)

@@ -1,5 +1,5 @@
-// A step by the port table of its array: whether it is ready, and what it does. A step is named as in document 01's call Step: by its kind (0 send, 1 take,
-// 2 fire, 3 give, 4 receive), a process or pipe number, and a stream.
+// A step by the port table of its array: whether it is ready, and what it does. A step is named as in document 01's call Step: by its kind
+// (0 send, 1 take, 2 fire, 3 give, 4 receive), a process or pipe number, and a stream.
 //
 // specs/, by file:
 //
@@ -130,7 +130,8 @@ pub fn act(
         × (PartsFit (length (now waiting)) (now ports) z) × (PartsFit (length (now received)) (now ports) z)
         × (canBy (now ports) (now state) (z .streams) kind number stream ≡ true) ⌝ }
     ensures { λ r. ⌜ memoryOf (now (waiting .entry)) (now (received .exit)) (now (state .exit))
-        ≡ actBy g (z .streams) (now (ports .entry)) (memoryOf (now (waiting .entry)) (now (received .entry)) (now (state .entry))) kind number stream ⌝ }
+        ≡ actBy g (z .streams) (now (ports .entry))
+        (memoryOf (now (waiting .entry)) (now (received .entry)) (now (state .entry))) kind number stream ⌝ }
 {
     match kind {
         0 => send(state, waiting, port_table::end(ports, number)),

@@ -1,5 +1,5 @@
--- What a refusal of 0 leaves of the sizes: no more instances and processes than the limits, and of each stream words in range, a move of small
--- components and a hop within its limit. What it leaves of the geometry is in geometry's `laid`. Assumes nothing.
+-- What a refusal of 0 leaves of the sizes: no more instances and processes than the limits, and of each stream words in range, a move of
+-- small components and a hop within its limit. What it leaves of the geometry is in geometry's `laid`. Assumes nothing.
 use mathlib.Core.Path.{_≡_, sym, _∙_, subst}
 use mathlib.Core.Bool.{Bool, true, false, not, cond, _&&_}
 use mathlib.Core.List.{List, [], _∷_}

@@ -1,4 +1,5 @@
--- Ranges, as the refusals 1 to 5 leave them; tests on small words; the tests of Accept in stages; accepted descriptions; products by the limits.
+-- Ranges, as the refusals 1 to 5 leave them; tests on small words; the tests of Accept in stages; accepted descriptions; products by the
+-- limits.
 pub mod InRange
 pub mod Small
 pub mod Stages

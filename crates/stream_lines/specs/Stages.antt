@@ -18,7 +18,8 @@ use Rattle.meaning.specs.Tests.{Test, _if_, refusal}
 use Rattle.meaning.specs.Loops.{instances}
 use Rattle.meaning.specs.Space.{processes}
 use Rattle.meaning.specs.Description.{descriptionOf, streamsOf, noStream, written}
-use Rattle.meaning.specs.Accept.{refused33, refused6, refused7, refused8, refused10, refused13, refused14, refused15, refused16, refused17, streamTests, testsFrom, refusalOf}
+use Rattle.meaning.specs.Accept.{refused33, refused6, refused7, refused8, refused10, refused13, refused14, refused15, refused16, refused17}
+use Rattle.meaning.specs.Accept.{streamTests, testsFrom, refusalOf}
 use Rattle.meaning.specs.Calls.{orElse}
 use Rattle.meaning.specs.Walk.{walkTests, walkRefusal}
 use Rattle.geometry.specs.Tests.{numbered, none-applies, one-applies}
@@ -56,7 +57,8 @@ unfolding descriptionOf walkRefusal
 walk-tests l s = refl
 
 -- all, after those
-pub all-tests : (l : Limits) (s : List ℕ) → refusal (walkTests l s ++ testsFrom l (descriptionOf s) 0 (streamsOf (descriptionOf s))) ≡ refusalOf l s
+pub all-tests : (l : Limits) (s : List ℕ)
+    → refusal (walkTests l s ++ testsFrom l (descriptionOf s) 0 (streamsOf (descriptionOf s))) ≡ refusalOf l s
 unfolding refusalOf
 all-tests l s = refl
 

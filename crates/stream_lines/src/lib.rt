@@ -1,5 +1,6 @@
 // Each stream's line, move and hop, the tests on vectors and matrices that the refusals 6 to 17 are made of, and the theory of all. The
-// refusals 1 to 5 are tested in `refuse_words`, those of a nest in `refuse_nest`, of a stream in `refuse_stream`, and all in their order in `refuse`.
+// refusals 1 to 5 are tested in `refuse_words`, those of a nest in `refuse_nest`, of a stream in `refuse_stream`, and all in their order in
+// `refuse`.
 //
 // specs/, by file:
 //

@@ -1,4 +1,5 @@
--- The first or the last of a list of instances, by their numbers, as a pass finds it: document 01's `best`, one after the other. Assumes nothing.
+-- The first or the last of a list of instances, by their numbers, as a pass finds it: document 01's `best`, one after the other.
+-- Assumes nothing.
 use mathlib.Core.Path.{_≡_, refl, _∙_, ap}
 use mathlib.Core.Bool.{Bool, true, false, cond}
 use mathlib.Core.List.{List, [], _∷_}

@@ -1,4 +1,5 @@
--- One pass over the instances by number: each changes the entry of its point. What the pass leaves, for each point by itself. Assumes nothing.
+-- One pass over the instances by number: each changes the entry of its point. What the pass leaves, for each point by itself.
+-- Assumes nothing.
 use mathlib.Core.Path.{_≡_, refl, sym, _∙_, ap, subst}
 use mathlib.Core.Bool.{cond}
 use mathlib.Core.List.{List, [], _∷_}
@@ -100,8 +101,10 @@ visits-none points p k (q ∷ l) h f =
     rw (ne-eqb q p (λ e. omega arith)) (visits-none points p (suc k) l h (λ i j. f (suc i) (omega arith)))
 
 -- from zeros it leaves of each point what its instances make of 0, and the rest as it was
-pub sweep-is : (g : ℕ → ℕ → ℕ) (numbers : List ℕ) (instances points : ℕ) (out : List ℕ) → Listed numbers instances points → points ≤ length out
-    → sweep g 0 (take instances numbers) (fillBy (λ p. 0) points out) ≡ fillBy (λ p. run g 0 (visits p 0 (take instances numbers))) points out
+pub sweep-is : (g : ℕ → ℕ → ℕ) (numbers : List ℕ) (instances points : ℕ) (out : List ℕ) → Listed numbers instances points
+    → points ≤ length out
+    → sweep g 0 (take instances numbers) (fillBy (λ p. 0) points out)
+    ≡ fillBy (λ p. run g 0 (visits p 0 (take instances numbers))) points out
 unfolding run
 sweep-is g numbers instances points out h room =
     ext-getD 0 _ _ (sweep-length g 0 l zeros ∙ fill-length (λ p. 0) points out ∙ sym (fill-length made points out)) λ p k.
@@ -122,7 +125,8 @@ sweep-is g numbers instances points out h room =
         ap (run g (getD zeros p 0)) (visits-none points p 0 l k (λ i j. taken-below h i (omega (arith, taken-length h))))
         ∙ fill-past (λ p. 0) points p out 0 k ∙ sym (fill-past made points p out 0 k)
     go p b (no k) =
-        ap (λ (x : ℕ). run g x (visits p 0 l)) (fill-at (λ p. 0) points p out 0 (omega arith) room) ∙ sym (fill-at made points p out 0 (omega arith) room)
+        ap (λ (x : ℕ). run g x (visits p 0 l)) (fill-at (λ p. 0) points p out 0 (omega arith) room)
+        ∙ sym (fill-at made points p out 0 (omega arith) room)
 
 -- the count
 run-more : (x : ℕ) (l : List ℕ) → run more x l ≡ x + length l
@@ -134,7 +138,8 @@ pub count-is : (numbers : List ℕ) (instances points : ℕ) (out : List ℕ) �
     → sweep more 0 (take instances numbers) (fillBy (λ p. 0) points out) ≡ fillBy (countIn (take instances numbers)) points out
 count-is numbers instances points out h room =
     sweep-is more numbers instances points out h room
-    ∙ ap (λ (f : ℕ → ℕ). fillBy f points out) (λ i p. (run-more 0 (visits p 0 (take instances numbers)) ∙ zero-add (countIn (take instances numbers) p)) i)
+    ∙ ap (λ (f : ℕ → ℕ). fillBy f points out)
+    (λ i p. (run-more 0 (visits p 0 (take instances numbers)) ∙ zero-add (countIn (take instances numbers) p)) i)
 
 -- ---- the entries of the points stay small
 

@@ -61,7 +61,8 @@ filled-steps {n} rest e =
     record {
       at = λ k h.
           ap (λ (l : List ℤ). getD l k (pos 0)) e
-          ∙ List·getD-append (map (λ x. stepOf n x) (instances n)) rest (pos 0) k (omega (arith, length-map (instances n) (λ x. stepOf n x)))
+          ∙ List·getD-append (map (λ x. stepOf n x) (instances n)) rest (pos 0) k
+          (omega (arith, length-map (instances n) (λ x. stepOf n x)))
           ∙ map-at (λ x. stepOf n x) (instances n) k zero3 (pos 0) h;
     }
 
@@ -73,7 +74,8 @@ module _ {A : Type 0} where
       → map at (visits p k (map f xs)) ≡ filter (λ x. eqb (f x) p) xs
   unfolding visits filter
   visits-filter f p at k [] d h = refl
-  visits-filter f p at k (x ∷ l) d h = go (eqb (f x) p) (visits-filter f p at (suc k) l d λ i b. ap at (omega arith) ∙ h (suc i) (omega arith))
+  visits-filter f p at k (x ∷ l) d h =
+      go (eqb (f x) p) (visits-filter f p at (suc k) l d λ i b. ap at (omega arith) ∙ h (suc i) (omega arith))
     where
       here : at k ≡ x
       here = ap at (omega arith) ∙ h 0 (omega arith)
@@ -85,7 +87,8 @@ module _ {A : Type 0} where
       go false ih = ih
 
   -- a test that says the same of every member keeps the same members
-  filter-same : (f g : A → Bool) (xs : List A) (d : A) → ((i : ℕ) → i < length xs → f (getD xs i d) ≡ g (getD xs i d)) → filter f xs ≡ filter g xs
+  filter-same : (f g : A → Bool) (xs : List A) (d : A) → ((i : ℕ) → i < length xs → f (getD xs i d) ≡ g (getD xs i d))
+      → filter f xs ≡ filter g xs
   unfolding filter
   filter-same f g [] d e = refl
   filter-same f g (x ∷ l) d e =
@@ -207,14 +210,16 @@ module _ {n : Nest} {m : Matrix} {table : List ℕ} {count size : ℕ} (dirs : D
             let b : k < length (instances n) = omega (arith, t .counted) in
             let e = sym (getD-take count table k 0 h) ∙ ap (λ (l : List ℕ). getD l k 0) (t .entries)
             ∙ map-at (λ x. rowIndex (boxOf n m) (image m x)) (instances n) k zero3 0 b in
-            subst (λ (q : ℕ). q < size) (sym e) (omega (arith, row-lt (boxOf n m) (image m (getD (instances n) k zero3)) (lies dirs m k b), t .sized));
+            subst (λ (q : ℕ). q < size) (sym e)
+            (omega (arith, row-lt (boxOf n m) (image m (getD (instances n) k zero3)) (lies dirs m k b), t .sized));
       }
 
   -- entry p of the counts is the count of point p
   pub counts-are : (p : ℕ) → p < size → countIn (take count table) p ≡ countOf n m (getD (points (boxOf n m)) p zero2)
   counts-are p h =
       ap (λ (l : List ℕ). countIn l p) (t .entries)
-      ∙ sym (length-map (visits p 0 (numbersOf n m)) (λ k. getD (instances n) k zero3)) ∙ ap length (sent dirs m p (omega (arith, t .sized)))
+      ∙ sym (length-map (visits p 0 (numbersOf n m)) (λ k. getD (instances n) k zero3))
+      ∙ ap length (sent dirs m p (omega (arith, t .sized)))
 
   module _ {steps : List ℤ} (s : Steps n steps) where
     -- where entry p of the firsts or lasts is f + 1, instance f is the first or last of point p

@@ -1,5 +1,5 @@
-// What one pass over the instances leaves for each point of a box: how many instances have their image there, and which of them has the least
-// and which the greatest step. All of it over the table of numbers that `numbering::fill_numbers` leaves: of each instance, in
+// What one pass over the instances leaves for each point of a box: how many instances have their image there, and which of them has the
+// least and which the greatest step. All of it over the table of numbers that `numbering::fill_numbers` leaves: of each instance, in
 // the written order, the row number of its image.
 //
 // specs/, by file:
@@ -104,7 +104,8 @@ fn fill_chosen(
     out: &mut [u32],
 )
     requires { ⌜ Comparable (now numbers) instances (now steps) points (now out) ⌝ }
-    ensures { λ r. ⌜ now (out .exit) ≡ fillBy (bestIn (now (steps .entry)) last (take instances (now (numbers .entry)))) points (now (out .entry)) ⌝ }
+    ensures { λ r. ⌜ now (out .exit)
+        ≡ fillBy (bestIn (now (steps .entry)) last (take instances (now (numbers .entry)))) points (now (out .entry)) ⌝ }
 {
     clear(points, out);
     let mut k: u32 = 0;
@@ -118,7 +119,8 @@ fn fill_chosen(
 // The first instance of each point, the first in the written order of those of least step, by its number plus one; 0 where there is none.
 pub fn fill_firsts(numbers: &[u32], instances: u32, steps: &[i32], points: u32, firsts: &mut [u32])
     requires { ⌜ Comparable (now numbers) instances (now steps) points (now firsts) ⌝ }
-    ensures { λ r. ⌜ now (firsts .exit) ≡ fillBy (bestIn (now (steps .entry)) false (take instances (now (numbers .entry)))) points (now (firsts .entry)) ⌝ }
+    ensures { λ r. ⌜ now (firsts .exit)
+        ≡ fillBy (bestIn (now (steps .entry)) false (take instances (now (numbers .entry)))) points (now (firsts .entry)) ⌝ }
 {
     fill_chosen(numbers, instances, steps, false, points, firsts);
 }
@@ -126,7 +128,8 @@ pub fn fill_firsts(numbers: &[u32], instances: u32, steps: &[i32], points: u32, 
 // The last, of greatest step.
 pub fn fill_lasts(numbers: &[u32], instances: u32, steps: &[i32], points: u32, lasts: &mut [u32])
     requires { ⌜ Comparable (now numbers) instances (now steps) points (now lasts) ⌝ }
-    ensures { λ r. ⌜ now (lasts .exit) ≡ fillBy (bestIn (now (steps .entry)) true (take instances (now (numbers .entry)))) points (now (lasts .entry)) ⌝ }
+    ensures { λ r. ⌜ now (lasts .exit)
+        ≡ fillBy (bestIn (now (steps .entry)) true (take instances (now (numbers .entry)))) points (now (lasts .entry)) ⌝ }
 {
     fill_chosen(numbers, instances, steps, true, points, lasts);
 }

@@ -11,8 +11,8 @@ use prog.Wp.{Heap, Out, Env, afterTurn, Wp, Tables}
 use sound.Laws.{Laws}
 use sound.Loop.{unroll}
 
-module _ {M : Type 1} (𝓤 : URA M) (H : Heap 𝓤) (L : Laws 𝓤 H) (𝓣 : Tables 𝓤 H) (E : Env 𝓤 H) (b : Body) (Q : Out → SProp 𝓤) (n : ℕ) (I : ℕ → SProp 𝓤)
-    (more : (k : ℕ) → k < n → ent 𝓤 (I k) (Wp 𝓤 H (𝓣 .C) (𝓣 .Λ) E b (afterTurn 𝓤 H (I (suc k)) Q)))
+module _ {M : Type 1} (𝓤 : URA M) (H : Heap 𝓤) (L : Laws 𝓤 H) (𝓣 : Tables 𝓤 H) (E : Env 𝓤 H) (b : Body) (Q : Out → SProp 𝓤)
+    (n : ℕ) (I : ℕ → SProp 𝓤) (more : (k : ℕ) → k < n → ent 𝓤 (I k) (Wp 𝓤 H (𝓣 .C) (𝓣 .Λ) E b (afterTurn 𝓤 H (I (suc k)) Q)))
     (ends : ent 𝓤 (I n) (Wp 𝓤 H (𝓣 .C) (𝓣 .Λ) E b (afterTurn 𝓤 H (never 𝓤) Q))) where
   from : (t k : ℕ) → k + t ≡ n → ent 𝓤 (I k) (𝓣 .Λ b E Q)
   from zero k e =

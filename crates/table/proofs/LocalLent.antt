@@ -14,7 +14,8 @@ use base.Logic.{SProp, ent, sep, ex}
 use base.Fml.{Lft, GName, fsep, fat, fdead, flent, fres}
 use prog.Wp.{Heap}
 use ghost.Atoms.{Atoms, sem}
-use types.Kit.{Given, ‵, later, _$_, _∵_, !, qed, by, move, use1, use2, use3, rewrite, fsplit, fjoin, fpick, fpack, await, updating, now as at-once, show, done}
+use types.Kit.{Given, ‵, later, _$_, _∵_, !, qed, by, move, use1, use2, use3, rewrite, fsplit, fjoin, fpick, fpack, await, updating}
+use types.Kit.{now as at-once, show, done}
 use types.Tokens.{lent-back}
 use types.SemTy.{Body}
 use denote.RattleType.{RattleType}
@@ -48,16 +49,18 @@ module _ {M : Type 1} (𝓤 : URA M) (H : Heap 𝓤) (A : Atoms 𝓤) (W : Given
       qed W (‵ (partAt R fullShare h b 0) ∷ []) ∵ fpick ! (λ vs. fsplit ! $ move ! (1 ∷ []) $ peeks ! R (Is R) (shows 𝓤 H A R) h vs (λ p.
       rewrite ! 0 (λ (us : List Val). ‵ (R .own h us)) (p .1 .0 .0) refl $
       rewrite ! 1 (λ (us : List Val). ‵ (cellAt fullShare (R .mir) us b 0)) (p .1 .0 .0) refl $ move ! (1 ∷ 0 ∷ []) $
-      use1 W (‵ (fat fullShare (tyArray (lone (T .mir)) n) b 0 (arrayVal (p .0)))) (W .laws .raw-at fullShare (tyArray (lone (T .mir)) n) b 0
-      (arrayVal (p .0))) $
+      use1 W (‵ (fat fullShare (tyArray (lone (T .mir)) n) b 0 (arrayVal (p .0))))
+      (W .laws .raw-at fullShare (tyArray (lone (T .mir)) n) b 0 (arrayVal (p .0))) $
       show ! (Local b h) (arrayVal (p .0)) $ done !))
 
-  pub lend-local : (ℓ : Lifetime) (κ : Lft) (b : ℕ) (h : List (T .Denot)) (v : Val) → ent 𝓤 (Local b h v) (H .⇛ (ex 𝓤 (LentRef 𝓤 H A W R ℓ κ h b 0)))
+  pub lend-local : (ℓ : Lifetime) (κ : Lft) (b : ℕ) (h : List (T .Denot)) (v : Val)
+      → ent 𝓤 (Local b h v) (H .⇛ (ex 𝓤 (LentRef 𝓤 H A W R ℓ κ h b 0)))
   lend-local ℓ κ b h v =
       qed W (‵ (fat fullShare (tyArray (lone (T .mir)) n) b 0 v) ∷ ‵ (R .own h (v ∷ [])) ∷ []) ∵
       use2 W (‵ (partAt R fullShare h b 0)) (into b h v) $ by ! (lends-ref 𝓤 H A W R ℓ κ h b 0)
 
-  pub local-back : (κ : Lft) (γ : GName) (b : ℕ) (h : List (T .Denot)) → ent 𝓤 (sep 𝓤 (A .dead κ) (sep 𝓤 (A .lent κ (Body (mem R) b 0 γ)) (A .res γ
+  pub local-back : (κ : Lft) (γ : GName) (b : ℕ) (h : List (T .Denot))
+      → ent 𝓤 (sep 𝓤 (A .dead κ) (sep 𝓤 (A .lent κ (Body (mem R) b 0 γ)) (A .res γ
       (R .coded .code h)))) (H .⇛ (ex 𝓤 (Local b h)))
   local-back κ γ b h =
       qed W (‵ (fdead κ) ∷ ‵ (flent κ (Body (mem R) b 0 γ)) ∷ ‵ (fres γ (R .coded .code h)) ∷ []) ∵ updating ! $
@@ -69,6 +72,7 @@ module _ {M : Type 1} (𝓤 : URA M) (H : Heap 𝓤) (A : Atoms 𝓤) (W : Given
       qed W (‵ (fat fullShare (tyArray (lone (T .mir)) n) b 0 v) ∷ ‵ (R .own h (v ∷ [])) ∷ []) ∵
       use2 W (‵ (partAt R fullShare h b 0)) (into b h v) $ by ! (lends-shr 𝓤 H A W R ℓ κ fullShare h b 0)
 
-  pub shared-back : (κ : Lft) (b : ℕ) (h : List (T .Denot)) → ent 𝓤 (sep 𝓤 (A .dead κ) (A .lent κ (partAt R fullShare h b 0))) (H .⇛ (ex 𝓤 (Local b h)))
+  pub shared-back : (κ : Lft) (b : ℕ) (h : List (T .Denot))
+      → ent 𝓤 (sep 𝓤 (A .dead κ) (A .lent κ (partAt R fullShare h b 0))) (H .⇛ (ex 𝓤 (Local b h)))
   shared-back κ b h =
       qed W (‵ (fdead κ) ∷ ‵ (flent κ (partAt R fullShare h b 0)) ∷ []) ∵ updating ! $ lent-back ! tt $ at-once ! $ by ! (out b h)

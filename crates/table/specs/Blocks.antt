@@ -23,7 +23,8 @@ use Rattle.pipes.specs.Passed.{Passed}
 -- the words of the first m of some streams, and zeros past them
 pub record Streamed (n : Nest) (ss : List Stream) (m : ℕ) (w : List ℕ) : Type 0 where
   pub soaks : (i p : ℕ) → i < m → p < length (processes n) → getD w (3072 + p + i * 2048) 0 ≡ rowSoak n (getD ss i noStream) (processOf n p)
-  pub drains : (i p : ℕ) → i < m → p < length (processes n) → getD w (4096 + p + i * 2048) 0 ≡ rowDrain n (getD ss i noStream) (processOf n p)
+  pub drains : (i p : ℕ) → i < m → p < length (processes n)
+      → getD w (4096 + p + i * 2048) 0 ≡ rowDrain n (getD ss i noStream) (processOf n p)
   pub rest : (k : ℕ) → 3072 + m * 2048 ≤ k → getD w k 0 ≡ 0
 
 -- ---- stream by stream
@@ -35,7 +36,8 @@ pub streamed-none : (n : Nest) (ss : List Stream) (k : ℕ) → Streamed n ss 0 
 streamed-none n ss k =
     record { soaks = λ i p l m. absurd (omega arith); drains = λ i p l m. absurd (omega arith); rest = λ j l. replicated 0 k j }
 
-module _ {n : Nest} {ss : List Stream} {i : ℕ} {w : List ℕ} (a k : ℕ) (ys : List ℕ) (few : length (processes n) ≤ 1024) (at : a ≡ 3072 + i * 2048)
+module _ {n : Nest} {ss : List Stream} {i : ℕ} {w : List ℕ} (a k : ℕ) (ys : List ℕ) (few : length (processes n) ≤ 1024)
+    (at : a ≡ 3072 + i * 2048)
     (wide : k ≡ 2048) (in-words : a ≤ length w) (size : length ys ≡ k) (g : Streamed n ss i w) (b : Passed n (getD ss i noStream) ys) where
   abbrev w′ : List ℕ
   w′ = putMid a k w ys

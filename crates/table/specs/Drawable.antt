@@ -89,18 +89,19 @@ module _ (l : Limits) (s : List ℕ) (room : ℕ) where
 
 -- ---- the plan of the call
 
-pub planned-drawn : {l : Limits} {s w : List ℕ} {room r : ℕ} {d : Description} {h : Shape} → r ≡ refusedFor l s room → r ≡ 0 → d ≡ descriptionOf s
-    → (h .refusal ≡ 0) × Drawn d h w → Planned l s room h w
+pub planned-drawn : {l : Limits} {s w : List ℕ} {room r : ℕ} {d : Description} {h : Shape} → r ≡ refusedFor l s room → r ≡ 0
+    → d ≡ descriptionOf s → (h .refusal ≡ 0) × Drawn d h w → Planned l s room h w
 planned-drawn {l} {s} {w} {room} {r} {d} {h} e z f g =
     record {
       refused = g .0 ∙ sym z ∙ e;
-      enough = omega (arith, g .1 .shaped .rows, ap (λ (d : Description). length (processes (d .nest))) f, none-refused l s room (sym e ∙ z) .1);
+      enough =
+          omega (arith, g .1 .shaped .rows, ap (λ (d : Description). length (processes (d .nest))) f, none-refused l s room (sym e ∙ z) .1);
       none = λ k. absurd (k (g .0));
       drawn = λ k. subst (λ (d : Description). Drawn d h w) f (g .1);
     }
 
-pub planned-declined : {l : Limits} {s w : List ℕ} {room r : ℕ} {h : Shape} → r ≡ refusedFor l s room → (r ≡ 0 → ⊥) → (h .refusal ≡ r) × (h .rows ≡ 0)
-    → Planned l s room h w
+pub planned-declined : {l : Limits} {s w : List ℕ} {room r : ℕ} {h : Shape} → r ≡ refusedFor l s room → (r ≡ 0 → ⊥)
+    → (h .refusal ≡ r) × (h .rows ≡ 0) → Planned l s room h w
 planned-declined e z g =
     record {
       refused = g .0 ∙ e;

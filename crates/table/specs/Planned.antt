@@ -78,17 +78,20 @@ by-stream : (f : Stream → ℕ) (ss : List Stream) (w : List ℕ) (k : ℕ) →
     → ((i : ℕ) → length ss ≤ i → i < 6 → getD w (k + i * 2048) 0 ≡ 0)
     → byStream w k ≡ map f ss ++ replicate (6 - length ss) 0
 by-stream f ss w k h used unused =
-    ext-getD 0 _ _ (sym (length-append (map f ss) (replicate (6 - length ss) 0) ∙ omega (arith, length-map ss f, length-replicate {A = ℕ} (6 - length ss) 0)))
+    ext-getD 0 _ _ (sym
+    (length-append (map f ss) (replicate (6 - length ss) 0) ∙ omega (arith, length-map ss f, length-replicate {A = ℕ} (6 - length ss) 0)))
     (λ i l. six-at w k i l ∙ go i l (decLe (length ss) i))
   where
     go : (i : ℕ) → i < 6 → Dec (length ss ≤ i) → getD w (k + i * 2048) 0 ≡ getD (map f ss ++ replicate (6 - length ss) 0) i 0
     go i l (no g) =
-        used i (omega arith) ∙ sym (List·getD-append (map f ss) _ 0 i (omega (arith, length-map ss f)) ∙ map-at f ss i noStream 0 (omega arith))
+        used i (omega arith)
+        ∙ sym (List·getD-append (map f ss) _ 0 i (omega (arith, length-map ss f)) ∙ map-at f ss i noStream 0 (omega arith))
     go i l (yes g) =
         let t : i ≡ length (map f ss) + (i - length ss) = omega (arith, length-map ss f) in
         unused i g l
         ∙ sym (ap (λ (j : ℕ). getD (map f ss ++ replicate (6 - length ss) 0) j 0) t
-        ∙ getD-append-add (map f ss) (replicate (6 - length ss) 0) (i - length ss) 0 ∙ getD-replicate (6 - length ss) (i - length ss) 0 0 (omega arith))
+        ∙ getD-append-add (map f ss) (replicate (6 - length ss) 0) (i - length ss) 0
+        ∙ getD-replicate (6 - length ss) (i - length ss) 0 0 (omega arith))
 
 -- ---- a row
 

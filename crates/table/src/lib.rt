@@ -126,7 +126,8 @@ fn process_count(n: Nest) -> usize
 // The refusal of the call, 0 if there is none; the words of the processes are then filled.
 fn refusal_for(s: &[u8], limits: Limits, room: usize, spans: &mut [u32; SPANS]) -> u32
     requires { ⌜ UpTo limits gaugeLimits ⌝ }
-    ensures { λ r. ⌜ (r ≡ refusedFor limits (now (s .entry)) room) × (r ≡ 0 → Spans (descriptionOf (now (s .entry)) .nest) (now (spans .exit))) ⌝ }
+    ensures { λ r. ⌜ (r ≡ refusedFor limits (now (s .entry)) room)
+        × (r ≡ 0 → Spans (descriptionOf (now (s .entry)) .nest) (now (spans .exit))) ⌝ }
 {
     let r = refuse::refusal_within(s, limits, spans);
     if r == 0 {

@@ -47,7 +47,8 @@ fn both(answer: Answer, rows: [Row; PROCESSES]) -> Listed
 fn lend<'s>(s: &'s [u8], n: usize, board: u32) -> Listed
     requires { ⌜ n ≤ gaugeLimits .processes ⌝ }
     ensures { λ r. ⌜ (r .answer ≡ table (limitsOf board) (now (s .entry)) (replicate n marked) .answer)
-        × (r .rows ≡ table (limitsOf board) (now (s .entry)) (replicate n marked) .rows ++ replicate (gaugeLimits .processes - n) marked) ⌝ }
+        × (r .rows ≡ table (limitsOf board) (now (s .entry)) (replicate n marked) .rows
+        ++ replicate (gaugeLimits .processes - n) marked) ⌝ }
 {
     let m = mark();
     let mut rows = [m; PROCESSES];
@@ -65,7 +66,8 @@ fn room(n: usize) -> usize
 // The call is lent n marked rows, or 1,024 if that is fewer: there are never more processes.
 pub fn table<'s>(s: &'s [u8], n: usize, board: u32) -> Listed
     ensures { λ r. ⌜ (r .answer ≡ table (limitsOf board) (now (s .entry)) (replicate (min n (gaugeLimits .processes)) marked) .answer)
-        × (r .rows ≡ table (limitsOf board) (now (s .entry)) (replicate (min n (gaugeLimits .processes)) marked) .rows ++ replicate (gaugeLimits .processes - min n (gaugeLimits .processes)) marked) ⌝ }
+        × (r .rows ≡ table (limitsOf board) (now (s .entry)) (replicate (min n (gaugeLimits .processes)) marked) .rows
+        ++ replicate (gaugeLimits .processes - min n (gaugeLimits .processes)) marked) ⌝ }
 {
     lend(s, room(n), board)
 }

@@ -41,7 +41,8 @@ room n = min (n / 21) 1024
 
 number-is : (n : ℕ) → answerNumber (answer n) ≡ n
 number-is zero = refl
-number-is (suc n) = ap (λ (b : Bool). answerNumber (cond b Answer.the-variants.Done (Answer.the-variants.Refused (suc n)))) (ne-eqb (suc n) 0 (omega arith))
+number-is (suc n) =
+    ap (λ (b : Bool). answerNumber (cond b Answer.the-variants.Done (Answer.the-variants.Refused (suc n)))) (ne-eqb (suc n) 0 (omega arith))
 
 table-number : (l : Limits) (s : List ℕ) (k : ℕ) → answerNumber (table l s (replicate k marked) .answer) ≡ refusedFor l s k
 unfolding table
@@ -52,7 +53,8 @@ same-number : {l : Limits} → UpTo l gaugeLimits → (s : List ℕ) (n : ℕ) �
 same-number {l} u s n = go (eqb (refusalOf l s) 0) refl
   where
     fit : refusalOf l s ≡ 0 → Dec (length (processes (descriptionOf s .nest)) ≤ n / 21) → refusedFor l s (room n) ≡ refusedFor l s (n / 21)
-    fit e (yes h) = sym (refused-none l s (room n) e (omega (arith, drawable s (by-gauge u s e) .processes))) ∙ refused-none l s (n / 21) e h
+    fit e (yes h) =
+        sym (refused-none l s (room n) e (omega (arith, drawable s (by-gauge u s e) .processes))) ∙ refused-none l s (n / 21) e h
     fit e (no h) = sym (refused-18 l s (room n) e (omega arith)) ∙ refused-18 l s (n / 21) e (omega arith)
 
     go : (b : Bool) → eqb (refusalOf l s) 0 ≡ b → refusedFor l s (room n) ≡ refusedFor l s (n / 21)
@@ -60,8 +62,8 @@ same-number {l} u s n = go (eqb (refusalOf l s) 0) refl
     go false e = sym (refused-first l s (room n) refl (eqb-false _ 0 e)) ∙ refused-first l s (n / 21) refl (eqb-false _ 0 e)
 
 -- the number, as the code comes by it
-pub room-number : {l : Limits} → UpTo l gaugeLimits → (s : List ℕ) (n : ℕ) {r number : ℕ} {a : Answer.Answer} → r ≡ room n → a ≡ table l s (replicate r marked) .answer
-    → number ≡ answerNumber a → number ≡ tableNumber l s n
+pub room-number : {l : Limits} → UpTo l gaugeLimits → (s : List ℕ) (n : ℕ) {r number : ℕ} {a : Answer.Answer} → r ≡ room n
+    → a ≡ table l s (replicate r marked) .answer → number ≡ answerNumber a → number ≡ tableNumber l s n
 room-number {l} u s n {r} e f g =
     g ∙ ap answerNumber f ∙ table-number l s r ∙ ap (refusedFor l s) e ∙ same-number u s n ∙ sym (table-number l s (n / 21))
 
@@ -99,6 +101,7 @@ module _ {l : Limits} (u : UpTo l gaugeLimits) (s : List ℕ) (n : ℕ) (z : tab
       o ∙ ap (λ (ws : List ℕ). laid ws words)
       (ap₂ wordsOf (f ∙ ap (λ (r : ℕ). table l s (replicate r marked) .rows ++ replicate (1024 - r) marked) e) g ∙ words-are _)
 
-pub table-declined : (l : Limits) (s : List ℕ) (n : ℕ) (words : List ℕ) → (tableNumber l s n ≡ 0 → ⊥) → words ≡ laid (tableWords l s n) words
+pub table-declined : (l : Limits) (s : List ℕ) (n : ℕ) (words : List ℕ) → (tableNumber l s n ≡ 0 → ⊥)
+    → words ≡ laid (tableWords l s n) words
 table-declined l s n words h =
     ap (λ (b : Bool). laid (cond b (rowsWords (rowsFor l s)) []) words) (sym (ne-eqb _ 0 h))

@@ -80,8 +80,10 @@ laid-next a values words =
 -- ---- rows
 
 -- a row as the code makes it
-pub row-made : (r : Row) {a b : ℕ} {f l : List ℕ} → a ≡ ofZ w32 (r .point .a) → b ≡ ofZ w32 (r .point .b) → f ≡ bits3 (r .first) → l ≡ bits3 (r .last)
-    → a ∷ b ∷ r .count ∷ getD f 0 0 ∷ getD f 1 0 ∷ getD f 2 0 ∷ getD l 0 0 ∷ getD l 1 0 ∷ getD l 2 0 ∷ (six (r .soak) ++ six (r .drain)) ≡ rowWords r
+pub row-made : (r : Row) {a b : ℕ} {f l : List ℕ} → a ≡ ofZ w32 (r .point .a) → b ≡ ofZ w32 (r .point .b) → f ≡ bits3 (r .first)
+    → l ≡ bits3 (r .last)
+    → a ∷ b ∷ r .count ∷ getD f 0 0 ∷ getD f 1 0 ∷ getD f 2 0 ∷ getD l 0 0 ∷ getD l 1 0 ∷ getD l 2 0
+    ∷ (six (r .soak) ++ six (r .drain)) ≡ rowWords r
 row-made r a b f l = rw (a, b, f, l) refl
 
 pub words-none : (rows : List Row) → wordsOf rows 0 ≡ []
@@ -101,7 +103,8 @@ words-length rows (suc p) =
 rows-append : (xs : List Row) (r : Row) → rowsWords (xs ++ (r ∷ [])) ≡ rowsWords xs ++ rowWords r
 unfolding rowsWords
 rows-append [] r = append-nil (rowWords r)
-rows-append (x ∷ xs) r = ap (λ (ws : List ℕ). rowWords x ++ ws) (rows-append xs r) ∙ sym (append-assoc (rowWords x) (rowsWords xs) (rowWords r))
+rows-append (x ∷ xs) r =
+    ap (λ (ws : List ℕ). rowWords x ++ ws) (rows-append xs r) ∙ sym (append-assoc (rowWords x) (rowsWords xs) (rowWords r))
 
 words-take : (rows : List Row) (n : ℕ) → n ≤ length rows → wordsOf rows n ≡ rowsWords (take n rows)
 unfolding wordsOf rowsWords

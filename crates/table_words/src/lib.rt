@@ -103,7 +103,8 @@ fn process_count(s: &[u8]) -> usize
 // The rows, 21 words each; 18 if fewer fit than there are processes.
 pub fn table_words(board: u32, bytes: &[u8], words: &mut [u32]) -> u32
     ensures { λ r. ⌜ (r ≡ tableNumber (limitsOf board) (now (bytes .entry)) (length (now (words .entry))))
-        × (now (words .exit) ≡ laid (tableWords (limitsOf board) (now (bytes .entry)) (length (now (words .entry)))) (now (words .entry))) ⌝ }
+        × (now (words .exit)
+        ≡ laid (tableWords (limitsOf board) (now (bytes .entry)) (length (now (words .entry)))) (now (words .entry))) ⌝ }
 {
     let listed = table_rows::table(bytes, words.len() / ROW_WORDS, board);
     let answer = listed.answer;

@@ -11,13 +11,15 @@ use lib.Seq.{getD-set-other}
 use borrow.Author.Tests.{lt-ltb}
 use Rattle.meaning.specs.Array.{Array, stopAt, pipeAt, stopsOn}
 use Rattle.meaning.specs.State.{Taken, Given, Hand, Keep, Received, index, read}
-use Rattle.meaning.specs.Rules.{processOn, streamOn, putIn, linkPlace, fill, withoutOldest, handEmpty, canOffer, readyToTake, readyToGive, doTake, doGive}
+use Rattle.meaning.specs.Rules.{processOn, streamOn, putIn, linkPlace, fill, withoutOldest, handEmpty, canOffer, readyToTake, readyToGive}
+use Rattle.meaning.specs.Rules.{doTake, doGive}
 use Rattle.ports.specs.declared.Port.{Port}
 use Rattle.ports.specs.Links.{word, filled, movedDown, move-before}
 use Rattle.ports.specs.Ports.{PortIs}
 use Rattle.ports.specs.Layout.{Regular, give-apart}
 use Rattle.ports.specs.LinksMeaning.{Bounded, fill-cut, place-at, move-is, count-up, held, held-past}
-use Rattle.take_give.specs.Moves.{takes, takesTo, fillInto, canTake, taken, passes, releases, gives, givesFrom, fillOutOf, canGive, given, give-facts}
+use Rattle.take_give.specs.Moves.{takes, takesTo, fillInto, canTake, taken, passes, releases, gives, givesFrom, fillOutOf, canGive}
+use Rattle.take_give.specs.Moves.{given, give-facts}
 
 -- ---- the tests
 
@@ -76,7 +78,8 @@ module _ (A : Array) (st : List ℕ) (q k : ℕ) (r : Port) (is : PortIs A q k r
         rw (into-is, is, add-one x, first-place, held A p s (keeps && eqb x 0))
         (count-up (set (movedDown st first n) to v) (set (withoutOldest A st q k) to v) at x
         (ap (λ (l : List ℕ). set l to v) (move-is A q k st 0 n))
-        (getD-set-other (movedDown st first n) to at v 0 (λ (e : at ≡ to). omega arith) ∙ move-before st first n at (omega (arith, first-place))))
+        (getD-set-other (movedDown st first n) to at v 0 (λ (e : at ≡ to). omega arith)
+        ∙ move-before st first n at (omega (arith, first-place))))
 
   module _ (b : Bounded A st q (suc k)) where
     out-of-is : fillOutOf st r ≡ fill A st q (suc k)

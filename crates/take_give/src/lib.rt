@@ -1,5 +1,5 @@
-// Document 01's rules of a port, a process and a stream on a pipe: take and give. In specs/, Moves has the code as functions of lists, and MovesMeaning
-// says that this is what document 01 says, where links are filled no further than their places.
+// Document 01's rules of a port, a process and a stream on a pipe: take and give. In specs/, Moves has the code as functions of lists, and
+// MovesMeaning says that this is what document 01 says, where links are filled no further than their places.
 ghost use mathlib.Core.Path.{_≡_};
 ghost use mathlib.Core.Bool.{true};
 ghost use Prim.Native.Nat.{_<_};

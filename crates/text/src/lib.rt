@@ -1,5 +1,5 @@
-// Lines of text on standard output: names, numbers, points and instances. A line is collected in a page, which is printed when it is full and at the
-// line's end.
+// Lines of text on standard output: names, numbers, points and instances. A line is collected in a page, which is printed when it is full
+// and at the line's end.
 ghost use Prim.Native.Nat.{_≤_};
 use integers::V2;
 use integers::V3;

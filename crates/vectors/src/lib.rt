@@ -1,5 +1,5 @@
-// Vectors of small words, as the tests of Accept use them: dot and cross product, the image under a matrix, a vector some steps on, line and divisor
-// of a matrix.
+// Vectors of small words, as the tests of Accept use them: dot and cross product, the image under a matrix, a vector some steps on, line
+// and divisor of a matrix.
 ghost use mathlib.Core.Path.{_≡_};
 ghost use Prim.Native.Nat.{_≤_};
 ghost use lib.IntN.{pos, _-ℤ_, _*ℤ_};

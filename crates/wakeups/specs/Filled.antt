@@ -23,7 +23,11 @@ pub record Filled (b : List ℕ) (z : Size) (k : ℕ) (w : List ℕ) : Type 0 wh
 module _ (b : List ℕ) (z : Size) where
   pub filled-none : {w : List ℕ} → w ≡ replicate (1 + stateWordsMost) 0 → Filled b z 0 w
   filled-none e =
-      rw e (record { words = length-replicate {A = ℕ} (1 + stateWordsMost) 0; ranks = λ i. omega (arith, replicated {X = ℕ} 0 (1 + stateWordsMost) i); wakes = λ r h l. absurd (omega arith) })
+      rw e (record {
+        words = length-replicate {A = ℕ} (1 + stateWordsMost) 0;
+        ranks = λ i. omega (arith, replicated {X = ℕ} 0 (1 + stateWordsMost) i);
+        wakes = λ r h l. absurd (omega arith);
+      })
 
   pub filled-next : {k : ℕ} {w : List ℕ} (i v : ℕ) → Apart b z → k < rankCount z → i ≡ foreignBy b z k → i ≤ none → v ≡ k + 1
       → Filled b z k w → Filled b z (k + 1) (set w i v)
@@ -41,7 +45,8 @@ module _ (b : List ℕ) (z : Size) where
       rank j true t = let g : getD (set w i v) j 0 ≡ v = ap (λ (j : ℕ). getD (set w i v) j 0) (eqb-true j i t) ∙ here in omega arith
       rank j false t = omega (arith, getD-set-other w i j v 0 (eqb-false j i t), f .ranks j)
 
-      wakeups : (r : ℕ) → r < k + 1 → foreignBy b z r < none → (t : Bool) → eqb (foreignBy b z r) i ≡ t → getD (set w i v) (foreignBy b z r) 0 ≡ suc r
+      wakeups : (r : ℕ) → r < k + 1 → foreignBy b z r < none → (t : Bool) → eqb (foreignBy b z r) i ≡ t
+          → getD (set w i v) (foreignBy b z r) 0 ≡ suc r
       wakeups r m o true t =
           let g : foreignBy b z r ≡ i = eqb-true (foreignBy b z r) i t in
           let u : r ≡ k = a r k (omega arith) h o (g ∙ e) in

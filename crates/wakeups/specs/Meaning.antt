@@ -43,7 +43,8 @@ module _ {A : Array} (W : Wired A) where
 
 -- a step that is one of the array's, and looks at a neighbour's word or counts one up; or one that is never ready
 data Looking (A : Array) (b : List ℕ) (z : Size) (r : ℕ) : Type 0 where
-  moves : {a : Step} → stepAt z r ≡ a → There A a → Moves a → foreignBy b z r ≡ foreign A a → counterBy b z r ≡ counter A a → Looking A b z r
+  moves : {a : Step} → stepAt z r ≡ a → There A a → Moves a → foreignBy b z r ≡ foreign A a
+      → counterBy b z r ≡ counter A a → Looking A b z r
   fires : (p : ℕ) → stepAt z r ≡ Fire p → There A (Fire p) → foreignBy b z r ≡ none → counterBy b z r ≡ counter A (Fire p) → Looking A b z r
   never : {a : Step} → stepAt z r ≡ a → ((st : List ℕ) → ready A st a ≡ false) → foreignBy b z r ≡ none → Looking A b z r
 
@@ -65,7 +66,8 @@ module _ {A : Array} (W : Wired A) {b : List ℕ} {z : Size} (s : Stands A b z) 
       go (receive q l e) =
           let d : nameAt z r ≡ named 4 q 0 = rw e (receive-name z q) in
           let t = end-row q l in
-          moves {a = Receive q} (rw d refl) (t .0) receives (rw d (ap (λ (k : End). k .before) (t .1))) (rw d (ap (λ (k : End). k .received) (t .1)))
+          moves {a = Receive q} (rw d refl) (t .0) receives (rw d (ap (λ (k : End). k .before) (t .1)))
+          (rw d (ap (λ (k : End). k .received) (t .1)))
       go (fire p l e) =
           let d : nameAt z r ≡ named 2 p 0 = rw e (fire-name z p l) in
           fires p (rw d refl) (omega (arith, s .size .processes)) (rw d refl)
@@ -117,7 +119,8 @@ module _ {A : Array} (W : Wired A) {b : List ℕ} {z : Size} (s : Stands A b z) 
 
     module _ (M : Memory) (w : List ℕ) (table : WakeupsOf b z w) (words : wordCount A ≤ length (M .state)) (t : sound A (M .state) ≡ true)
         (r : ℕ) (h : r < rankCount z) (can : canAt b (M .state) z r ≡ true) where
-      can-ready : (M : Memory) → sound A (M .state) ≡ true → (x : ℕ) → x < rankCount z → canAt b (M .state) z x ≡ ready A (M .state) (stepAt z x)
+      can-ready : (M : Memory) → sound A (M .state) ≡ true → (x : ℕ) → x < rankCount z
+          → canAt b (M .state) z x ≡ ready A (M .state) (stepAt z x)
       can-ready M t x l = can-is s M t _ _ _ (name-inside z x l)
 
       -- the step that is done
@@ -156,5 +159,7 @@ module _ {A : Array} (W : Wired A) {b : List ℕ} {z : Size} (s : Stands A b z) 
               let below : foreignBy b z x < none = omega (arith, f, foreign-below W m h) in
               one (rw i h) (λ d. far (ap (λ (j : ℕ). getD w j 0) (counting .counts ∙ sym d ∙ sym e) ∙ table .wakes x l below))
           go (fires p i h f c) =
-              one (rw i h) (λ d. let u : wordCount A ≡ counter A done = ap (foreign A) (sym i) ∙ d in omega (arith, counter-below W done (counting .there)))
-          go (never i n f) = ap (ready A (apply A M done .state)) i ∙ n (apply A M done .state) ∙ sym (ap (ready A (M .state)) i ∙ n (M .state))
+              one (rw i h) (λ d. let u : wordCount A ≡ counter A done = ap (foreign A) (sym i) ∙ d in
+              omega (arith, counter-below W done (counting .there)))
+          go (never i n f) =
+              ap (ready A (apply A M done .state)) i ∙ n (apply A M done .state) ∙ sym (ap (ready A (M .state)) i ∙ n (M .state))

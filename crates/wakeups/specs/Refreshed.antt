@@ -23,8 +23,8 @@ module _ (b st w : List ℕ) (z : Size) (r i : ℕ) (at : i ≡ counterBy b z r)
       (λ x n. flag-same b st old z x (λ h. near x h (λ o. n (inl (h, o))) (λ e. n (inr (ap (λ (i : ℕ). getD w i 0) at ∙ e)))))
 
   -- a step looks at it
-  pub refreshed-some : {l l' l'' : List ℕ} → Renewed (flagAt b st z) (OwnRank z r) l l' → Renewed (flagAt b st z) (OneRank (getD w i 0 - 1)) l' l''
-      → (old : List ℕ) → Local b z w old st r → Kept (flagAt b old z) l
+  pub refreshed-some : {l l' l'' : List ℕ} → Renewed (flagAt b st z) (OwnRank z r) l l'
+      → Renewed (flagAt b st z) (OneRank (getD w i 0 - 1)) l' l'' → (old : List ℕ) → Local b z w old st r → Kept (flagAt b old z) l
       → Kept (flagAt b st z) l''
   refreshed-some R Q = refreshed (renewed-then split R Q)
     where

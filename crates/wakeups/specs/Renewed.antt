@@ -70,7 +70,8 @@ module _ {new : ℕ → Bool} where
           go x true t = let s = eqb-true x r t in inr (put-same f r b x s ∙ rw s e)
           go x false t = inl (put-other f r b x (eqb-false x r t))
 
-  between-then : {f g h : ℕ → Bool} {S T U : ℕ → Type 0} → ((x : ℕ) → U x → S x ⊎ T x) → Between new f g S → Between new g h T → Between new f h U
+  between-then : {f g h : ℕ → Bool} {S T U : ℕ → Type 0} → ((x : ℕ) → U x → S x ⊎ T x) → Between new f g S → Between new g h T
+      → Between new f h U
   between-then {f} {g} {h} {S} {T} {U} c B D = record { each = λ x. all (B .each x) (D .each x); these = λ x u. some (c x u) (D .each x) }
     where
       all : {x : ℕ} → (g x ≡ f x) ⊎ (g x ≡ new x) → (h x ≡ g x) ⊎ (h x ≡ new x) → (h x ≡ f x) ⊎ (h x ≡ new x)
@@ -83,7 +84,8 @@ module _ {new : ℕ → Bool} where
       some (inl s) (inr b) = b
       some {x} (inr t) b = D .these x t
 
-  pub renewed-then : {S T U : ℕ → Type 0} {l l' l'' : List ℕ} → ((x : ℕ) → U x → S x ⊎ T x) → Renewed new S l l' → Renewed new T l' l'' → Renewed new U l l''
+  pub renewed-then : {S T U : ℕ → Type 0} {l l' l'' : List ℕ} → ((x : ℕ) → U x → S x ⊎ T x) → Renewed new S l l' → Renewed new T l' l''
+      → Renewed new U l l''
   renewed-then c R Q =
       record {
         words = Q .words;
@@ -101,7 +103,8 @@ module _ {new : ℕ → Bool} where
 
   -- ---- where all others stay, all are as `new` says
 
-  pub renewed-all : {S : ℕ → Type 0} {l l' : List ℕ} → Renewed new S l l' → (f : ℕ → Bool) → Kept f l → ((x : ℕ) → (S x → ⊥) → new x ≡ f x) → Kept new l'
+  pub renewed-all : {S : ℕ → Type 0} {l l' : List ℕ} → Renewed new S l l' → (f : ℕ → Bool) → Kept f l
+      → ((x : ℕ) → (S x → ⊥) → new x ≡ f x) → Kept new l'
   renewed-all {S} {l} {l'} R f k same =
       let p = R .keeps f k in kept-agree (p .0) new l' (λ x _. as-new (p .0) (p .2) x) (p .1)
     where

@@ -52,7 +52,8 @@ pub flag-past : (b st : List ℕ) (z : Size) (r : ℕ) → (r < rankCount z → 
 flag-past b st z r n = rw (le-ltb r (rankCount z) (omega arith)) refl
 
 -- from one state to another
-pub flag-same : (b st st' : List ℕ) (z : Size) (r : ℕ) → (r < rankCount z → canAt b st z r ≡ canAt b st' z r) → flagAt b st z r ≡ flagAt b st' z r
+pub flag-same : (b st st' : List ℕ) (z : Size) (r : ℕ) → (r < rankCount z → canAt b st z r ≡ canAt b st' z r)
+    → flagAt b st z r ≡ flagAt b st' z r
 flag-same b st st' z r h = go (ltb r (rankCount z)) refl
   where
     go : (t : Bool) → ltb r (rankCount z) ≡ t → t && canAt b st z r ≡ t && canAt b st' z r
@@ -72,4 +73,5 @@ pub record WakeupsOf (b : List ℕ) (z : Size) (w : List ℕ) : Type 0 where
 -- from state `old` to state `new` readiness has changed only for own steps of rank r and for the one that looks at its word
 abbrev pub Local : List ℕ → Size → List ℕ → List ℕ → List ℕ → ℕ → Type 0
 Local b z w old new r =
-    (x : ℕ) → x < rankCount z → (Own (stepAt z r) (stepAt z x) → ⊥) → (getD w (counterBy b z r) 0 ≡ suc x → ⊥) → canAt b new z x ≡ canAt b old z x
+    (x : ℕ) → x < rankCount z → (Own (stepAt z r) (stepAt z x) → ⊥) → (getD w (counterBy b z r) 0 ≡ suc x → ⊥)
+    → canAt b new z x ≡ canAt b old z x

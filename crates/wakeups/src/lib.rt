@@ -1,5 +1,6 @@
-// After a step only steps near it can have become ready, or be so no longer: its own process's or pipe's, and the one step of a neighbour whose readiness
-// looks at the word that the step has counted up. A table says which step looks at a word, and the flags of the ready steps are renewed by it.
+// After a step only steps near it can have become ready, or be so no longer: its own process's or pipe's, and the one step of a neighbour
+// whose readiness looks at the word that the step has counted up. A table says which step looks at a word, and the flags of the ready steps
+// are renewed by it.
 //
 // specs/, by file:
 //
@@ -62,7 +63,8 @@ fn foreign_of(ports: &[u32], z: Size, r: usize) -> usize
 
 // Of each word, one more than the rank of the step that looks at it.
 pub fn fill_wakeups(ports: &[u32], z: Size, wakeups: &mut [u32])
-    requires { ⌜ (RowsFit stateWordsMost (now ports) z) × (Sized z) × (Apart (now ports) z) × (now wakeups ≡ replicate (1 + stateWordsMost) 0) ⌝ }
+    requires { ⌜ (RowsFit stateWordsMost (now ports) z) × (Sized z) × (Apart (now ports) z)
+        × (now wakeups ≡ replicate (1 + stateWordsMost) 0) ⌝ }
     ensures { λ _. ⌜ WakeupsOf (now (ports .entry)) z (now (wakeups .exit)) ⌝ }
 {
     let n = step_order::count(z);
@@ -124,7 +126,8 @@ fn retest_named(
     stream: usize,
     flags: &mut [u32],
 )
-    requires { ⌜ (RowsFit (length (now state)) (now ports) z) × (Sized z) × (r < rankCount z) × (nameAt z r ≡ named kind number stream) × (length (now flags) ≡ flagWords) ⌝ }
+    requires { ⌜ (RowsFit (length (now state)) (now ports) z) × (Sized z) × (r < rankCount z) × (nameAt z r ≡ named kind number stream)
+        × (length (now flags) ≡ flagWords) ⌝ }
     ensures { λ _. ⌜ Renewed (flagAt (now (ports .entry)) (now (state .entry)) z) (OneRank r) (now (flags .entry)) (now (flags .exit)) ⌝ }
 {
     let b = step_rules::can(ports, state, z, kind, number, stream);
@@ -156,7 +159,8 @@ pub fn fill_flags(ports: &[u32], state: &[u32], z: Size, flags: &mut [u32])
 // Those of the gives of process p.
 fn retest_gives(ports: &[u32], state: &[u32], z: Size, p: usize, flags: &mut [u32])
     requires { ⌜ (RowsFit (length (now state)) (now ports) z) × (Sized z) × (p < z .processes) × (length (now flags) ≡ flagWords) ⌝ }
-    ensures { λ _. ⌜ Renewed (flagAt (now (ports .entry)) (now (state .entry)) z) (GiveRank z p (z .streams)) (now (flags .entry)) (now (flags .exit)) ⌝ }
+    ensures { λ _. ⌜ Renewed (flagAt (now (ports .entry)) (now (state .entry)) z) (GiveRank z p (z .streams)) (now (flags .entry))
+        (now (flags .exit)) ⌝ }
 {
     let m = z.streams;
     let mut i = 0;
@@ -168,8 +172,10 @@ fn retest_gives(ports: &[u32], state: &[u32], z: Size, p: usize, flags: &mut [u3
 
 // Those of the steps at a port, and of the fire of its process.
 fn retest_port(ports: &[u32], state: &[u32], z: Size, p: usize, i: usize, flags: &mut [u32])
-    requires { ⌜ (RowsFit (length (now state)) (now ports) z) × (Sized z) × (p < z .processes) × (i < z .streams) × (length (now flags) ≡ flagWords) ⌝ }
-    ensures { λ _. ⌜ Renewed (flagAt (now (ports .entry)) (now (state .entry)) z) (PortRank z p i) (now (flags .entry)) (now (flags .exit)) ⌝ }
+    requires { ⌜ (RowsFit (length (now state)) (now ports) z) × (Sized z) × (p < z .processes) × (i < z .streams)
+        × (length (now flags) ≡ flagWords) ⌝ }
+    ensures { λ _. ⌜ Renewed (flagAt (now (ports .entry)) (now (state .entry)) z) (PortRank z p i) (now (flags .entry))
+        (now (flags .exit)) ⌝ }
 {
     retest_named(
         ports,
@@ -213,10 +219,13 @@ fn retest_own(ports: &[u32], state: &[u32], z: Size, r: usize, flags: &mut [u32]
 
 // The flags after the step of rank r was done.
 pub fn refresh(ports: &[u32], wakeups: &[u32], state: &[u32], z: Size, r: usize, flags: &mut [u32])
-    requires { ⌜ (RowsFit (length (now state)) (now ports) z) × (RowsFit stateWordsMost (now ports) z) × (Sized z) × (WakeupsOf (now ports) z (now wakeups))
+    requires { ⌜ (RowsFit (length (now state)) (now ports) z) × (RowsFit stateWordsMost (now ports) z) × (Sized z)
+        × (WakeupsOf (now ports) z (now wakeups))
         × (r < rankCount z) × (length (now flags) ≡ flagWords) ⌝ }
-    ensures { λ _. ⌜ (length (now (flags .exit)) ≡ flagWords) × ((old : List ℕ) → Local (now (ports .entry)) z (now (wakeups .entry)) old (now (state .entry)) r
-        → Kept (flagAt (now (ports .entry)) old z) (now (flags .entry)) → Kept (flagAt (now (ports .entry)) (now (state .entry)) z) (now (flags .exit))) ⌝ }
+    ensures { λ _. ⌜ (length (now (flags .exit)) ≡ flagWords)
+        × ((old : List ℕ) → Local (now (ports .entry)) z (now (wakeups .entry)) old (now (state .entry)) r
+        → Kept (flagAt (now (ports .entry)) old z) (now (flags .entry))
+        → Kept (flagAt (now (ports .entry)) (now (state .entry)) z) (now (flags .exit))) ⌝ }
 {
     retest_own(ports, state, z, r, flags);
     let at = counter_of(ports, z, r);

@@ -104,7 +104,8 @@ module _ {n : Nest} (bounded : Bounded n) (layout : Layout n) (s : Stream) {w : 
   touched-by p h t =
       let x = vectorAt w (t .by) in
       let q : image (s .map) x ≡ p =
-      sym (row-at box (image (s .map) x) zero2 (inside (t .by) (t .lt))) ∙ ap (λ (i : ℕ). getD (points box) i zero2) (t .is) ∙ row-at box p zero2 h in
+      sym (row-at box (image (s .map) x) zero2 (inside (t .by) (t .lt))) ∙ ap (λ (i : ℕ). getD (points box) i zero2) (t .is)
+      ∙ row-at box p zero2 h in
       yes-any (λ v. touches s v p) (within-in (layout .dirs) (is-instance layout walked (t .by) (t .lt))) (eq-eq2 (image (s .map) x) p q)
 
   pub refusal-is : {r : Bool} → Misses number (length (instances n)) (length (elements n s)) r → r ≡ refused17 n s
@@ -131,8 +132,8 @@ pub record BoxSized (n : Nest) (s : Stream) (k : Box) (many size : ℕ) : Type 0
   pub counted : many ≡ length (instances n)
   pub sized : size ≡ length (points k)
 
-pub box-sized : {n : Nest} (s : Stream) {k : Box} {many size : ℕ} → k ≡ boxOf n (s .map) → many ≡ length (instances n) → size ≡ length (points k)
-    → BoxSized n s k many size
+pub box-sized : {n : Nest} (s : Stream) {k : Box} {many size : ℕ} → k ≡ boxOf n (s .map) → many ≡ length (instances n)
+    → size ≡ length (points k) → BoxSized n s k many size
 box-sized s b c z = record { box = b; counted = c; sized = z }
 
 module _ {n : Nest} {s : Stream} {k : Box} {many size : ℕ} (z : BoxSized n s k many size) where
@@ -145,7 +146,8 @@ module _ {n : Nest} {s : Stream} {k : Box} {many size : ℕ} (z : BoxSized n s k
     searching-by {marks} rows few clear =
         subst (λ (b : Box). Searching (s .map) b w many size marks) (sym (z .box))
         (subst₂ (λ (c e : ℕ). Searching (s .map) (boxOf n (s .map)) w c e marks) (sym (z .counted)) (sym size-is)
-        (searching bounded (along .layout) s (along .walked) rows (omega (arith, along .few, along .room)) (omega (arith, size-is)) (λ e h. clear e (omega (arith, size-is)))))
+        (searching bounded (along .layout) s (along .walked) rows (omega (arith, along .few, along .room)) (omega (arith, size-is))
+        (λ e h. clear e (omega (arith, size-is)))))
 
     pub refusal-by : {r : Bool} → Misses (numberOn (s .map) k w) many size r → r ≡ refused17 n s
     refusal-by {r} m =

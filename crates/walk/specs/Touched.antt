@@ -1,5 +1,5 @@
--- The search for a number that is not among some others, as nested loops run it: those passed are marked, and the inner loop goes on from where it stopped.
--- Assumes nothing.
+-- The search for a number that is not among some others, as nested loops run it: those passed are marked, and the inner loop goes on from
+-- where it stopped. Assumes nothing.
 use mathlib.Core.Path.{_≡_, sym, _∙_, ap, subst}
 use mathlib.Core.Logic.{_⊎_, inl, inr}
 use mathlib.Core.Bool.{Bool, true, false}

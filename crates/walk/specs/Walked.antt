@@ -96,7 +96,8 @@ module _ {n : Nest} {i : V3} {spans : List ℕ} {p from : ℕ} {w : List ℤ} (l
       (omega arith, subst (λ (c : ℕ). Lined (runAt n y) from c w w) z (lined-none (runAt n y) from w))
 
   -- the words of the others say where it begins and how long it is
-  pub own-line : {f : V3} {w' : List ℤ} → f ≡ first n y → Lined (λ k. shift3 f (pos k) i) from (getD spans p 0) w w' → Lined (runAt n y) from (count n y) w w'
+  pub own-line : {f : V3} {w' : List ℤ} → f ≡ first n y → Lined (λ k. shift3 f (pos k) i) from (getD spans p 0) w w'
+      → Lined (runAt n y) from (count n y) w w'
   own-line {f} {w'} e s =
       record {
         long = s .long;
@@ -131,11 +132,13 @@ module _ (n : Nest) where
       ∙ ap (total (λ y. length (ownLine n y))) (sym (take-all p (processes n) (omega arith)))
 
   -- firing k of process p in the walk
-  line-at : (p k : ℕ) → p < length (processes n) → k < count n (processOf n p) → getD (walk n) (passed p + k) zero3 ≡ runAt n (processOf n p) k
+  line-at : (p k : ℕ) → p < length (processes n) → k < count n (processOf n p)
+      → getD (walk n) (passed p + k) zero3 ≡ runAt n (processOf n p) k
   unfolding walk
   line-at p k h l =
       each-part (ownLine n) (processes n) p k zero2 zero3 h (omega (arith, line-length (processOf n p)))
-      ∙ map-at (runAt n (processOf n p)) (numbers (count n (processOf n p))) k 0 zero3 (omega (arith, numbers-length 0 (count n (processOf n p))))
+      ∙ map-at (runAt n (processOf n p)) (numbers (count n (processOf n p))) k 0 zero3
+      (omega (arith, numbers-length 0 (count n (processOf n p))))
       ∙ ap (runAt n (processOf n p)) (numbers-at 0 (count n (processOf n p)) k 0 l ∙ zero-add k)
 
   -- one process more

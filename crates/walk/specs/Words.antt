@@ -39,14 +39,16 @@ put-same w k v h =
 
 pub put-other : (w : List ℤ) (k j : ℕ) (v : V3) → (j ≡ k → ⊥) → vectorAt (put w k v) j ≡ vectorAt w j
 put-other w k j v f =
-    same3 (kept (3 * j) 0 (omega arith) (omega arith)) (kept (3 * j + 1) 1 (omega arith) (omega arith)) (kept (3 * j + 2) 2 (omega arith) (omega arith))
+    same3 (kept (3 * j) 0 (omega arith) (omega arith)) (kept (3 * j + 1) 1 (omega arith) (omega arith))
+    (kept (3 * j + 2) 2 (omega arith) (omega arith))
   where
     apart : (i o : ℕ) → i < 3 → o < 3 → 3 * j + i ≡ 3 * k + o → ⊥
     apart i o h l e = f (omega arith)
 
     kept : (m i : ℕ) → m ≡ 3 * j + i → i < 3 → getD (put w k v) m (pos 0) ≡ getD w m (pos 0)
     kept m i q h =
-        getD-set-other (set (set w (3 * k) (v .x)) (3 * k + 1) (v .y)) (3 * k + 2) m (v .z) (pos 0) (λ e. apart i 2 h (omega arith) (sym q ∙ e))
+        getD-set-other (set (set w (3 * k) (v .x)) (3 * k + 1) (v .y)) (3 * k + 2) m (v .z) (pos 0)
+        (λ e. apart i 2 h (omega arith) (sym q ∙ e))
         ∙ getD-set-other (set w (3 * k) (v .x)) (3 * k + 1) m (v .y) (pos 0) (λ e. apart i 1 h (omega arith) (sym q ∙ e))
         ∙ getD-set-other w (3 * k) m (v .x) (pos 0) (λ (e : m ≡ 3 * k). apart i 0 h (omega arith) (omega arith))
 
@@ -69,8 +71,8 @@ pub lined-none : (line : ℕ → V3) (from : ℕ) (w : List ℤ) → Lined line 
 lined-none line from w = record { long = refl; before = λ k h. refl; stored = λ k h. absurd (omega arith) }
 
 -- one more
-pub lined-on : {line : ℕ → V3} {from count : ℕ} {w w' : List ℤ} {v : V3} → Lined line from count w w' → 3 * (from + count) + 2 < length w → v ≡ line count
-    → Lined line from (count + 1) w (put w' (from + count) v)
+pub lined-on : {line : ℕ → V3} {from count : ℕ} {w w' : List ℤ} {v : V3} → Lined line from count w w'
+    → 3 * (from + count) + 2 < length w → v ≡ line count → Lined line from (count + 1) w (put w' (from + count) v)
 lined-on {line} {from} {count} {w} {w'} {v} l h e =
     record {
       long = put-length w' (from + count) v ∙ l .long;

@@ -1,5 +1,5 @@
-// The walk by process of request 2.4, as words: the instances process by process in row order, along each process's own line from first to last; and refusal 17,
-// the search along it for an element that no instance touches. The words of an instance are its three coordinates.
+// The walk by process of request 2.4, as words: the instances process by process in row order, along each process's own line from first to
+// last; and refusal 17, the search along it for an element that no instance touches. The words of an instance are its three coordinates.
 //
 // specs/, by file:
 //
@@ -112,8 +112,8 @@ fn number_at(m: Matrix, e: Extent, walk: &[i32], k: usize) -> usize
     numbering::row_number(e, vectors::image_of(m, instance_at(walk, k))) as usize
 }
 
-// Whether some element of the box is touched by no instance of the walk. For each element in turn the search goes on along the walk from where it stopped, marking
-// the elements that it passes, until this one is marked or the walk is over.
+// Whether some element of the box is touched by no instance of the walk. For each element in turn the search goes on along the walk from
+// where it stopped, marking the elements that it passes, until this one is marked or the walk is over.
 pub fn untouched(
     m: Matrix,
     e: Extent,

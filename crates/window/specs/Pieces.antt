@@ -113,8 +113,10 @@ ownTests d pipe side waiting received =
 -- a refusal leaves no part
 pub refused-piece : (d : Description) (pipe : ℕ) {waiting received k m : ℕ} {r : Piece} → r ≡ nothing k → (k ≡ 0 → ⊥) → k ≡ m
     → (r ≡ pieceOf d pipe m) × (Within r waiting received)
-refused-piece d pipe {waiting} {received} {k} h f e =
-    (h ∙ no-piece d pipe k f ∙ ap (pieceOf d pipe) e, subst (λ (r : Piece). Within r waiting received) (sym h) (nothing-within k waiting received))
+refused-piece d pipe {waiting} {received} {k} h f e = (
+  h ∙ no-piece d pipe k f ∙ ap (pieceOf d pipe) e,
+  subst (λ (r : Piece). Within r waiting received) (sym h) (nothing-within k waiting received),
+)
 
 module _ (d : Description) (pipe side waiting received : ℕ) where
   abbrev pipes : ℕ
@@ -192,13 +194,14 @@ module _ (l : Limits) (s : List ℕ) (pipe side : ℕ) (waiting received : List 
   unfolding window
   part-is h =
       h ∙ ap (λ (r : Piece). take (r .from + r .length - r .from) (drop (r .from) (cond (eqb side 0) waiting received))) e
-      ∙ go (eqb (refusedBy l s (ownTests (descriptionOf s) pipe side (length waiting) (length received))) 0) (partStart (arrayOf (descriptionOf s)) pipe)
-      (elementsOn (arrayOf (descriptionOf s)) pipe) (cond (eqb side 0) waiting received)
+      ∙ go (eqb (refusedBy l s (ownTests (descriptionOf s) pipe side (length waiting) (length received))) 0)
+      (partStart (arrayOf (descriptionOf s)) pipe) (elementsOn (arrayOf (descriptionOf s)) pipe) (cond (eqb side 0) waiting received)
     where
       none : (l : List ℕ) → take (0 + 0 - 0) (drop 0 l) ≡ []
       none [] = refl
       none (x ∷ l) = refl
 
-      go : (b : Bool) (k n : ℕ) (l : List ℕ) → take (cond b k 0 + cond b n 0 - cond b k 0) (drop (cond b k 0) l) ≡ cond b (take n (drop k l)) []
+      go : (b : Bool) (k n : ℕ) (l : List ℕ)
+          → take (cond b k 0 + cond b n 0 - cond b k 0) (drop (cond b k 0) l) ≡ cond b (take n (drop k l)) []
       go true k n l = let q : k + n - k ≡ n = omega arith in ap (λ (i : ℕ). take i (drop k l)) q
       go false k n l = none l

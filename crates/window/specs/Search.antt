@@ -147,7 +147,8 @@ allLengths n ss = each (streamLengths n) ss
 
 module _ (n : Nest) (w : Search) where
   pub stream-next : (ss : List Stream) (i : ℕ) → i < length ss
-      → searched (searched w (streamLengths n (getD ss i noStream))) (allLengths n (drop (i + 1) ss)) ≡ searched w (allLengths n (drop i ss))
+      → searched (searched w (streamLengths n (getD ss i noStream))) (allLengths n (drop (i + 1) ss))
+      ≡ searched w (allLengths n (drop i ss))
   unfolding each
   stream-next ss i h =
       ap (λ (k : ℕ). searched (searched w (streamLengths n (getD ss i noStream))) (allLengths n (drop k ss))) (add-one i)

@@ -249,7 +249,8 @@ pub fn window<'a>(
     received: &'a [u32],
     number: &mut u32,
 ) -> &'a [u32]
-    ensures { λ r. ⌜ (now (number .exit) ≡ window (limitsOf board) (now (s .entry)) pipe side (now (waiting .entry)) (now (received .entry)) .refusal)
+    ensures { λ r. ⌜ (now (number .exit)
+        ≡ window (limitsOf board) (now (s .entry)) pipe side (now (waiting .entry)) (now (received .entry)) .refusal)
         × (now r ≡ window (limitsOf board) (now (s .entry)) pipe side (now (waiting .entry)) (now (received .entry)) .part) ⌝ }
 {
     let piece = piece_of(board, s, pipe, side, waiting.len(), received.len());

@@ -35,7 +35,8 @@ module _ (row : List ℕ) (at : ℕ) (l : List ℕ) where
   stored-other (suc n) k (inl h) =
       getD-set-other (stored row at n l) (at + n) k (getD row n 0) 0 (λ (e : k ≡ at + n). omega arith) ∙ stored-other n k (inl h)
   stored-other (suc n) k (inr h) =
-      getD-set-other (stored row at n l) (at + n) k (getD row n 0) 0 (λ (e : k ≡ at + n). omega arith) ∙ stored-other n k (inr (omega arith))
+      getD-set-other (stored row at n l) (at + n) k (getD row n 0) 0 (λ (e : k ≡ at + n). omega arith)
+      ∙ stored-other n k (inr (omega arith))
 
   -- what stands there
   pub stored-at : (n w : ℕ) → w < n → at + n ≤ length l → getD (stored row at n l) (at + w) 0 ≡ getD row w 0

@@ -1,5 +1,5 @@
-//! Request 2.9: the bench holds 256 processes and 1,024 instances, the gauge 1,024 and 4,096, every call is told which of them it serves, and 33 comes before
-//! all else.
+//! Request 2.9: the bench holds 256 processes and 1,024 instances, the gauge 1,024 and 4,096, every call is told which of them it serves,
+//! and 33 comes before all else.
 
 use std::collections::{BTreeMap, BTreeSet};
 
@@ -95,8 +95,8 @@ fn worked_figures() {
     assert_eq!(numbers(&grid(32, 32, 5)), [6, 6]);
 }
 
-/// A description that the gauge refuses by 7 to 17 can be the bench's 6, and one that it refuses by 11 to 17 the bench's 10; where the bench holds it, its
-/// number is the gauge's.
+/// A description that the gauge refuses by 7 to 17 can be the bench's 6, and one that it refuses by 11 to 17 the bench's 10; where the
+/// bench holds it, its number is the gauge's.
 #[test]
 fn the_smaller_pair_comes_before_other_refusals() {
     let pairs: BTreeSet<[u32; 2]> = board_cases().iter().map(numbers).collect();
@@ -392,7 +392,8 @@ fn a_script_on_no_board() {
 
 // Demand 3 with other board words in the later calls.
 
-/// A run whose later calls are told any word, beside one that is told the first board's and plays only those that are not declined by another's.
+/// A run whose later calls are told any word, beside one that is told the first board's and plays only those that are not declined by
+/// another's.
 struct Mixed {
     description: Vec<u8>,
     first: Machine,

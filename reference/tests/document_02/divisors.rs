@@ -287,8 +287,9 @@ fn near_points() -> Vec<[i32; 3]> {
         .collect()
 }
 
-/// Around 0 the values (y1,y2) are those for which the divisor divides y2 times the top row less y1 times the low row. The rows with a value are those
-/// whose y1 is a multiple of h, the greatest divisor of the top row; there the values lie k apart, and h times k is the divisor.
+/// Around 0 the values (y1,y2) are those for which the divisor divides y2 times the top row less y1 times the low row. The rows with a
+/// value are those whose y1 is a multiple of h, the greatest divisor of the top row; there the values lie k apart, and h times k is the
+/// divisor.
 #[test]
 fn values_of_three_loops() {
     let points = near_points();

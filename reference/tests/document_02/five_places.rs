@@ -27,8 +27,8 @@ fn long_hop(description: &Description) -> Option<usize> {
     })
 }
 
-/// How often a test met: no long hop and accepted; none and refused; a long hop, accepted before; one, refused before by 15 to 17; one, refused by what
-/// comes before its 14.
+/// How often a test met: no long hop and accepted; none and refused; a long hop, accepted before; one, refused before by 15 to 17; one,
+/// refused by what comes before its 14.
 #[derive(Debug, Default)]
 struct Met([u32; 5]);
 

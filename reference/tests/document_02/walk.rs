@@ -1,5 +1,5 @@
-//! Request 2.4: the check for untouched elements goes process by process in row order, along each process's own line from first to last, and Accept answers as
-//! before.
+//! Request 2.4: the check for untouched elements goes process by process in row order, along each process's own line from first to last,
+//! and Accept answers as before.
 
 use std::collections::{BTreeMap, BTreeSet};
 
@@ -71,7 +71,8 @@ struct Met {
 }
 
 impl Met {
-    /// Every instance once and nothing else; the points of the processes never fall, and within a process each step is an increment further.
+    /// Every instance once and nothing else; the points of the processes never fall, and within a process each step is an increment
+    /// further.
     fn judge(&mut self, description: &Description) {
         let walk = walk(description);
         let mut all = written_order(description);
@@ -230,7 +231,8 @@ fn refusals() {
 
 // Refusal 17.
 
-/// The number of the first element of a stream's box that no instance touches, by the definition, with the number of elements; nothing if there is none.
+/// The number of the first element of a stream's box that no instance touches, by the definition, with the number of elements; nothing if
+/// there is none.
 fn first_untouched(description: &Description, stream: usize) -> Option<(usize, usize)> {
     let instances = written_order(description);
     let used = instances
@@ -471,8 +473,8 @@ fn two_matrix_products() {
 
 // The comparison.
 
-/// What its descriptions have of walks: every answer after 10 with a longer stride at a process with several instances, three loops all in direction −1 that
-/// are accepted and that are not, and boxes of 4,096 elements.
+/// What its descriptions have of walks: every answer after 10 with a longer stride at a process with several instances, three loops all in
+/// direction −1 that are accepted and that are not, and boxes of 4,096 elements.
 #[test]
 fn what_the_comparison_shows() {
     let mut strides = BTreeSet::new();

@@ -44,7 +44,8 @@ returns c =
     let k = c .before .before .before .before in
     let b = k .before .before in
     accepts _ (now (b .before .before .before .args .s)) (sym (b .refusal-of .ensures .0) ∙ k .before .if1 .taken)
-    (c .before .figures-of .ensures ∙ ap figures (k .description .ensures)) (c .divisors-of .ensures ∙ ap divisors (k .description .ensures))
+    (c .before .figures-of .ensures ∙ ap figures (k .description .ensures))
+    (c .divisors-of .ensures ∙ ap divisors (k .description .ensures))
 
 returns-2 : tie.Need-returns-2
 returns-2 c = refuses _ (now (c .before .before .before .before .args .s)) (c .before .refusal-of .ensures .0) (c .if1 .left)

@@ -21,7 +21,8 @@ enum-known-answer-2 c = search needs
 returns : tie.Need-returns
 returns c =
     let m = c .before .before .before in
-    accepted-left (now (m .before .before .before .before .args .figures)) (sym (m .before .before .accept .ensures) ∙ m .answer .given .1) (c .put-figures .ensures)
+    accepted-left (now (m .before .before .before .before .args .figures)) (sym (m .before .before .accept .ensures) ∙ m .answer .given .1)
+    (c .put-figures .ensures)
 
 returns-2 : tie.Need-returns-2
 returns-2 c =

@@ -22,7 +22,8 @@ returns : tie.Need-returns
 returns c =
     let m = c .before .before in
     let p = m .before .before .before .before in
-    let l = ready-left (now (p .before .before .before .before .before .before .before .args .answer)) (sym (p .ready .ensures .0) ∙ m .found .given .1) in
+    let l = ready-left (now (p .before .before .before .before .before .before .before .args .answer))
+    (sym (p .ready .ensures .0) ∙ m .found .given .1) in
     (l .0, p .ready .ensures .1, l .1)
 
 same-length-2 : tie.Need-same-length-2
@@ -32,7 +33,8 @@ returns-2 : tie.Need-returns-2
 returns-2 c =
     let m = c .before in
     let p = m .before .before .before .before in
-    let l = ready-declined (now (p .before .before .before .before .before .before .before .args .answer)) (sym (p .ready .ensures .0) ∙ m .found2 .given .1) in
+    let l = ready-declined (now (p .before .before .before .before .before .before .before .args .answer))
+    (sym (p .ready .ensures .0) ∙ m .found2 .given .1) in
     (l .0, p .ready .ensures .1, l .1)
 
 pub beqlanosh-ready-spec : {M : Type 1} → statement M

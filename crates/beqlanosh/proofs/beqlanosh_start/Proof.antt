@@ -22,7 +22,8 @@ same-length-3 c = search needs
 
 returns : tie.Need-returns
 returns c =
-    let p = c .before .before .before .before .before .before .before .start .ensures in (c .number-of .ensures ∙ ap answerNumber (p .0), p .1)
+    let p = c .before .before .before .before .before .before .before .start .ensures in
+    (c .number-of .ensures ∙ ap answerNumber (p .0), p .1)
 
 pub beqlanosh-start-spec : {M : Type 1} → statement M
 beqlanosh-start-spec =

@@ -60,7 +60,8 @@ loop-again c =
 
 returns : tie.Need-returns Inv-loop μ-loop
 returns c =
-    let e : c .before .loop .counted ≡ 16 = omega arith in c .before .loop .inv .2 ∙ ap (λ (k : ℕ). onesOf (take k (c .before .before .args .words .now))) e
+    let e : c .before .loop .counted ≡ 16 = omega arith in
+    c .before .loop .inv .2 ∙ ap (λ (k : ℕ). onesOf (take k (c .before .before .args .words .now))) e
 
 pub count-spec : {M : Type 1} → statement M
 count-spec = tie.close (tie.spec Inv-loop μ-loop loop-holds mul-n shared-slice-read-n add-n add-counted loop-less loop-again returns)

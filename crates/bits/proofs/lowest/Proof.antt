@@ -77,7 +77,9 @@ returns-2 c =
     let words = a .words .now in
     let e : 16 ≡ c .before .loop .k = omega arith in
     let none-left : drop 16 (take 16 words) ≡ [] = drop-of-length-le (take 16 words) {i = 16} (rw length-take (omega arith)) in
-    ap (lowestFrom (a .none) 16) (sym none-left) ∙ ap (λ (k : ℕ). lowestFrom (a .none) k (drop k (take 16 words))) e ∙ c .before .loop .inv .1
+    ap (lowestFrom (a .none) 16) (sym none-left) ∙ ap (λ (k : ℕ). lowestFrom (a .none) k (drop k (take 16 words))) e
+    ∙ c .before .loop .inv .1
 
 pub lowest-spec : {M : Type 1} → statement M
-lowest-spec = tie.close (tie.spec Inv-loop μ-loop loop-holds mul-w shared-slice-read-w cast-result mul-result add-result returns add-k loop-less loop-again returns-2)
+lowest-spec = tie.close (tie.spec Inv-loop μ-loop loop-holds mul-w shared-slice-read-w cast-result mul-result add-result returns add-k
+    loop-less loop-again returns-2)

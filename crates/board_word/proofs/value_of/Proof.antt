@@ -36,7 +36,8 @@ loop-again c =
     let ds = now (b .before .before .args .digits) in
     let i = b .loop .i in (
       omega arith,
-      ap (λ (v : ℕ). valueOf v (drop (i + 1) ds)) (c .with-digit .ensures) ∙ value-next ds i (b .loop .value) (omega arith) ∙ b .loop .inv .1,
+      ap (λ (v : ℕ). valueOf v (drop (i + 1) ds)) (c .with-digit .ensures) ∙ value-next ds i (b .loop .value) (omega arith)
+          ∙ b .loop .inv .1,
     )
 
 returns : tie.Need-returns Inv-loop μ-loop

@@ -17,7 +17,8 @@ returns c =
     let a = c .before .before .before .args in
     let i = c .before .before .index-of in
     c .compares .ensures
-    ∙ ap₂ (compares (a .l .comparison)) (held (i .ok) (i .ensures)) (tower (a .l .bound) (c .before .struct-told .given .1 .1 .1 .1 .1 .1 .0 .1))
+    ∙ ap₂ (compares (a .l .comparison)) (held (i .ok) (i .ensures))
+    (tower (a .l .bound) (c .before .struct-told .given .1 .1 .1 .1 .1 .1 .0 .1))
 
 pub admits-spec : {M : Type 1} → statement M
 admits-spec = tie.close (tie.spec index-of-requires compares-requires returns)

@@ -48,7 +48,8 @@ loop-again : tie.Need-loop-again Inv-loop μ-loop
 loop-again c =
     let q = c .before .before .before in
     let s = q .before in
-    let next = gather-next (s .args .store .now) (s .args .places .now) (q .loop .i) (c .before .before .loop-test .taken) (s .pre .streams) in
+    let next = gather-next (s .args .store .now) (s .args .places .now) (q .loop .i) (c .before .before .loop-test .taken)
+    (s .pre .streams) in
     (omega arith, rw (q .loop .inv .1) next)
 
 returns : tie.Need-returns Inv-loop μ-loop

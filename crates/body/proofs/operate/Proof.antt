@@ -45,7 +45,8 @@ returns-2 c = rw (c .before .match .keys2) (c .wrapping-add-u32 .ensures)
 returns-3 : tie.Need-returns-3
 returns-3 c =
     let g = c .before .before .args in
-    rw (c .before .match .keys3) (difference (c .wrapping-sub-u32 .result) (g .a) (g .b) (omega arith) (omega arith) (c .wrapping-sub-u32 .ensures))
+    rw (c .before .match .keys3)
+    (difference (c .wrapping-sub-u32 .result) (g .a) (g .b) (omega arith) (omega arith) (c .wrapping-sub-u32 .ensures))
 
 returns-4 : tie.Need-returns-4
 returns-4 c = rw (c .before .match .keys4) (c .times .ensures)

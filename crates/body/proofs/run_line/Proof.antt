@@ -39,7 +39,8 @@ admits-requires c κs = search needs
 
 returns : tie.Need-returns
 returns c =
-    let t = sym (c .before .before .before .before .admits .ensures) ∙ c .before .before .before .if1 .taken in rw (t, c .operate .ensures) refl
+    let t = sym (c .before .before .before .before .admits .ensures) ∙ c .before .before .before .if1 .taken in
+    rw (t, c .operate .ensures) refl
 
 returns-2 : tie.Need-returns-2
 returns-2 c = let t = sym (c .before .admits .ensures) ∙ c .if1 .left in rw t refl

@@ -7,7 +7,8 @@ use Rattle.compare.proofs.fill_values.Statement.{statement}
 use Rattle.compare.proofs.fill_values.Tie as tie
 
 abbrev Inv-loop : tie.InvT-loop
-Inv-loop values₀ count number value₀ k₀ values value k = (k ≤ count) × (count ≤ 24577) × (count ≤ length values) × (length values ≡ length values₀)
+Inv-loop values₀ count number value₀ k₀ values value k =
+    (k ≤ count) × (count ≤ 24577) × (count ≤ length values) × (length values ≡ length values₀)
 
 abbrev μ-loop : tie.MeasureT-loop
 μ-loop values₀ count number value₀ k₀ values value k = count - k

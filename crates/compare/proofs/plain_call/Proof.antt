@@ -10,7 +10,8 @@ mark-requires c κs = search needs
 
 slice-aggregate-plain-run : tie.Need-slice-aggregate-plain-run
 slice-aggregate-plain-run c =
-    let g = c .before .before .before .before .before .before .before .before .args in sym (length-take-le (g .given) (g .values .now) (search needs))
+    let g = c .before .before .before .before .before .before .before .before .args in
+    sym (length-take-le (g .given) (g .values .now) (search needs))
 
 slice-relend-prefix-plain-run : tie.Need-slice-relend-prefix-plain-run
 slice-relend-prefix-plain-run c = search needs

@@ -13,7 +13,8 @@ cast-e : tie.Need-cast-e
 cast-e c = search needs
 
 returns : tie.Need-returns
-returns c = let a = c .before .before .args in refuses 20 _ (ap (λ (b : Bool). not b || not (eqb (a .waiting) (a .f .elements))) (ne-eqb _ _ (c .if1 .taken)))
+returns c = let a = c .before .before .args in
+    refuses 20 _ (ap (λ (b : Bool). not b || not (eqb (a .waiting) (a .f .elements))) (ne-eqb _ _ (c .if1 .taken)))
 
 of-memory-requires : tie.Need-of-memory-requires
 of-memory-requires c κs = search needs

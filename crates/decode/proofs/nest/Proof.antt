@@ -35,7 +35,13 @@ returns : tie.Need-returns
 unfolding nestOf
 returns c =
     let b = c .before .before .before in
-    rw (b .before .vector .ensures, b .vector2 .ensures, c .before .before .vector3 .ensures, c .before .vector4 .ensures, c .matrix .ensures)
+    rw (
+      b .before .vector .ensures,
+      b .vector2 .ensures,
+      c .before .before .vector3 .ensures,
+      c .before .vector4 .ensures,
+      c .matrix .ensures,
+    )
 
 pub nest-spec : {M : Type 1} → statement M
 nest-spec =

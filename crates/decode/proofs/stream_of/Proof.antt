@@ -19,7 +19,12 @@ loading-requires c κs = search needs
 returns : tie.Need-returns
 unfolding streamOf
 returns c =
-    rw (c .before .before .matrix .ensures, c .loading .ensures, c .before .before .before .map-at .ensures .0, c .before .loading-at .ensures .0)
+    rw (
+      c .before .before .matrix .ensures,
+      c .loading .ensures,
+      c .before .before .before .map-at .ensures .0,
+      c .before .loading-at .ensures .0,
+    )
 
 pub stream-of-spec : {M : Type 1} → statement M
 stream-of-spec =

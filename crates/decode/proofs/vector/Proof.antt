@@ -30,8 +30,8 @@ returns : tie.Need-returns
 returns c =
     let a = c .before .before .before .before in
     let pad = tower (a .args .pad) (a .fits .pad .sfits) in
-    v3 (held (c .before .before .word-at .ok) (c .before .before .word-at .ensures)) (held (c .before .word-at2 .ok) (c .before .word-at2 .ensures))
-    (held (c .last .ok) (rw pad at (c .last .ensures)))
+    v3 (held (c .before .before .word-at .ok) (c .before .before .word-at .ensures))
+    (held (c .before .word-at2 .ok) (c .before .word-at2 .ensures)) (held (c .last .ok) (rw pad at (c .last .ensures)))
 
 pub vector-spec : {M : Type 1} → statement M
 vector-spec =

@@ -47,7 +47,8 @@ abbrev μ-loop : tie.MeasureT-loop
 μ-loop d i n j₀ j = n - j
 
 -- so many its type has
-eight : (b : lts.At-loop (line-reads.Asked, line-reads.Learnt) reads.Pre reads.Post Inv-loop μ-loop) → length (b .before .before .args .d .lines) ≡ 8
+eight : (b : lts.At-loop (line-reads.Asked, line-reads.Learnt) reads.Pre reads.Post Inv-loop μ-loop)
+    → length (b .before .before .args .d .lines) ≡ 8
 eight b = rw length-map at (b .before .before .good .0 .1 .1 .1 .1 .1 .0 .1 .0 .1)
 
 cast-n : tie.Need-cast-n Inv-loop μ-loop
@@ -63,7 +64,8 @@ returns : tie.Need-returns Inv-loop μ-loop
 returns c =
     let b = c .before .before .before .before in
     let a = b .before .before in
-    stops (a .args .d) (a .args .i) (a .pre) (eight b) (b .loop .j) (omega arith) (c .before .before .line .ensures) (eq-eqb _ _ (c .if1 .taken))
+    stops (a .args .d) (a .args .i) (a .pre) (eight b) (b .loop .j) (omega arith) (c .before .before .line .ensures)
+    (eq-eqb _ _ (c .if1 .taken))
     ∙ b .loop .inv
 
 add-j : tie.Need-add-j Inv-loop μ-loop
@@ -76,7 +78,8 @@ loop-again : tie.Need-loop-again Inv-loop μ-loop
 loop-again c =
     let b = c .before .before .before .before in
     let a = b .before .before in
-    goes (a .args .d) (a .args .i) (a .pre) (eight b) (b .loop .j) (omega arith) (c .before .before .line .ensures) (ne-eqb _ _ (c .if1 .left))
+    goes (a .args .d) (a .args .i) (a .pre) (eight b) (b .loop .j) (omega arith) (c .before .before .line .ensures)
+    (ne-eqb _ _ (c .if1 .left))
     ∙ b .loop .inv
 
 returns-2 : tie.Need-returns-2 Inv-loop μ-loop

@@ -19,7 +19,11 @@ least-requires : tie.Need-least-requires Inv-loop μ-loop
 least-requires c κs = search needs
 
 loop-holds : tie.Need-loop-holds Inv-loop μ-loop
-loop-holds c = (omega arith, refl, sym (fill-zero (λ i. getD (now (c .before .before .before .args .values)) i 0) (now (c .before .before .before .args .to))))
+loop-holds c = (
+  omega arith,
+  refl,
+  sym (fill-zero (λ i. getD (now (c .before .before .before .args .values)) i 0) (now (c .before .before .before .args .to))),
+)
 
 mul-to : tie.Need-mul-to Inv-loop μ-loop
 mul-to c = search needs
@@ -58,7 +62,8 @@ returns c =
     let a = c .before .before .before .before .before .args in
     let n = c .before .before .least in
     let e : l .i ≡ n .result = omega arith in
-    fill-done (λ i. getD (now (a .values)) i 0) (l .i) (min (length (now (a .values))) (length (now (a .to)))) (now (a .to)) (l .inv .2) (e ∙ n .ensures)
+    fill-done (λ i. getD (now (a .values)) i 0) (l .i) (min (length (now (a .values))) (length (now (a .to)))) (now (a .to))
+    (l .inv .2) (e ∙ n .ensures)
 
 pub copy-spec : {M : Type 1} → statement M
 copy-spec =

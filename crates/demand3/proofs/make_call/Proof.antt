@@ -138,7 +138,8 @@ same-length-2 c = search needs
 returns : tie.Need-returns
 returns c =
     let r = c .before .before .before .before .before in
-    rw (r .before .before .before .before .before .before .match .keys1) (same-made (r .step .ensures .1) refl refl refl (c .of-answer .ensures ∙ ap ofAnswer (r .step .ensures .0)))
+    rw (r .before .before .before .before .before .before .match .keys1)
+    (same-made (r .step .ensures .1) refl refl refl (c .of-answer .ensures ∙ ap ofAnswer (r .step .ensures .0)))
 
 same-length-3 : tie.Need-same-length-3
 same-length-3 c = search needs
@@ -149,7 +150,8 @@ same-length-4 c = search needs
 returns-2 : tie.Need-returns-2
 returns-2 c =
     let r = c .before .before .before .before .before in
-    rw (r .before .before .before .before .match .keys2) (same-made (r .run .ensures .1) refl refl refl (c .of-ran .ensures ∙ ap ofRan (r .run .ensures .0)))
+    rw (r .before .before .before .before .match .keys2)
+    (same-made (r .run .ensures .1) refl refl refl (c .of-ran .ensures ∙ ap ofRan (r .run .ensures .0)))
 
 same-length-5 : tie.Need-same-length-5
 same-length-5 c = search needs
@@ -163,7 +165,8 @@ same-length-7 c = search needs
 returns-3 : tie.Need-returns-3
 returns-3 c =
     let r = c .before .before .before in
-    rw (r .before .before .before .before .match .keys3) (same-made refl (r .ready .ensures .1) refl refl (c .of-readiness .ensures ∙ ap ofReadiness (r .ready .ensures .0)))
+    rw (r .before .before .before .before .match .keys3)
+    (same-made refl (r .ready .ensures .1) refl refl (c .of-readiness .ensures ∙ ap ofReadiness (r .ready .ensures .0)))
 
 same-length-8 : tie.Need-same-length-8
 same-length-8 c = search needs

@@ -38,12 +38,20 @@ same-length-7 c = search needs
 
 returns : tie.Need-returns
 returns c =
-    let a = c .before .before .before .before .before .before .before .before .before .before .before .before .before .before .before .before .before .before .before .before .before .before .before .before .before .before .before .before .before .before .before .before .before .before .before .before .before .before .before .before .before .before .args in
-    let s = c .before .before .before .before .before .before .before .before .before .before .before .before .before .before .before .before .before .before .before .before .before .before .before .before .before .before .before .before .start .ensures in
-    let L = lentOf (now (a .waiting)) (now (a .received)) (now (a .state)) (now (a .words)) (now (a .output)) (now (a .part)) (now (a .answers)) in
+    let a = c .before .before .before .before .before .before .before .before .before .before .before .before .before .before .before
+    .before .before .before .before .before .before .before .before .before .before .before .before .before .before .before .before .before
+    .before .before .before .before .before .before .before .before .before .before .args in
+    let s = c .before .before .before .before .before .before .before .before .before .before .before .before .before .before .before
+    .before .before .before .before .before .before .before .before .before .before .before .before .before .start .ensures in
+    let L = lentOf (now (a .waiting)) (now (a .received)) (now (a .state)) (now (a .words)) (now (a .output)) (now (a .part))
+    (now (a .answers)) in
     let m =
-    played-on (a .board) (now (a .s)) (now (a .values)) (now (a .calls)) L (s .0) (c .before .before .before .before .before .before .before .before .before .before .before .before .before .before .before .before .before .before .before .before .before .number-of .ensures) (c .before .before .before .before .before .before .before .before .before .before .before .before .before .before .before .before .before .before .before .before .if1 .taken)
-    (same-lent (s .1) refl refl refl refl) (c .before .before .before .before .before .before .before .before .before .before .before .before .play-calls .ensures) in
+    played-on (a .board) (now (a .s)) (now (a .values)) (now (a .calls)) L (s .0) (c .before .before .before .before .before .before .before
+    .before .before .before .before .before .before .before .before .before .before .before .before .before .before .number-of .ensures)
+    (c .before .before .before .before .before .before .before .before .before .before .before .before .before .before .before .before
+    .before .before .before .before .if1 .taken)
+    (same-lent (s .1) refl refl refl refl)
+    (c .before .before .before .before .before .before .before .before .before .before .before .before .play-calls .ensures) in
     (s .0, m, promised (a .board) (now (a .s)) (now (a .values)) (now (a .calls)) L (s .0) m)
 
 same-length-8 : tie.Need-same-length-8
@@ -57,9 +65,11 @@ same-length-10 c = search needs
 
 returns-2 : tie.Need-returns-2
 returns-2 c =
-    let a = c .before .before .before .before .before .before .before .before .before .before .before .before .before .before .before .before .before .before .before .before .before .before .args in
+    let a = c .before .before .before .before .before .before .before .before .before .before .before .before .before .before .before
+    .before .before .before .before .before .before .before .args in
     let s = c .before .before .before .before .before .before .before .before .start .ensures in
-    let L = lentOf (now (a .waiting)) (now (a .received)) (now (a .state)) (now (a .words)) (now (a .output)) (now (a .part)) (now (a .answers)) in
+    let L = lentOf (now (a .waiting)) (now (a .received)) (now (a .state)) (now (a .words)) (now (a .output)) (now (a .part))
+    (now (a .answers)) in
     let m =
     played-off (a .board) (now (a .s)) (now (a .values)) (now (a .calls)) L (s .0) (c .before .number-of .ensures) (c .if1 .left)
     (same-lent (s .1) refl refl refl refl) in

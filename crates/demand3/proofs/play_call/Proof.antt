@@ -33,7 +33,8 @@ same-length-6 c = search needs
 returns : tie.Need-returns
 returns c =
     let m = c .before .before .before .before .before .before .before .before .before .before .before .before .before .before in
-    let a = m .before .before .before .before .before .before .before .before .before .before .before .before .before .before .before .args in
+    let a =
+    m .before .before .before .before .before .before .before .before .before .before .before .before .before .before .before .args in
     rw (c .before .before .note .ensures) (ap (lentAfter (now (a .answers)) (a .k)) (m .make-call .ensures))
 
 pub play-call-spec : {M : Type 1} → statement M

@@ -11,8 +11,8 @@ use Rattle.demand3.proofs.play_calls.Tie as tie
 
 abbrev Inv-loop : tie.InvT-loop
 Inv-loop s calls words₀ output₀ part₀ answers₀ waiting received₀ state₀ n k₀ words output part answers received state k =
-    (k ≤ n) × (length words ≡ length words₀) × (length output ≡ length output₀) × (length part ≡ length part₀) × (length answers ≡ length answers₀)
-    × (length received ≡ length received₀) × (length state ≡ length state₀)
+    (k ≤ n) × (length words ≡ length words₀) × (length output ≡ length output₀) × (length part ≡ length part₀)
+    × (length answers ≡ length answers₀) × (length received ≡ length received₀) × (length state ≡ length state₀)
     × (playFrom s calls 0 n (lentOf waiting received₀ state₀ words₀ output₀ part₀ answers₀)
     ≡ playFrom s calls k (n - k) (lentOf waiting received state words output part answers))
 
@@ -21,7 +21,8 @@ abbrev μ-loop : tie.MeasureT-loop
     n - k
 
 loop-holds : tie.Need-loop-holds Inv-loop μ-loop
-loop-holds c = let a = c .before .before .before .before .before .before .before .before .before .args in (omega arith, refl, refl, refl, refl, refl, refl, play-all (now (a .s)) (now (a .calls)) _ _)
+loop-holds c = let a = c .before .before .before .before .before .before .before .before .before .args in
+    (omega arith, refl, refl, refl, refl, refl, refl, play-all (now (a .s)) (now (a .calls)) _ _)
 
 play-call-requires : tie.Need-play-call-requires Inv-loop μ-loop
 play-call-requires c κs = omega (arith, c .before .before .before .before .before .before .loop-test .taken)
@@ -30,13 +31,20 @@ add-k : tie.Need-add-k Inv-loop μ-loop
 add-k c = search needs
 
 loop-less : tie.Need-loop-less Inv-loop μ-loop
-loop-less c = omega (arith, c .before .before .before .before .before .before .before .before .before .before .before .before .before .before .before .before .before .before .before .loop-test .taken)
+loop-less c = omega (
+  arith,
+  c .before .before .before .before .before .before .before .before .before .before .before .before .before .before .before .before .before
+      .before .before .loop-test .taken,
+)
 
 loop-again : tie.Need-loop-again Inv-loop μ-loop
 loop-again c =
-    let h = c .before .before .before .before .before .before .before .before .before .before .before .before .before .before .before .before .before .before .before .loop-test .taken in
-    let q = c .before .before .before .before .before .before .before .before .before .before .before .before .before .before .before .before .before .before .before .before .loop in
-    let a = c .before .before .before .before .before .before .before .before .before .before .before .before .before .before .before .before .before .before .before .before .before .before .before .before .before .before .before .before .before .before .args in
+    let h = c .before .before .before .before .before .before .before .before .before .before .before .before .before .before .before
+    .before .before .before .before .loop-test .taken in
+    let q = c .before .before .before .before .before .before .before .before .before .before .before .before .before .before .before
+    .before .before .before .before .before .loop in
+    let a = c .before .before .before .before .before .before .before .before .before .before .before .before .before .before .before
+    .before .before .before .before .before .before .before .before .before .before .before .before .before .before .before .args in
     let i = q .inv in
     let p = c .before .before .before .before .before .before .before .before .before .before .before .before .play-call .ensures in
     let L = lentOf (now (a .waiting)) (q .received) (q .state) (q .words) (q .output) (q .part) (q .answers) in (

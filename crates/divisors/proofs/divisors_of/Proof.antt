@@ -36,9 +36,10 @@ stream-divisor-requires-6 c κs = search needs
 
 returns : tie.Need-returns
 returns c =
-    seven (ap (λ (r : Short). r .divisor) (c .before .before .before .before .before .before .short-of .ensures .0)) (c .before .before .before .before .before .stream-divisor .ensures)
-    (c .before .before .before .before .stream-divisor2 .ensures) (c .before .before .before .stream-divisor3 .ensures) (c .before .before .stream-divisor4 .ensures)
-    (c .before .stream-divisor5 .ensures) (c .stream-divisor6 .ensures)
+    seven (ap (λ (r : Short). r .divisor) (c .before .before .before .before .before .before .short-of .ensures .0))
+    (c .before .before .before .before .before .stream-divisor .ensures)
+    (c .before .before .before .before .stream-divisor2 .ensures) (c .before .before .before .stream-divisor3 .ensures)
+    (c .before .before .stream-divisor4 .ensures) (c .before .stream-divisor5 .ensures) (c .stream-divisor6 .ensures)
 
 pub divisors-of-spec : {M : Type 1} → statement M
 divisors-of-spec =

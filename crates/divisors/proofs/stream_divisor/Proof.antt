@@ -17,12 +17,14 @@ stream-requires c κs = search needs
 short-of-requires : tie.Need-short-of-requires
 short-of-requires c κs =
     let a = c .before .before .before .before in
-    subst (λ (s : Stream). Rows 4 (s .map)) (sym (c .before .stream .ensures)) (in-range (a .pre .0 .ranged .nest) (a .pre .0 .ranged .streams (a .args .i)) .map)
+    subst (λ (s : Stream). Rows 4 (s .map)) (sym (c .before .stream .ensures))
+    (in-range (a .pre .0 .ranged .nest) (a .pre .0 .ranged .streams (a .args .i)) .map)
 
 returns : tie.Need-returns
 returns c =
     let a = c .before .before .before .before .before in
-    of-stream (a .args .d) (a .pre .0) (a .args .i) (c .before .before .before .if1 .taken) (c .before .before .stream .ensures) (ap (λ (r : Short). r .divisor) (c .short-of .ensures .0))
+    of-stream (a .args .d) (a .pre .0) (a .args .i) (c .before .before .before .if1 .taken) (c .before .before .stream .ensures)
+    (ap (λ (r : Short). r .divisor) (c .short-of .ensures .0))
 
 returns-2 : tie.Need-returns-2
 returns-2 c =

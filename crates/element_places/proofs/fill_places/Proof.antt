@@ -13,7 +13,8 @@ use Rattle.element_places.proofs.fill_places.Tie as tie
 
 abbrev Inv-loop : tie.InvT-loop
 Inv-loop d spans places₀ n m i₀ places i =
-    (i ≤ d .sizes .streams) × (length places ≡ 24576) × ((e : ℕ) → e < streamStart (d .nest) (streamsOf d) i → getD places e 0 ≡ placeOfElement d e)
+    (i ≤ d .sizes .streams) × (length places ≡ 24576)
+    × ((e : ℕ) → e < streamStart (d .nest) (streamsOf d) i → getD places e 0 ≡ placeOfElement d e)
 
 abbrev μ-loop : tie.MeasureT-loop
 μ-loop d spans places₀ n m i₀ places i = d .sizes .streams - i
@@ -25,19 +26,29 @@ cast-stream : tie.Need-cast-stream Inv-loop μ-loop
 cast-stream c = search needs
 
 stream-requires : tie.Need-stream-requires Inv-loop μ-loop
-stream-requires c κs = omega (arith, c .loop-test .taken, c .before .before .before .before .before .pre .0 .described .few .ranged .sized .most-streams)
+stream-requires c κs =
+    omega (arith, c .loop-test .taken, c .before .before .before .before .before .pre .0 .described .few .ranged .sized .most-streams)
 
 elements-in-requires : tie.Need-elements-in-requires Inv-loop μ-loop
-elements-in-requires c κs = (c .before .before .before .before .before .before .pre .0 .described .few, omega (arith, c .before .loop-test .taken))
+elements-in-requires c κs =
+    (c .before .before .before .before .before .before .pre .0 .described .few, omega (arith, c .before .loop-test .taken))
 
 fill-stream-requires : tie.Need-fill-stream-requires Inv-loop μ-loop
 fill-stream-requires c κs =
     let s = c .before .before .before .before .before .before .before .before in
-    stream-streaming (s .pre .0 .described) (c .before .before .before .before .loop .i) (c .before .before .before .loop-test .taken) (c .before .before .stream .ensures) (c .before .elements-in .ensures) (s .pre .1) (s .pre .2)
+    stream-streaming (s .pre .0 .described) (c .before .before .before .before .loop .i) (c .before .before .before .loop-test .taken)
+    (c .before .before .stream .ensures) (c .before .elements-in .ensures) (s .pre .1) (s .pre .2)
     (c .before .before .before .before .loop .inv .1)
 
 add-i : tie.Need-add-i Inv-loop μ-loop
-add-i c = record { fits = omega (arith, c .before .before .before .before .before .before .loop-test .taken, c .before .before .before .before .before .before .before .before .before .before .before .pre .0 .described .few .ranged .sized .most-streams) }
+add-i c = record {
+  fits = omega (
+    arith,
+    c .before .before .before .before .before .before .loop-test .taken,
+    c .before .before .before .before .before .before .before .before .before .before .before .pre .0 .described .few .ranged
+        .sized .most-streams,
+  );
+}
 
 loop-less : tie.Need-loop-less Inv-loop μ-loop
 loop-less c = search needs
@@ -47,7 +58,9 @@ loop-again c =
     let s = c .before .before .before .before .before .before .before .before .before .before .before in
     let l = c .before .before .before .before .before .before .before .loop in
     let t = c .before .before .before .before .before .before .loop-test .taken in
-    let n = next-right (s .pre .0) (l .i) t (c .before .before .before .before .before .stream .ensures) (c .before .before .before .before .elements-in .ensures) (l .places) _ (c .before .before .fill-stream .ensures) (l .inv .1) (l .inv .2) in
+    let n = next-right (s .pre .0) (l .i) t (c .before .before .before .before .before .stream .ensures)
+    (c .before .before .before .before .elements-in .ensures) (l .places) _ (c .before .before .fill-stream .ensures)
+    (l .inv .1) (l .inv .2) in
     (omega (arith, t), n .0, n .1)
 
 same-length : tie.Need-same-length Inv-loop μ-loop

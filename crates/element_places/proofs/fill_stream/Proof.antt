@@ -42,7 +42,8 @@ slice-aggregate-fill-starts-2 c = search needs
 fill-starts-requires : tie.Need-fill-starts-requires
 fill-starts-requires c κs =
     let f = c .before .before .before .before .before .before .before .flow-of in
-    let q = streaming (f .ensures .2) (f .ensures .0) (f .ensures .1) (c .before .before .before .before .before .before .before .before .before .before .pre) in
+    let q = streaming (f .ensures .2) (f .ensures .0) (f .ensures .1)
+    (c .before .before .before .before .before .before .before .before .before .before .pre) in
     let e = counted-is (f .ensures .2) (c .before .before .before .before .before .size-of .ensures .0) in (
       record {
         of = record { seen = c .before .before .before .fill-lanes .ensures; counted = e };
@@ -61,9 +62,12 @@ slice-aggregate-put-places-2 c = search needs
 put-places-requires : tie.Need-put-places-requires
 put-places-requires c κs =
     let f = c .before .before .before .before .before .before .before .before .before .before .before .before .flow-of in
-    let p = c .before .before .before .before .before .before .before .before .before .before .before .before .before .before .before .pre in
+    let p =
+    c .before .before .before .before .before .before .before .before .before .before .before .before .before .before .before .pre in
     let q = streaming (f .ensures .2) (f .ensures .0) (f .ensures .1) p in (
-      placing (f .ensures .2) (f .ensures .0) (f .ensures .1) p (c .before .before .before .before .before .before .before .before .fill-lanes .ensures) (counted-is (f .ensures .2) (c .before .before .before .before .before .before .before .before .before .before .size-of .ensures .0)) _
+      placing (f .ensures .2) (f .ensures .0) (f .ensures .1) p
+          (c .before .before .before .before .before .before .before .before .fill-lanes .ensures) (counted-is (f .ensures .2)
+          (c .before .before .before .before .before .before .before .before .before .before .size-of .ensures .0)) _
           (length-replicate {A = ℕ} 1024 0) (c .before .before .before .before .fill-starts .ensures),
       record { fits = q .fits; words = q .words },
     )
@@ -73,9 +77,15 @@ same-length c = search needs
 
 returns : tie.Need-returns
 returns c =
-    let f = c .before .before .before .before .before .before .before .before .before .before .before .before .before .before .before .flow-of in
-    said (f .ensures .2) (f .ensures .0) (f .ensures .1) (c .before .before .before .before .before .before .before .before .before .before .before .before .before .before .before .before .before .before .pre) (c .before .before .before .before .before .before .before .before .before .before .before .fill-lanes .ensures) (counted-is (f .ensures .2) (c .before .before .before .before .before .before .before .before .before .before .before .before .before .size-of .ensures .0)) _
-    (length-replicate {A = ℕ} 1024 0) (c .before .before .before .before .before .before .before .fill-starts .ensures) (c .before .before .put-places .ensures)
+    let f =
+    c .before .before .before .before .before .before .before .before .before .before .before .before .before .before .before .flow-of in
+    said (f .ensures .2) (f .ensures .0) (f .ensures .1) (c .before .before .before
+    .before .before .before .before .before .before .before .before .before .before .before .before .before .before .before .pre)
+    (c .before .before .before .before .before .before .before .before .before .before .before .fill-lanes .ensures)
+    (counted-is (f .ensures .2)
+    (c .before .before .before .before .before .before .before .before .before .before .before .before .before .size-of .ensures .0)) _
+    (length-replicate {A = ℕ} 1024 0) (c .before .before .before .before .before .before .before .fill-starts .ensures)
+    (c .before .before .put-places .ensures)
 
 pub fill-stream-spec : {M : Type 1} → statement M
 fill-stream-spec =

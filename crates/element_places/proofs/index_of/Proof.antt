@@ -9,11 +9,13 @@ use Rattle.element_places.proofs.index_of.Statement.{statement}
 use Rattle.element_places.proofs.index_of.Tie as tie
 
 instance-requires : tie.Need-instance-requires
-instance-requires c κs = let p = c .before .before .before .before .before .before .before .pre in (p .near .seen .flows .laid .in-range .nest, p .lt)
+instance-requires c κs = let p = c .before .before .before .before .before .before .before .pre in
+    (p .near .seen .flows .laid .in-range .nest, p .lt)
 
 image-of-requires : tie.Need-image-of-requires
 image-of-requires c κs =
-    let p = c .before .before .before .before .before .before .before .before .pre in (wider-map (at-here p), wider tt (c .instance .ensures .1))
+    let p = c .before .before .before .before .before .before .before .before .pre in
+    (wider-map (at-here p), wider tt (c .instance .ensures .1))
 
 reach-of-requires : tie.Need-reach-of-requires
 reach-of-requires c κs =
@@ -31,7 +33,8 @@ returns c =
     let t = c .before .before .before .before .before .before .before .if1 in (
       index-here (s .pre)
           (index-moving (at-here (s .pre)) (subst T (sym (t .taken)) tt) (run-here (s .pre))
-          (c .before .image-of .ensures .0 ∙ ap (image (s .args .f .stream .map)) (c .before .before .instance .ensures .0)) (c .reach-of .ensures .0)),
+          (c .before .image-of .ensures .0 ∙ ap (image (s .args .f .stream .map)) (c .before .before .instance .ensures .0))
+          (c .reach-of .ensures .0)),
       c .reach-of .ensures .1,
     )
 

@@ -23,11 +23,13 @@ mul-result c = search needs
 
 shared-slice-read-result : tie.Need-shared-slice-read-result
 shared-slice-read-result c =
-    let p = c .before .before .before .before .before .before .before .before .before .pre in omega (arith, c .before .entry-at .ensures .1, p .0 .long)
+    let p = c .before .before .before .before .before .before .before .before .before .pre in
+    omega (arith, c .before .entry-at .ensures .1, p .0 .long)
 
 index-of-requires : tie.Need-index-of-requires
 index-of-requires c κs =
-    let p = c .before .before .before .before .before .before .before .before .before .pre in fired-place (p .0) (p .1) (c .before .before .number-of .ensures)
+    let p = c .before .before .before .before .before .before .before .before .before .pre in
+    fired-place (p .0) (p .1) (c .before .before .number-of .ensures)
 
 add-result : tie.Need-add-result
 add-result c =

@@ -33,8 +33,10 @@ place-of-requires c κs =
 
 number-of-requires : tie.Need-number-of-requires Inv-loop μ-loop
 number-of-requires c κs =
-    let p = c .before .before .before .before .before .before .before .before .before .before .before .pre in
-    (numbered-map (p .0) (omega (arith, c .before .loop-test .taken, c .before .before .before .instance-count .ensures .0)), p .0 .seen .flows .elements-is)
+    let p = c .before .before .before .before .before .before .before .before .before .before .before .pre in (
+      numbered-map (p .0) (omega (arith, c .before .loop-test .taken, c .before .before .before .instance-count .ensures .0)),
+      p .0 .seen .flows .elements-is,
+    )
 
 add-places : tie.Need-add-places Inv-loop μ-loop
 add-places c =
@@ -73,9 +75,11 @@ returns : tie.Need-returns Inv-loop μ-loop
 returns c =
     let l = c .before .loop in
     let a = c .before .before .before .before .before .before .before .before .before .before .args in
-    let e : l .k ≡ length (instances (a .f .nest)) = omega (arith, c .loop-test .left, l .inv .0, c .before .before .instance-count .ensures .0) in
+    let e : l .k ≡ length (instances (a .f .nest)) = omega
+    (arith, c .loop-test .left, l .inv .0, c .before .before .instance-count .ensures .0) in
     l .inv .2
-    ∙ ap (λ (k : ℕ). spread (elementNumber (a .f .nest) (a .f .stream) (a .first)) (placeBy (a .f .nest) (a .f .stream) (now (a .starts))) k (now (a .places))) e
+    ∙ ap (λ (k : ℕ). spread (elementNumber (a .f .nest) (a .f .stream) (a .first)) (placeBy (a .f .nest) (a .f .stream) (now (a .starts))) k
+    (now (a .places))) e
 
 pub put-places-spec : {M : Type 1} → statement M
 put-places-spec =

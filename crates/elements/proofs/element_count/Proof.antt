@@ -16,7 +16,12 @@ returns c =
     let d = a .args .d in
     let six : length (d .streams) ≡ 6 = rw length-map at (a .good .0 .1 .1 .1 .1 .0 .1 .0 .1) in (
       c .elements-in .ensures ∙ start-all d six (a .pre),
-      omega (arith, c .elements-in .ensures, start-most d six (a .pre) (d .sizes .streams) (omega arith), a .pre .ranged .sized .most-streams),
+      omega (
+        arith,
+        c .elements-in .ensures,
+        start-most d six (a .pre) (d .sizes .streams) (omega arith),
+        a .pre .ranged .sized .most-streams,
+      ),
     )
 
 pub element-count-spec : {M : Type 1} → statement M

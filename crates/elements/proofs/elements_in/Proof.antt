@@ -61,7 +61,8 @@ loop-again c =
       b .loop .inv .0,
       omega arith,
       ap (λ (k : ℕ). k + c .elements-of .result) (b .loop .inv .2)
-          ∙ start-next (a .args .d) (b .loop .inv .0) (a .pre .0) (b .loop .i) (omega arith) (c .before .stream .ensures) (c .elements-of .ensures),
+          ∙ start-next (a .args .d) (b .loop .inv .0) (a .pre .0) (b .loop .i) (omega arith) (c .before .stream .ensures)
+          (c .elements-of .ensures),
     )
 
 returns : tie.Need-returns Inv-loop μ-loop

@@ -32,7 +32,12 @@ mul-t11 c =
     let k = c .before .before .before .before in
     let s = k .before .before .before .before .before in
     let e = k .size-of .ensures .0 ∙ ap (λ (k : Box). length (points k)) (k .before .extent-of .ensures .0) in
-    record { fits = omega (arith, process-words {p = k .size-of .result} (omega (arith, e, s .pre .0 .processes)) (c .before .before .totals-of .ensures .1 .words)) }
+    record {
+      fits = omega (
+        arith,
+        process-words {p = k .size-of .result} (omega (arith, e, s .pre .0 .processes)) (c .before .before .totals-of .ensures .1 .words),
+      );
+    }
 
 add-t12 : tie.Need-add-t12
 add-t12 c =
@@ -51,8 +56,8 @@ returns c =
     let k = t .before .before in
     let s = k .before .before .before .before .before in
     figures-are (s .pre .0) (t .totals-of .ensures .0)
-    (k .size-of .ensures .0 ∙ ap (λ (k : Box). length (points k)) (k .before .extent-of .ensures .0)) (t .before .instance-count .ensures .0)
-    (c .before .before .before .element-count .ensures .0) refl refl refl
+    (k .size-of .ensures .0 ∙ ap (λ (k : Box). length (points k)) (k .before .extent-of .ensures .0))
+    (t .before .instance-count .ensures .0) (c .before .before .before .element-count .ensures .0) refl refl refl
 
 pub figures-of-spec : {M : Type 1} → statement M
 figures-of-spec =

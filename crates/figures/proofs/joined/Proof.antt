@@ -18,10 +18,12 @@ add-t6 : tie.Need-add-t6
 add-t6 c = search needs
 
 mul-t7 : tie.Need-mul-t7
-mul-t7 c = let p = c .before .before .before .before .before .before .pre in record { fits = omega (arith, end-words (p .1 .pipes) (p .1 .hop)) }
+mul-t7 c = let p = c .before .before .before .before .before .before .pre in
+    record { fits = omega (arith, end-words (p .1 .pipes) (p .1 .hop)) }
 
 add-t8 : tie.Need-add-t8
-add-t8 c = let p = c .before .before .before .before .before .before .before .pre in record { fits = omega (arith, end-words (p .1 .pipes) (p .1 .hop), p .0 .ends) }
+add-t8 c = let p = c .before .before .before .before .before .before .before .pre in
+    record { fits = omega (arith, end-words (p .1 .pipes) (p .1 .hop), p .0 .ends) }
 
 add-t9 : tie.Need-add-t9
 add-t9 c = search needs

@@ -22,7 +22,8 @@ total-at-requires : tie.Need-total-at-requires
 total-at-requires c κs = search needs
 
 reach-of-requires : tie.Need-reach-of-requires
-reach-of-requires c κs = let p = c .before .before .before .before .before .before .pre .0 in going-on (p .seen .flows) (p .lt) (c .before .point-at .ensures)
+reach-of-requires c κs = let p = c .before .before .before .before .before .before .pre .0 in
+    going-on (p .seen .flows) (p .lt) (c .before .point-at .ensures)
 
 add-result : tie.Need-add-result
 add-result c = search needs

@@ -24,8 +24,12 @@ stream-requires c κs = omega (arith, c .loop-test .taken, c .before .before .be
 
 share-of-requires : tie.Need-share-of-requires Inv-loop μ-loop
 share-of-requires c κs =
-    let s = c .before .before .before .before .before in
-    (stream-sharing (s .args .d) (s .pre .0) (c .before .before .loop .i) (omega (arith, c .before .loop-test .taken)) (c .stream .ensures), s .pre .1, s .pre .2)
+    let s = c .before .before .before .before .before in (
+      stream-sharing (s .args .d) (s .pre .0) (c .before .before .loop .i) (omega (arith, c .before .loop-test .taken))
+          (c .stream .ensures),
+      s .pre .1,
+      s .pre .2,
+    )
 
 joined-requires : tie.Need-joined-requires Inv-loop μ-loop
 joined-requires c κs =
@@ -34,7 +38,13 @@ joined-requires c κs =
     (subst Room (sym (l .inv .1)) (totals-room (s .args .d) (s .pre .0) (l .i) (l .inv .0)), c .share-of .ensures .1)
 
 add-i : tie.Need-add-i Inv-loop μ-loop
-add-i c = record { fits = omega (arith, c .before .before .before .loop-test .taken, c .before .before .before .before .before .before .before .pre .0 .few .ranged .sized .most-streams) }
+add-i c = record {
+  fits = omega (
+    arith,
+    c .before .before .before .loop-test .taken,
+    c .before .before .before .before .before .before .before .pre .0 .few .ranged .sized .most-streams,
+  );
+}
 
 loop-less : tie.Need-loop-less Inv-loop μ-loop
 loop-less c = search needs

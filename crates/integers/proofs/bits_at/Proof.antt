@@ -49,7 +49,12 @@ add-result-3 c = search needs
 returns : tie.Need-returns
 unfolding bitsAt
 returns c =
-    rw (c .before .before .before .byte-at .ensures .0, c .before .before .byte-at2 .ensures .0, c .before .byte-at3 .ensures .0, c .byte-at4 .ensures .0)
+    rw (
+      c .before .before .before .byte-at .ensures .0,
+      c .before .before .byte-at2 .ensures .0,
+      c .before .byte-at3 .ensures .0,
+      c .byte-at4 .ensures .0,
+    )
 
 pub bits-at-spec : {M : Type 1} → statement M
 bits-at-spec =

@@ -15,7 +15,8 @@ use Rattle.integers.proofs.magnitude.Reads as reads
 use Rattle.integers.proofs.magnitude.Lts as lts
 
 -- −(z + 1), as the code makes it of a negative z
-turned : {z : ℤ} → mag z < 2 ^ 31 → z <ℤ pos 0 → Holds (toZ w32 (ofZ w32 (pos 0 -ℤ toZ w32 (ofZ w32 (toZ w32 (ofZ w32 z) +ℤ pos 1))))) (pos (mag z)) 2147483647
+turned : {z : ℤ} → mag z < 2 ^ 31 → z <ℤ pos 0
+    → Holds (toZ w32 (ofZ w32 (pos 0 -ℤ toZ w32 (ofZ w32 (toZ w32 (ofZ w32 z) +ℤ pos 1))))) (pos (mag z)) 2147483647
 turned {z} h k =
     let t = box tt (minus (box tt (up-one h k))) in
     record { eq = t .eq ∙ go z k; le = record { abs = omega arith } }

@@ -22,8 +22,8 @@ row-number-requires c κs =
 returns : tie.Need-returns
 returns c =
     let p = c .before .before .before .before .before .before .pre in
-    entry-number (p .0) (p .1) (c .before .before .before .point-at .ensures) (c .before .before .reach-of .ensures .0) (c .before .moved .ensures)
-    (c .row-number .ensures)
+    entry-number (p .0) (p .1) (c .before .before .before .point-at .ensures) (c .before .before .reach-of .ensures .0)
+    (c .before .moved .ensures) (c .row-number .ensures)
 
 pub entry-number-spec : {M : Type 1} → statement M
 entry-number-spec =

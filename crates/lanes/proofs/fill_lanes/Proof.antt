@@ -30,7 +30,8 @@ loop-holds c =
     )
 
 entry-number-requires : tie.Need-entry-number-requires Inv-loop μ-loop
-entry-number-requires c κs = let p = c .before .before .before .before .before .before .before .before .pre in (p .flows, omega (arith, p .counted))
+entry-number-requires c κs = let p = c .before .before .before .before .before .before .before .before .pre in
+    (p .flows, omega (arith, p .counted))
 
 cast-visit : tie.Need-cast-visit Inv-loop μ-loop
 cast-visit c = search needs
@@ -45,7 +46,8 @@ mul-visit : tie.Need-mul-visit Inv-loop μ-loop
 mul-visit c = search needs
 
 shared-slice-read-visit : tie.Need-shared-slice-read-visit Inv-loop μ-loop
-shared-slice-read-visit c = let p = c .before .before .before .before .before .before .before .before .before .before .before .pre in omega (arith, p .counted, p .flows .laid .processes, p .long)
+shared-slice-read-visit c = let p = c .before .before .before .before .before .before .before .before .before .before .before .pre in
+    omega (arith, p .counted, p .flows .laid .processes, p .long)
 
 visit-requires : tie.Need-visit-requires Inv-loop μ-loop
 visit-requires c κs =
@@ -58,7 +60,13 @@ visit-requires c κs =
       words = v .words;
       process = omega (arith, p .counted);
       entry = omega (arith, e .ensures .1);
-      held = omega (arith, v .held (e .result) (omega (arith, e .ensures .1, p .counted)), held-le (entryNumber (s .args .f .nest) (s .args .f .stream)) (computes (s .args .f .nest)) (c .before .before .before .before .loop .p) (e .result), p .counted);
+      held = omega (
+        arith,
+        v .held (e .result) (omega (arith, e .ensures .1, p .counted)),
+        held-le (entryNumber (s .args .f .nest) (s .args .f .stream)) (computes (s .args .f .nest))
+            (c .before .before .before .before .loop .p) (e .result),
+        p .counted,
+      );
     }
 
 add-p : tie.Need-add-p Inv-loop μ-loop
@@ -74,8 +82,10 @@ loop-again c =
     let e = c .before .before .before .before .before .entry-number in
     let t = c .before .before .before .before .before .before .loop-test .taken in (
       omega (arith, t),
-      lanes-step _ _ (omega (arith, s .pre .counted, s .pre .flows .laid .processes)) (omega (arith, t)) (l .inv .1) (e .result) (e .ensures .0)
-          (omega (arith, e .ensures .1, s .pre .counted)) _ (ap (λ (k : ℕ). not (eqb k 0)) (s .pre .of-spans .counts (l .p) (omega (arith, s .pre .counted, t)))) (c .before .before .visit .ensures),
+      lanes-step _ _ (omega (arith, s .pre .counted, s .pre .flows .laid .processes)) (omega (arith, t)) (l .inv .1)
+          (e .result) (e .ensures .0)
+          (omega (arith, e .ensures .1, s .pre .counted)) _ (ap (λ (k : ℕ). not (eqb k 0))
+          (s .pre .of-spans .counts (l .p) (omega (arith, s .pre .counted, t)))) (c .before .before .visit .ensures),
     )
 
 same-length : tie.Need-same-length Inv-loop μ-loop
@@ -92,7 +102,8 @@ returns c =
       flows = s .pre .flows;
       of-spans = s .pre .of-spans;
       long = s .pre .long;
-      of-lanes = subst (λ (k : ℕ). Lanes E C k k (l .lanes)) (s .pre .counted) (subst (λ (k : ℕ). Lanes E C (s .args .processes) k (l .lanes)) e (l .inv .1));
+      of-lanes = subst (λ (k : ℕ). Lanes E C k k (l .lanes)) (s .pre .counted)
+          (subst (λ (k : ℕ). Lanes E C (s .args .processes) k (l .lanes)) e (l .inv .1));
     }
 
 pub fill-lanes-spec : {M : Type 1} → statement M

@@ -51,7 +51,13 @@ slice-write-lanes-3 c =
     let s = c .before .before in
     let l = now (s .args .lanes) in
     let l1 = set l (s .args .p) (s .args .e) in
-    omega (arith, length-set l (s .args .p) (s .args .e), length-set l1 (1024 + s .args .p) (getD l (2048 + s .args .e) 0), s .pre .words, s .pre .entry)
+    omega (
+      arith,
+      length-set l (s .args .p) (s .args .e),
+      length-set l1 (1024 + s .args .p) (getD l (2048 + s .args .e) 0),
+      s .pre .words,
+      s .pre .entry,
+    )
 
 cast-lanes-2 : tie.Need-cast-lanes-2
 cast-lanes-2 c = search needs

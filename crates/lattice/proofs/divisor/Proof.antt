@@ -25,9 +25,12 @@ gcd-requires-2 c κs = search needs
 returns : tie.Need-returns
 returns c =
     let v = c .before .before .before .before .before .before .before .before .args .v in
-    let x = c .before .before .before .before .before .before .magnitude .ensures ∙ ap natAbs (tower (v .x) (c .before .before .before .before .before .before .before .struct-told .given .0 .1)) in
-    let y = c .before .before .before .before .magnitude2 .ensures ∙ ap natAbs (tower (v .y) (c .before .before .before .before .before .struct-told2 .given .1 .0 .1)) in
-    let z = c .before .before .magnitude3 .ensures ∙ ap natAbs (tower (v .z) (c .before .before .before .struct-told3 .given .1 .1 .0 .1)) in
+    let x = c .before .before .before .before .before .before .magnitude .ensures
+    ∙ ap natAbs (tower (v .x) (c .before .before .before .before .before .before .before .struct-told .given .0 .1)) in
+    let y = c .before .before .before .before .magnitude2 .ensures
+    ∙ ap natAbs (tower (v .y) (c .before .before .before .before .before .struct-told2 .given .1 .0 .1)) in
+    let z = c .before .before .magnitude3 .ensures
+    ∙ ap natAbs (tower (v .z) (c .before .before .before .struct-told3 .given .1 .1 .0 .1)) in
     c .gcd2 .ensures ∙ ap₂ gcdOf x (c .before .gcd .ensures ∙ ap₂ gcdOf y z)
 
 pub divisor-spec : {M : Type 1} → statement M

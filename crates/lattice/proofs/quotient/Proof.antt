@@ -53,7 +53,10 @@ cast-result c =
     let s = c .before .before .before in
     let h = s .fits .x .sfits in
     let e = c .before .magnitude .ensures ∙ ap natAbs (tower (s .args .x) h) in
-    record { sfits = subst (λ (n : ℕ). n / s .args .d < 2 ^ 31) (sym e) (small (s .args .x) (s .args .d) h (not-less-of (tower (s .args .x) h) refl (c .if2 .left))) }
+    record {
+      sfits = subst (λ (n : ℕ). n / s .args .d < 2 ^ 31) (sym e)
+          (small (s .args .x) (s .args .d) h (not-less-of (tower (s .args .x) h) refl (c .if2 .left)));
+    }
 
 returns-2 : tie.Need-returns-2
 returns-2 c =

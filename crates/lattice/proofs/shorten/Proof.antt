@@ -16,7 +16,8 @@ component : {r t z : ℤ} {m d : ℕ} → r ≡ quotZ t (pos m) → t ≡ z → 
 component e f g = e ∙ ap₂ (λ (t : ℤ) (m : ℕ). quotZ t (pos m)) f g
 
 short : {x x' y y' z z' : ℤ} {d d' : ℕ} → d ≡ d' → x ≡ x' → y ≡ y' → z ≡ z'
-    → _≡_ {A = Short} (record { vector = record { x = x; y = y; z = z }; divisor = d }) (record { vector = record { x = x'; y = y'; z = z' }; divisor = d' })
+    → _≡_ {A = Short} (record { vector = record { x = x; y = y; z = z }; divisor = d })
+    (record { vector = record { x = x'; y = y'; z = z' }; divisor = d' })
 short e f g h = rw (e, f, g, h)
 
 -- the one that Euclid's rule finds is the one
@@ -42,7 +43,8 @@ returns c =
     let x = c .before .before .before .before .quotient in
     let y = c .before .before .quotient2 in
     let z = c .quotient3 in
-    meets v (short d (held (x .ok) (component (x .ensures) (tower (v .x) (c .before .before .before .before .before .struct-told .given .0 .1)) d))
+    meets v
+    (short d (held (x .ok) (component (x .ensures) (tower (v .x) (c .before .before .before .before .before .struct-told .given .0 .1)) d))
     (held (y .ok) (component (y .ensures) (tower (v .y) (c .before .before .before .struct-told2 .given .1 .0 .1)) d))
     (held (z .ok) (component (z .ensures) (tower (v .z) (c .before .struct-told3 .given .1 .1 .0 .1)) d)))
 

@@ -38,7 +38,8 @@ fill-spans-requires c κs =
     let f = c .before .before .before .before .before .before .before in
     let s = f .before .before .before .before .before .before .before in
     let i = f .before .before in
-    let t = process-table _ (f .fill-numbers .ensures) (i .instance-count .ensures .0) (i .before .size-of .ensures .0) (i .before .before .extent-of .ensures .0) in
+    let t = process-table _ (f .fill-numbers .ensures) (i .instance-count .ensures .0) (i .before .size-of .ensures .0)
+    (i .before .before .extent-of .ensures .0) in
     record {
       table = table-listed (s .pre .0 .directed) t;
       timed = steps-long (s .args .n) _ (c .before .before .before .before .fill-steps .ensures) (i .instance-count .ensures .0);
@@ -55,7 +56,8 @@ returns c =
     let f = g .before .before .before in
     let s = f .before .before .before .before .before .before .before in
     let i = f .before .before in
-    let t = process-table _ (f .fill-numbers .ensures) (i .instance-count .ensures .0) (i .before .size-of .ensures .0) (i .before .before .extent-of .ensures .0) in
+    let t = process-table _ (f .fill-numbers .ensures) (i .instance-count .ensures .0) (i .before .size-of .ensures .0)
+    (i .before .before .extent-of .ensures .0) in
     (t .sized, chosen-are (s .pre .0 .directed) t (filled-steps _ (g .fill-steps .ensures)) (c .before .before .fill-spans .ensures))
 
 pub fill-processes-spec : {M : Type 1} → statement M

@@ -45,7 +45,8 @@ fill-lasts-requires c κs =
     record {
       table = s .pre .table;
       timed = s .pre .timed;
-      room = last-room _ _ (s .args .processes) (now (s .args .spans)) _ _ (s .pre .few) (s .pre .words) (f .before .before .before .before .fill-counts .ensures) (f .fill-firsts .ensures);
+      room = last-room _ _ (s .args .processes) (now (s .args .spans)) _ _ (s .pre .few) (s .pre .words)
+          (f .before .before .before .before .fill-counts .ensures) (f .fill-firsts .ensures);
     }
 
 same-length : tie.Need-same-length
@@ -56,7 +57,8 @@ returns c =
     let l = c .before .before in
     let f = l .before .before .before .before in
     let s = f .before .before .before .before .before .before .before .before in
-    swept _ _ _ _ (now (s .args .spans)) _ _ _ (s .pre) (f .before .before .before .before .fill-counts .ensures) (f .fill-firsts .ensures) (l .fill-lasts .ensures)
+    swept _ _ _ _ (now (s .args .spans)) _ _ _ (s .pre) (f .before .before .before .before .fill-counts .ensures) (f .fill-firsts .ensures)
+    (l .fill-lasts .ensures)
 
 pub fill-spans-spec : {M : Type 1} → statement M
 fill-spans-spec =

@@ -21,13 +21,16 @@ div-t6 c = search needs
 cast-t7 : tie.Need-cast-t7
 cast-t7 c =
     let s = c .before .before .before .before .before in
-    record { sfits = omega (arith, row-small (s .pre .0) (s .args .p) (size-words (s .pre .0 .second) (c .distance .ensures .0)) (s .pre .1)) }
+    record {
+      sfits = omega (arith, row-small (s .pre .0) (s .args .p) (size-words (s .pre .0 .second) (c .distance .ensures .0)) (s .pre .1));
+    }
 
 add-t8 : tie.Need-add-t8
 add-t8 c =
     let b = c .before .before in
     let s = b .before .before .before .before .before in
-    fits tt (add (at tt (s .pre .0 .first .low)) (bits tt (row-small (s .pre .0) (s .args .p) (size-words (s .pre .0 .second) (b .distance .ensures .0)) (s .pre .1))))
+    fits tt (add (at tt (s .pre .0 .first .low))
+    (bits tt (row-small (s .pre .0) (s .args .p) (size-words (s .pre .0 .second) (b .distance .ensures .0)) (s .pre .1))))
 
 rem-t9 : tie.Need-rem-t9
 rem-t9 c = search needs
@@ -42,7 +45,8 @@ add-t11 : tie.Need-add-t11
 add-t11 c =
     let b = c .before .before .before .before in
     let s = b .before .before .before .before .before in
-    fits tt (add (at tt (s .pre .0 .second .low)) (bits tt (column-small (s .pre .0) (s .args .p) (size-words (s .pre .0 .second) (b .distance .ensures .0)))))
+    fits tt (add (at tt (s .pre .0 .second .low))
+    (bits tt (column-small (s .pre .0) (s .args .p) (size-words (s .pre .0 .second) (b .distance .ensures .0)))))
 
 returns : tie.Need-returns
 returns c =

@@ -20,12 +20,14 @@ room-requires-2 c κs = subst Along (sym (c .second-ray .ensures)) (second-along
 returns : tie.Need-returns
 returns c =
     let b = c .before .before .before in
-    reach-left (b .before .before .pre) (b .before .first-ray .ensures) (b .room .ensures) (c .before .before .second-ray .ensures) (c .before .room2 .ensures) (c .if1 .taken)
+    reach-left (b .before .before .pre) (b .before .first-ray .ensures) (b .room .ensures) (c .before .before .second-ray .ensures)
+    (c .before .room2 .ensures) (c .if1 .taken)
 
 returns-2 : tie.Need-returns-2
 returns-2 c =
     let b = c .before .before .before in
-    reach-right (b .before .before .pre) (b .before .first-ray .ensures) (b .room .ensures) (c .before .before .second-ray .ensures) (c .before .room2 .ensures) (c .if1 .left)
+    reach-right (b .before .before .pre) (b .before .first-ray .ensures) (b .room .ensures) (c .before .before .second-ray .ensures)
+    (c .before .room2 .ensures) (c .if1 .left)
 
 pub reach-of-spec : {M : Type 1} → statement M
 reach-of-spec =

@@ -1,4 +1,5 @@
--- `layout::room` meets its contract: the way to the side that the step points to, over the size of the step, which is not 0. Assumes nothing.
+-- `layout::room` meets its contract: the way to the side that the step points to, over the size of the step, which is not 0.
+-- Assumes nothing.
 use mathlib.Core.Path.{refl, sym, _∙_, ap₂}
 use Prim.Native.Nat.{_/_}
 use native.Mathlib.Omega.{arith}
@@ -25,7 +26,11 @@ div-result c =
     let m = c .before .before .before .before .before .before in
     let i = m .before .before in
     let s = i .before .before .before in
-    omega (arith, step-size (s .pre .by) (m .magnitude .ensures), some-step (s .args .r .by) (sym (step-test (s .pre .by)) ∙ ne-eqb _ _ (i .if1 .left)))
+    omega (
+      arith,
+      step-size (s .pre .by) (m .magnitude .ensures),
+      some-step (s .args .r .by) (sym (step-test (s .pre .by)) ∙ ne-eqb _ _ (i .if1 .left)),
+    )
 
 distance-requires-2 : tie.Need-distance-requires-2
 distance-requires-2 c κs = apart-words (c .before .before .before .before .before .before .before .before .before .before .pre .high)
@@ -35,7 +40,11 @@ div-result-2 c =
     let m = c .before .before .before .before .before .before in
     let i = m .before .before in
     let s = i .before .before .before in
-    omega (arith, step-size (s .pre .by) (m .magnitude .ensures), some-step (s .args .r .by) (sym (step-test (s .pre .by)) ∙ ne-eqb _ _ (i .if1 .left)))
+    omega (
+      arith,
+      step-size (s .pre .by) (m .magnitude .ensures),
+      some-step (s .args .r .by) (sym (step-test (s .pre .by)) ∙ ne-eqb _ _ (i .if1 .left)),
+    )
 
 returns-2 : tie.Need-returns-2
 returns-2 c =

@@ -10,7 +10,8 @@ port-requires c κs = search needs
 
 returns : tie.Need-returns
 returns c =
-    rw (lt-ltb _ _ (c .before .before .before .before .if1 .taken), lt-ltb _ _ (c .before .before .if2 .taken), c .before .port .ensures) refl
+    rw (lt-ltb _ _ (c .before .before .before .before .if1 .taken), lt-ltb _ _ (c .before .before .if2 .taken), c .before .port .ensures)
+    refl
 
 returns-2 : tie.Need-returns-2
 returns-2 c = rw (lt-ltb _ _ (c .before .before .if1 .taken), le-ltb _ _ (c .if2 .left)) refl

@@ -30,7 +30,8 @@ returns-5 c = rw (c .before .match .keys5) refl
 returns-6 : tie.Need-returns-6
 returns-6 c =
     let k = c .before .before .args .kind in
-    rw (ne-eqb k 0 (omega arith), ne-eqb k 1 (omega arith), ne-eqb k 2 (omega arith), ne-eqb k 3 (omega arith), ne-eqb k 4 (omega arith)) refl
+    rw (ne-eqb k 0 (omega arith), ne-eqb k 1 (omega arith), ne-eqb k 2 (omega arith), ne-eqb k 3 (omega arith), ne-eqb k 4 (omega arith))
+    refl
 
 pub named-spec : {M : Type 1} → statement M
 named-spec =

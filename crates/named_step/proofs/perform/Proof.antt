@@ -35,7 +35,8 @@ same-length-2 c = search needs
 returns : tie.Need-returns
 returns c =
     let k = c .before .before .before .before .before .before .before in
-    c .before .before .before .before .act .ensures ∙ rw (k .program-of .ensures .0) (performed (k .before .before .before .before .before .before .pre .0))
+    c .before .before .before .before .act .ensures
+    ∙ rw (k .program-of .ensures .0) (performed (k .before .before .before .before .before .before .pre .0))
 
 pub perform-spec : {M : Type 1} → statement M
 perform-spec =

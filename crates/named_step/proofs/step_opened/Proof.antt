@@ -11,7 +11,8 @@ use Rattle.named_step.proofs.step_opened.Statement.{statement}
 use Rattle.named_step.proofs.step_opened.Tie as tie
 
 named-requires : tie.Need-named-requires
-named-requires c κs = let o = c .before .before .before .before .before .before .pre .0 in rows-of (fits (grounds _ (o .accepted)) (o .stood))
+named-requires c κs = let o = c .before .before .before .before .before .before .pre .0 in
+    rows-of (fits (grounds _ (o .accepted)) (o .stood))
 
 can-requires : tie.Need-can-requires
 can-requires c κs =
@@ -23,7 +24,8 @@ can-requires c κs =
     )
 
 description-requires : tie.Need-description-requires
-description-requires c κs = accepted-within gaugeLimits _ (c .before .before .before .before .before .before .before .before .before .before .before .pre .0 .accepted) .0 .sized
+description-requires c κs = accepted-within gaugeLimits _
+    (c .before .before .before .before .before .before .before .before .before .before .before .pre .0 .accepted) .0 .sized
 
 perform-requires : tie.Need-perform-requires
 perform-requires c κs =
@@ -31,7 +33,8 @@ perform-requires c κs =
     let s = k .before .before .before .before .before .before .before .before .before .before in
     let a = s .args in
     rw (c .before .before .description .ensures) (
-      steppable (s .pre .0) (a .kind) (a .number) (a .stream) (sym (k .before .before .before .named .ensures) ∙ k .before .before .if1 .taken) (sym (k .can .ensures) ∙ c .before .before .before .if2 .taken),
+      steppable (s .pre .0) (a .kind) (a .number) (a .stream) (sym (k .before .before .before .named .ensures)
+          ∙ k .before .before .if1 .taken) (sym (k .can .ensures) ∙ c .before .before .before .if2 .taken),
       s .pre .1,
       s .pre .2,
     )
@@ -48,7 +51,9 @@ returns c =
     let s = k .before .before .before .before .before .before .before .before .before .before in
     let a = s .args in
     done (s .pre .0) (a .kind) (a .number) (a .stream) (sym (k .before .before .before .named .ensures) ∙ k .before .before .if1 .taken)
-    (sym (k .can .ensures) ∙ c .before .before .before .before .before .before .before .before .if2 .taken) (c .before .before .before .before .perform .ensures ∙ rw (c .before .before .before .before .before .before .before .description .ensures))
+    (sym (k .can .ensures) ∙ c .before .before .before .before .before .before .before .before .if2 .taken)
+    (c .before .before .before .before .perform .ensures
+    ∙ rw (c .before .before .before .before .before .before .before .description .ensures))
 
 same-length-3 : tie.Need-same-length-3
 same-length-3 c = search needs
@@ -57,7 +62,8 @@ returns-2 : tie.Need-returns-2
 returns-2 c =
     let s = c .before .before .before .before .before .before .before .before .before .before .before in
     let a = s .args in
-    unready (s .pre .0) (a .kind) (a .number) (a .stream) (sym (c .before .before .before .before .named .ensures) ∙ c .before .before .before .if1 .taken) (sym (c .before .can .ensures) ∙ c .if2 .left)
+    unready (s .pre .0) (a .kind) (a .number) (a .stream) (sym (c .before .before .before .before .named .ensures)
+    ∙ c .before .before .before .if1 .taken) (sym (c .before .can .ensures) ∙ c .if2 .left)
 
 returns-3 : tie.Need-returns-3
 returns-3 c =

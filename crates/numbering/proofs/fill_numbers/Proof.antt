@@ -62,7 +62,8 @@ loop-again c =
     let v = c .before .before .before .loop .inv in
     let a = c .before .before .before .before .before .before .args in
     let e =
-    c .row-number .ensures ∙ ap (λ (b : Box). rowIndex b (c .before .image-at .result)) (c .before .before .before .before .before .before .pre .box)
+    c .row-number .ensures
+    ∙ ap (λ (b : Box). rowIndex b (c .before .image-at .result)) (c .before .before .before .before .before .before .pre .box)
     ∙ ap (λ (p : V2). rowIndex (boxOf (a .n) (a .m)) p) (c .before .image-at .ensures) in
     (omega arith, simp length-set (v .1), rw (fill-step, e, v .2))
 

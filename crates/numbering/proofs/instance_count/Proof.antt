@@ -17,7 +17,8 @@ mul-result c =
 
 mul-result-2 : tie.Need-mul-result-2
 mul-result-2 c =
-    let s = c .before .before .before in record { fits = omega (arith, all-most (turning (s .args .n) (c .before .before .turns-of .ensures) (s .pre))) }
+    let s = c .before .before .before in
+    record { fits = omega (arith, all-most (turning (s .args .n) (c .before .before .turns-of .ensures) (s .pre))) }
 
 returns : tie.Need-returns
 returns c =

@@ -26,12 +26,15 @@ mul-result c =
 
 distance-requires-3 : tie.Need-distance-requires-3
 distance-requires-3 c κs =
-    let p = c .before .before .before .before .before .before .before .before .before .before .pre in apart-words (between-apart (p .0 .second) (p .1 .inb))
+    let p = c .before .before .before .before .before .before .before .before .before .before .pre in
+    apart-words (between-apart (p .0 .second) (p .1 .inb))
 
 add-result-2 : tie.Need-add-result-2
 add-result-2 c =
     let w = c .before .before .before in
-    record { fits = omega (arith, most (w .before .before .before .distance .ensures .1) (w .distance2 .ensures .1), c .distance3 .ensures .1) }
+    record {
+      fits = omega (arith, most (w .before .before .before .distance .ensures .1) (w .distance2 .ensures .1), c .distance3 .ensures .1);
+    }
 
 returns : tie.Need-returns
 returns c =

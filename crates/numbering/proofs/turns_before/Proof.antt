@@ -10,7 +10,8 @@ turns-of-requires c κs = search needs
 
 mul-plane : tie.Need-mul-plane
 mul-plane c =
-    let s = c .before .before in record { fits = omega (arith, plane-most (turning (s .args .n) (c .before .turns-of .ensures) (s .pre .0))) }
+    let s = c .before .before in
+    record { fits = omega (arith, plane-most (turning (s .args .n) (c .before .turns-of .ensures) (s .pre .0))) }
 
 rem-rest : tie.Need-rem-rest
 rem-rest c = let s = c .before .before in plane-some (turning (s .args .n) (c .before .turns-of .ensures) (s .pre .0))

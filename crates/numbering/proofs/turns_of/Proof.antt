@@ -28,8 +28,8 @@ returns : tie.Need-returns
 returns c =
     let y = c .before .before in
     let x = y .before .before in
-    same-turns (x .turn-count .ensures ∙ ap turns (x .before .outer .ensures .0)) (y .turn-count2 .ensures ∙ ap turns (y .before .middle .ensures .0))
-    (c .turn-count3 .ensures ∙ ap turns (c .before .inner .ensures .0))
+    same-turns (x .turn-count .ensures ∙ ap turns (x .before .outer .ensures .0))
+    (y .turn-count2 .ensures ∙ ap turns (y .before .middle .ensures .0)) (c .turn-count3 .ensures ∙ ap turns (c .before .inner .ensures .0))
 
 pub turns-of-spec : {M : Type 1} → statement M
 turns-of-spec =

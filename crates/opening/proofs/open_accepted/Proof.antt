@@ -21,7 +21,8 @@ sound-refusal-requires c κs =
     let s = c .before .before .before .before .before .before .before .before .before .before in
     let a = s .args in
     let e = c .before .before .before .before .figures-of .ensures in
-    let l = lengths-hold (a .d) e (memoryOf (now (a .waiting)) (now (a .received)) (now (a .state))) (c .before .before .of-memory .ensures) (c .before .if1 .taken) in (
+    let l = lengths-hold (a .d) e (memoryOf (now (a .waiting)) (now (a .received)) (now (a .state))) (c .before .before .of-memory .ensures)
+    (c .before .if1 .taken) in (
       record { grounds = s .pre .0; size = c .before .before .before .size-of .ensures ∙ size-is (a .d) e; long = l .2; words = s .pre .3 },
       s .pre .1,
       s .pre .2,
@@ -36,14 +37,14 @@ returns c =
     let a = k .before .before .before .before .before .before .before .before .args in
     let e = k .before .before .figures-of .ensures in
     let r = c .before .before .sound-refusal .ensures in
-    lengths-passed (a .d) e (memoryOf (now (a .waiting)) (now (a .received)) (now (a .state))) (k .of-memory .ensures) (c .before .before .before .before .if1 .taken)
-    (k .before .size-of .ensures ∙ size-is (a .d) e) (r .0) (r .1)
+    lengths-passed (a .d) e (memoryOf (now (a .waiting)) (now (a .received)) (now (a .state))) (k .of-memory .ensures)
+    (c .before .before .before .before .if1 .taken) (k .before .size-of .ensures ∙ size-is (a .d) e) (r .0) (r .1)
 
 returns-2 : tie.Need-returns-2
 returns-2 c =
     let a = c .before .before .before .before .before .before .before .before .before .args in
-    lengths-refused (a .d) (c .before .before .before .figures-of .ensures) (memoryOf (now (a .waiting)) (now (a .received)) (now (a .state)))
-    (c .before .of-memory .ensures) (c .if1 .left)
+    lengths-refused (a .d) (c .before .before .before .figures-of .ensures)
+    (memoryOf (now (a .waiting)) (now (a .received)) (now (a .state))) (c .before .of-memory .ensures) (c .if1 .left)
 
 pub open-accepted-spec : {M : Type 1} → statement M
 open-accepted-spec =

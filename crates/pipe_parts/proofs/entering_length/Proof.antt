@@ -14,8 +14,11 @@ total-at-requires c κs = search needs
 
 returns : tie.Need-returns
 returns c =
-    let s = c .before .before .before .before .before in
-    (length-yes (s .args .f .nest) (s .args .f .stream) (s .args .p) (sym (c .before .before .is-entry .ensures) ∙ c .before .if1 .taken) (c .total-at .ensures .0), c .total-at .ensures .1)
+    let s = c .before .before .before .before .before in (
+      length-yes (s .args .f .nest) (s .args .f .stream) (s .args .p) (sym (c .before .before .is-entry .ensures) ∙ c .before .if1 .taken)
+          (c .total-at .ensures .0),
+      c .total-at .ensures .1,
+    )
 
 returns-2 : tie.Need-returns-2
 returns-2 c =

@@ -1,5 +1,5 @@
--- `pipe_parts::fill_entered` meets its contract: the first p entries are filled, and the count is that of the pipes that begin before process p.
--- Assumes nothing.
+-- `pipe_parts::fill_entered` meets its contract: the first p entries are filled, and the count is that of the pipes that begin before
+-- process p. Assumes nothing.
 use mathlib.Core.Path.{_≡_, refl, sym, _∙_, ap}
 use Prim.Native.Nat.{ℕ, suc, _+_, _-_, _≤_}
 use native.Mathlib.Omega.{arith}
@@ -12,13 +12,15 @@ use Rattle.pipe_parts.proofs.fill_entered.Tie as tie
 
 abbrev Inv-loop : tie.InvT-loop
 Inv-loop f processes spans lanes out₀ count₀ p₀ out count p =
-    (p ≤ processes) × (length out ≡ length out₀) × (out ≡ fillBy (enteredAt (f .nest) (f .stream)) p out₀) × (count ≡ enteredAt (f .nest) (f .stream) p)
+    (p ≤ processes) × (length out ≡ length out₀) × (out ≡ fillBy (enteredAt (f .nest) (f .stream)) p out₀)
+    × (count ≡ enteredAt (f .nest) (f .stream) p)
 
 abbrev μ-loop : tie.MeasureT-loop
 μ-loop f processes spans lanes out₀ count₀ p₀ out count p = processes - p
 
 loop-holds : tie.Need-loop-holds Inv-loop μ-loop
-loop-holds c = let s = c .before .before .before in (omega arith, refl, sym (fill-zero _ _), entered-zero (s .args .f .nest) (s .args .f .stream))
+loop-holds c = let s = c .before .before .before in
+    (omega arith, refl, sym (fill-zero _ _), entered-zero (s .args .f .nest) (s .args .f .stream))
 
 cast-out : tie.Need-cast-out Inv-loop μ-loop
 cast-out c = search needs
@@ -33,13 +35,15 @@ cast-entering-one : tie.Need-cast-entering-one Inv-loop μ-loop
 cast-entering-one c = search needs
 
 entering-one-requires : tie.Need-entering-one-requires Inv-loop μ-loop
-entering-one-requires c κs = let p = c .before .before .before .before .before .pre in record { seen = p .0 .seen; lt = omega (arith, c .loop-test .taken, p .0 .counted) }
+entering-one-requires c κs = let p = c .before .before .before .before .before .pre in
+    record { seen = p .0 .seen; lt = omega (arith, c .loop-test .taken, p .0 .counted) }
 
 add-count : tie.Need-add-count Inv-loop μ-loop
 add-count c =
     let s = c .before .before .before .before .before .before in
     let l = c .before .before .loop in
-    let e = entered-next (s .args .f .nest) (s .args .f .stream) (l .p) (omega (arith, c .before .loop-test .taken, s .pre .0 .counted)) _ (c .entering-one .ensures) in
+    let e = entered-next (s .args .f .nest) (s .args .f .stream) (l .p) (omega (arith, c .before .loop-test .taken, s .pre .0 .counted)) _
+    (c .entering-one .ensures) in
     omega (arith, l .inv .3, e, entered-le (s .args .f .nest) (s .args .f .stream) (suc (l .p)), s .pre .0 .seen .flows .laid .processes)
 
 add-p : tie.Need-add-p Inv-loop μ-loop

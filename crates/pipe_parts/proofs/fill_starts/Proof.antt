@@ -1,5 +1,5 @@
--- `pipe_parts::fill_starts` meets its contract: the first p entries are filled, and the start is where the elements of the next pipe begin. Assumes
--- nothing.
+-- `pipe_parts::fill_starts` meets its contract: the first p entries are filled, and the start is where the elements of the next pipe begin.
+-- Assumes nothing.
 use mathlib.Core.Path.{_≡_, refl, sym, _∙_, ap}
 use Prim.Native.Nat.{ℕ, suc, _+_, _-_, _≤_}
 use native.Mathlib.Omega.{arith}
@@ -12,13 +12,15 @@ use Rattle.pipe_parts.proofs.fill_starts.Tie as tie
 
 abbrev Inv-loop : tie.InvT-loop
 Inv-loop f processes spans lanes first out₀ start₀ p₀ out start p =
-    (p ≤ processes) × (length out ≡ length out₀) × (out ≡ fillBy (startAt (f .nest) (f .stream) first) p out₀) × (start ≡ startAt (f .nest) (f .stream) first p)
+    (p ≤ processes) × (length out ≡ length out₀) × (out ≡ fillBy (startAt (f .nest) (f .stream) first) p out₀)
+    × (start ≡ startAt (f .nest) (f .stream) first p)
 
 abbrev μ-loop : tie.MeasureT-loop
 μ-loop f processes spans lanes first out₀ start₀ p₀ out start p = processes - p
 
 loop-holds : tie.Need-loop-holds Inv-loop μ-loop
-loop-holds c = let s = c .before .before .before in (omega arith, refl, sym (fill-zero _ _), start-zero (s .args .f .nest) (s .args .f .stream) (s .args .first))
+loop-holds c = let s = c .before .before .before in
+    (omega arith, refl, sym (fill-zero _ _), start-zero (s .args .f .nest) (s .args .f .stream) (s .args .first))
 
 cast-out : tie.Need-cast-out Inv-loop μ-loop
 cast-out c = search needs
@@ -33,14 +35,21 @@ cast-entering-length : tie.Need-cast-entering-length Inv-loop μ-loop
 cast-entering-length c = search needs
 
 entering-length-requires : tie.Need-entering-length-requires Inv-loop μ-loop
-entering-length-requires c κs = let p = c .before .before .before .before .before .pre in record { seen = p .0 .of .seen; lt = omega (arith, c .loop-test .taken, p .0 .of .counted) }
+entering-length-requires c κs = let p = c .before .before .before .before .before .pre in
+    record { seen = p .0 .of .seen; lt = omega (arith, c .loop-test .taken, p .0 .of .counted) }
 
 add-start : tie.Need-add-start Inv-loop μ-loop
 add-start c =
     let s = c .before .before .before .before .before .before in
     let p = s .pre .0 in
     let l = c .before .before .loop in
-    omega (arith, l .inv .3, c .entering-length .ensures .1, p .before, start-most (p .of .seen .flows .laid .accepted) (p .small) (s .args .first) (l .p))
+    omega (
+      arith,
+      l .inv .3,
+      c .entering-length .ensures .1,
+      p .before,
+      start-most (p .of .seen .flows .laid .accepted) (p .small) (s .args .first) (l .p),
+    )
 
 add-p : tie.Need-add-p Inv-loop μ-loop
 add-p c = omega (arith, c .before .loop-test .taken)
@@ -58,7 +67,8 @@ loop-again c =
       simp length-set (l .inv .1),
       rw (fill-step, l .inv .2, l .inv .3),
       ap (λ (k : ℕ). k + c .entering-length .result) (l .inv .3)
-          ∙ start-next (s .args .f .nest) (s .args .f .stream) (s .args .first) (l .p) (omega (arith, t, s .pre .0 .of .counted)) _ (c .entering-length .ensures .0)
+          ∙ start-next (s .args .f .nest) (s .args .f .stream) (s .args .first) (l .p) (omega (arith, t, s .pre .0 .of .counted)) _
+          (c .entering-length .ensures .0)
           ∙ ap (startAt (s .args .f .nest) (s .args .f .stream) (s .args .first)) z,
     )
 

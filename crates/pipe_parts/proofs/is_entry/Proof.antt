@@ -11,7 +11,8 @@ held-at-requires : tie.Need-held-at-requires
 held-at-requires c κs = search needs
 
 returns : tie.Need-returns
-returns c = let p = c .before .before .before .before .before .pre in rw (entry-test p (c .before .before .entry-at .ensures .0) (c .before .if1 .taken)) (pipe-test p (c .held-at .ensures))
+returns c = let p = c .before .before .before .before .before .pre in
+    rw (entry-test p (c .before .before .entry-at .ensures .0) (c .before .if1 .taken)) (pipe-test p (c .held-at .ensures))
 
 returns-2 : tie.Need-returns-2
 returns-2 c = rw (no-entry (c .before .before .before .before .pre) (c .before .entry-at .ensures .0) (c .if1 .left))

@@ -11,7 +11,8 @@ reach-of-requires : tie.Need-reach-of-requires
 reach-of-requires c κs = let p = c .before .before .before .before .pre in going-last (p .0) (p .1) (c .last-element .ensures)
 
 returns : tie.Need-returns
-returns c = let p = c .before .before .before .before .before .pre in drain-moving (p .0) (p .1) (c .before .last-element .ensures) (c .reach-of .ensures .0)
+returns c = let p = c .before .before .before .before .before .pre in
+    drain-moving (p .0) (p .1) (c .before .last-element .ensures) (c .reach-of .ensures .0)
 
 pub drain-at-spec : {M : Type 1} → statement M
 drain-at-spec = tie.close (tie.spec last-element-requires reach-of-requires returns)

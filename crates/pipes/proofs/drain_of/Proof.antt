@@ -20,7 +20,8 @@ drain-at-requires : tie.Need-drain-at-requires
 drain-at-requires c κs = (at-here (c .before .before .before .before .before .pre) (c .before .if1 .left), subst T (sym (c .if2 .taken)) tt)
 
 rank-at-requires : tie.Need-rank-at-requires
-rank-at-requires c κs = let p = c .before .before .before .before .before .pre in (p, at-here p (c .before .if1 .left) .computing, c .if2 .left)
+rank-at-requires c κs = let p = c .before .before .before .before .before .pre in
+    (p, at-here p (c .before .if1 .left) .computing, c .if2 .left)
 
 held-at-requires : tie.Need-held-at-requires
 held-at-requires c κs = search needs
@@ -29,13 +30,15 @@ sub-result : tie.Need-sub-result
 sub-result c =
     let p = c .before .before .before .before .before .before .before .pre in
     let i = c .before .before in
-    omega (arith, c .held-at .ensures, c .before .rank-at .ensures, still-drain p (at-here p (i .before .if1 .left) .computing) (i .if2 .left))
+    omega
+    (arith, c .held-at .ensures, c .before .rank-at .ensures, still-drain p (at-here p (i .before .if1 .left) .computing) (i .if2 .left))
 
 sub-result-2 : tie.Need-sub-result-2
 sub-result-2 c =
     let p = c .before .before .before .before .before .before .before .pre in
     let i = c .before .before in
-    omega (arith, c .held-at .ensures, c .before .rank-at .ensures, still-drain p (at-here p (i .before .if1 .left) .computing) (i .if2 .left))
+    omega
+    (arith, c .held-at .ensures, c .before .rank-at .ensures, still-drain p (at-here p (i .before .if1 .left) .computing) (i .if2 .left))
 
 returns-2 : tie.Need-returns-2
 returns-2 c = c .drain-at .ensures ∙ row-drain (c .before .before .before .before .before .before .pre) (c .before .before .if1 .left)

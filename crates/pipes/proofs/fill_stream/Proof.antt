@@ -72,11 +72,14 @@ fill-drains-requires : tie.Need-fill-drains-requires
 fill-drains-requires c κs =
     let s = c .before .before .before .before .before .before .before .before .before .before .before .before .before .before .before in
     let f = c .before .before .before .before .before .before .before .before .before .before .before .before .flow-of in
-    let e = counted-is (f .ensures .2) (c .before .before .before .before .before .before .before .before .before .before .size-of .ensures .0) in
+    let e = counted-is (f .ensures .2)
+    (c .before .before .before .before .before .before .before .before .before .before .size-of .ensures .0) in
     record {
       seen = c .before .before .before .before .before .before .before .before .fill-lanes .ensures;
       counted = e;
-      room = second-room _ (c .before .before .before .before .before .before .before .before .before .before .size-of .result) (now (s .args .block)) _ (omega (arith, e, f .ensures .2 .laid .processes)) (s .pre .3) (c .before .before .before .before .fill-soaks .ensures);
+      room = second-room _ (c .before .before .before .before .before .before .before .before .before .before .size-of .result)
+          (now (s .args .block)) _ (omega (arith, e, f .ensures .2 .laid .processes)) (s .pre .3)
+          (c .before .before .before .before .fill-soaks .ensures);
     }
 
 same-length : tie.Need-same-length
@@ -84,11 +87,17 @@ same-length c = search needs
 
 returns : tie.Need-returns
 returns c =
-    let s = c .before .before .before .before .before .before .before .before .before .before .before .before .before .before .before .before .before .before in
-    let f = c .before .before .before .before .before .before .before .before .before .before .before .before .before .before .before .flow-of in
-    let e = counted-is (f .ensures .2) (c .before .before .before .before .before .before .before .before .before .before .before .before .before .size-of .ensures .0) in
-    passed (s .args .n) (s .args .s) (f .ensures .0) (f .ensures .1) (c .before .before .before .before .before .before .before .before .before .before .before .before .before .size-of .result) (e ∙ ap (λ (n : Nest). length (processes n)) (f .ensures .0))
-    (omega (arith, e, f .ensures .2 .laid .processes)) (now (s .args .block)) _ _ (s .pre .3) (c .before .before .before .before .before .before .before .fill-soaks .ensures) (c .before .before .fill-drains .ensures)
+    let s = c .before .before .before .before .before .before .before .before .before .before .before .before .before .before .before
+    .before .before .before in
+    let f =
+    c .before .before .before .before .before .before .before .before .before .before .before .before .before .before .before .flow-of in
+    let e = counted-is (f .ensures .2)
+    (c .before .before .before .before .before .before .before .before .before .before .before .before .before .size-of .ensures .0) in
+    passed (s .args .n) (s .args .s) (f .ensures .0) (f .ensures .1)
+    (c .before .before .before .before .before .before .before .before .before .before .before .before .before .size-of .result)
+    (e ∙ ap (λ (n : Nest). length (processes n)) (f .ensures .0))
+    (omega (arith, e, f .ensures .2 .laid .processes)) (now (s .args .block)) _ _ (s .pre .3)
+    (c .before .before .before .before .before .before .before .fill-soaks .ensures) (c .before .before .fill-drains .ensures)
 
 pub fill-stream-spec : {M : Type 1} → statement M
 fill-stream-spec =

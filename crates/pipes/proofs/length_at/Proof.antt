@@ -15,7 +15,8 @@ add-result : tie.Need-add-result
 add-result c = search needs
 
 reach-of-requires-2 : tie.Need-reach-of-requires-2
-reach-of-requires-2 c κs = let p = c .before .before .before .before .before .before .pre in going-first (p .0) (p .1) (c .before .first-element .ensures)
+reach-of-requires-2 c κs = let p = c .before .before .before .before .before .before .pre in
+    going-first (p .0) (p .1) (c .before .first-element .ensures)
 
 add-result-2 : tie.Need-add-result-2
 add-result-2 c = search needs

@@ -31,7 +31,8 @@ returns c =
     omega (arith, c .held-at .ensures, still-soak (p .0) (p .1) (still-of (p .0) (p .2)) true (sym (c .before .if1 .taken)))
 
 returns-2 : tie.Need-returns-2
-returns-2 c = let p = c .before .before .before .before .pre in sym (still-soak (p .0) (p .1) (still-of (p .0) (p .2)) false (sym (c .if1 .left)))
+returns-2 c = let p = c .before .before .before .before .pre in
+    sym (still-soak (p .0) (p .1) (still-of (p .0) (p .2)) false (sym (c .if1 .left)))
 
 pub rank-at-spec : {M : Type 1} → statement M
 rank-at-spec =

@@ -11,7 +11,8 @@ reach-of-requires : tie.Need-reach-of-requires
 reach-of-requires c κs = let p = c .before .before .before .before .pre in going-against (p .0) (p .1) (c .first-element .ensures)
 
 returns : tie.Need-returns
-returns c = let p = c .before .before .before .before .before .pre in soak-moving (p .0) (p .1) (c .before .first-element .ensures) (c .reach-of .ensures .0)
+returns c = let p = c .before .before .before .before .before .pre in
+    soak-moving (p .0) (p .1) (c .before .first-element .ensures) (c .reach-of .ensures .0)
 
 pub soak-at-spec : {M : Type 1} → statement M
 soak-at-spec = tie.close (tie.spec first-element-requires reach-of-requires returns)

@@ -22,7 +22,8 @@ soak-at-requires : tie.Need-soak-at-requires
 soak-at-requires c κs = (at-here (c .before .before .before .before .before .pre) (c .before .if1 .left), subst T (sym (c .if2 .taken)) tt)
 
 rank-at-requires : tie.Need-rank-at-requires
-rank-at-requires c κs = let p = c .before .before .before .before .before .pre in (p, at-here p (c .before .if1 .left) .computing, c .if2 .left)
+rank-at-requires c κs = let p = c .before .before .before .before .before .pre in
+    (p, at-here p (c .before .if1 .left) .computing, c .if2 .left)
 
 returns-2 : tie.Need-returns-2
 returns-2 c = c .soak-at .ensures ∙ row-soak (c .before .before .before .before .before .before .pre) (c .before .before .if1 .left)

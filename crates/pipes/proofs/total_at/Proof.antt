@@ -18,7 +18,8 @@ sub-length-at c = search needs
 
 length-at-requires : tie.Need-length-at-requires
 length-at-requires c κs =
-    let p = c .before .before .before .before .before .pre in (at-one p (sym (c .before .one-at .ensures)) (c .if2 .left), subst T (sym (c .before .before .if1 .taken)) tt)
+    let p = c .before .before .before .before .before .pre in
+    (at-one p (sym (c .before .one-at .ensures)) (c .if2 .left), subst T (sym (c .before .before .if1 .taken)) tt)
 
 held-at-requires : tie.Need-held-at-requires
 held-at-requires c κs = search needs
@@ -33,7 +34,8 @@ returns-2 c =
 
 returns-3 : tie.Need-returns-3
 returns-3 c =
-    let p = c .before .before .before .before .pre in (c .held-at .ensures ∙ total-still p (c .before .if1 .left), omega (arith, c .held-at .ensures, held-le p))
+    let p = c .before .before .before .before .pre in
+    (c .held-at .ensures ∙ total-still p (c .before .if1 .left), omega (arith, c .held-at .ensures, held-le p))
 
 pub total-at-spec : {M : Type 1} → statement M
 total-at-spec =

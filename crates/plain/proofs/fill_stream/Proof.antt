@@ -25,7 +25,8 @@ fill-column-requires c κs =
     let s = x .before .before in
     let a = s .before .before in
     let six : length (a .args .d .streams) ≡ 6 = rw length-map at (a .good .0 .1 .1 .1 .1 .0 .1 .0 .1) in
-    filling (a .args .d) six (a .pre .0) (a .args .i) (a .pre .1) (s .stream .ensures) (x .extent-of .ensures .0) (c .before .elements-in .ensures)
+    filling (a .args .d) six (a .pre .0) (a .args .i) (a .pre .1) (s .stream .ensures) (x .extent-of .ensures .0)
+    (c .before .elements-in .ensures)
 
 returns : tie.Need-returns
 returns c =

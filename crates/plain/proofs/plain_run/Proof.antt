@@ -19,7 +19,8 @@ description-requires c κs =
 run-accepted-requires : tie.Need-run-accepted-requires
 run-accepted-requires c κs =
     let d = c .before in
-    subst Fitting (sym (d .description .ensures)) (accepted-fitting _ (by-board _ _ (sym (d .before .before .refusal-of .ensures .0) ∙ d .before .if1 .taken)))
+    subst Fitting (sym (d .description .ensures))
+    (accepted-fitting _ (by-board _ _ (sym (d .before .before .refusal-of .ensures .0) ∙ d .before .if1 .taken)))
 
 same-length : tie.Need-same-length
 same-length c = search needs
@@ -30,8 +31,8 @@ returns c =
     let d = r .before .before in
     let i = d .before in
     let a = i .before .before .before .before .before .before .args in
-    accepted-call _ (now (a .s)) (now (a .values)) (now (a .output)) (sym (i .before .refusal-of .ensures .0) ∙ i .if1 .taken) (d .description .ensures)
-    (r .run-accepted .ensures)
+    accepted-call _ (now (a .s)) (now (a .values)) (now (a .output)) (sym (i .before .refusal-of .ensures .0) ∙ i .if1 .taken)
+    (d .description .ensures) (r .run-accepted .ensures)
 
 returns-2 : tie.Need-returns-2
 returns-2 c =

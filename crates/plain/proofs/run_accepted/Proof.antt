@@ -1,4 +1,5 @@
--- `plain::run_accepted` meets its contract: where the lengths are right the output is the values, and then what the loops leave. Assumes nothing.
+-- `plain::run_accepted` meets its contract: where the lengths are right the output is the values, and then what the loops leave.
+-- Assumes nothing.
 use mathlib.Core.Path.{sym, _∙_}
 use native.Mathlib.Omega.{arith}
 use lib.ListN.{length}
@@ -45,7 +46,8 @@ returns c =
     let i = f .before .before in
     let k = i .before .before in
     let a = k .before .before .before .args in
-    let n = own-is (a .d) (length (now (a .values))) (length (now (a .output))) (k .element-count .ensures .0) (i .before .of-plain .ensures) in
+    let n = own-is (a .d) (length (now (a .values))) (length (now (a .output))) (k .element-count .ensures .0)
+    (i .before .of-plain .ensures) in
     let e = lengths-are (a .d) (length (now (a .values))) (length (now (a .output))) n (i .if1 .taken) in
     run-done (a .d) (now (a .values)) (now (a .output)) n (i .if1 .taken)
     (f .store .ensures ∙ stored-all (now (a .values)) (now (a .output)) (e .1 ∙ sym (e .0))) (l .run-loops .ensures)
@@ -54,7 +56,8 @@ returns-2 : tie.Need-returns-2
 returns-2 c =
     let k = c .before .before in
     let a = k .before .before .before .args in
-    let n = own-is (a .d) (length (now (a .values))) (length (now (a .output))) (k .element-count .ensures .0) (c .before .of-plain .ensures) in
+    let n = own-is (a .d) (length (now (a .values))) (length (now (a .output))) (k .element-count .ensures .0)
+    (c .before .of-plain .ensures) in
     run-refused (a .d) (now (a .values)) (now (a .output)) n (c .if1 .left)
 
 pub run-accepted-spec : {M : Type 1} → statement M

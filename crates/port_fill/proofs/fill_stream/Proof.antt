@@ -60,7 +60,8 @@ put-ports-requires c κs =
     let k = c .before .before .before .before .before .before .before .before in
     let s = k .before .before .before .before .before .before .before in
     let f = k .before .before .before .before .flow-of .ensures in (
-      ports-fillable (f .2) (f .0) (f .1) (s .pre .0) (k .fill-lanes .ensures) (counted-is (f .2) (k .before .before .size-of .ensures .0)) _
+      ports-fillable (f .2) (f .0) (f .1) (s .pre .0) (k .fill-lanes .ensures)
+          (counted-is (f .2) (k .before .before .size-of .ensures .0)) _
           (length-replicate {A = ℕ} 1024 0) (c .before .before .before .before .fill-entered .ensures),
       s .pre .1,
     )
@@ -113,12 +114,15 @@ returns c =
     let f = k .before .before .before .before .flow-of .ensures in
     let o = c .before .before .put-ends .ensures in (
       o .0 ∙ ap₂ (λ (n : Nest) (s : Stream). length (entries n s)) (f .0) (f .1),
-      strung (f .2) (f .0) (f .1) (s .pre .0) (counted-is (f .2) (k .before .before .size-of .ensures .0)) (now (s .args .ports)) (u .put-ports .ensures) (o .1),
+      strung (f .2) (f .0) (f .1) (s .pre .0) (counted-is (f .2) (k .before .before .size-of .ensures .0)) (now (s .args .ports))
+          (u .put-ports .ensures) (o .1),
     )
 
 pub fill-stream-spec : {M : Type 1} → statement M
 fill-stream-spec =
     tie.close
-    (tie.spec flow-of-requires size-of-requires slice-aggregate-fill-lanes fill-lanes-requires slice-aggregate-fill-entered slice-aggregate-fill-entered-2
+    (tie.spec flow-of-requires size-of-requires slice-aggregate-fill-lanes fill-lanes-requires slice-aggregate-fill-entered
+    slice-aggregate-fill-entered-2
     fill-entered-requires slice-aggregate-put-ports slice-aggregate-put-ports-2 put-ports-requires slice-aggregate-fill-starts
-    slice-aggregate-fill-starts-2 fill-starts-requires slice-aggregate-put-ends slice-aggregate-put-ends-2 put-ends-requires same-length returns)
+    slice-aggregate-fill-starts-2 fill-starts-requires slice-aggregate-put-ends slice-aggregate-put-ends-2 put-ends-requires
+    same-length returns)

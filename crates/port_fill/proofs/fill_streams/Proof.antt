@@ -1,5 +1,5 @@
--- `port_fill::fill_streams` meets its contract: the rows of the first i streams are written, and the sums are those of these streams. Assumes
--- nothing.
+-- `port_fill::fill_streams` meets its contract: the rows of the first i streams are written, and the sums are those of these streams.
+-- Assumes nothing.
 use borrow.Author.Needs.{needs}
 use mathlib.Core.Path.{_≡_, sym, _∙_, ap, subst}
 use Prim.Native.Nat.{_-_, _≤_}
@@ -7,7 +7,8 @@ use native.Mathlib.Omega.{arith}
 use Rattle.figures.specs.Shares.{stream-sharing, share-small}
 use Rattle.port_rows.specs.declared.Strand.{Strand}
 use Rattle.port_fill.specs.Strung.{Slack}
-use Rattle.port_fill.specs.Filled.{Filled, sumsOf, sums-zero, six, sums-slack, sums-next, stringing, filled-next, filled-zero, ports-is}
+use Rattle.port_fill.specs.Filled.{Filled, sumsOf, sums-zero, six, sums-slack, sums-next, stringing, filled-next, filled-zero}
+use Rattle.port_fill.specs.Filled.{ports-is}
 use Rattle.port_fill.proofs.fill_streams.Statement.{statement}
 use Rattle.port_fill.proofs.fill_streams.Tie as tie
 
@@ -24,7 +25,8 @@ cast-stream : tie.Need-cast-stream Inv-loop μ-loop
 cast-stream c = search needs
 
 stream-requires : tie.Need-stream-requires Inv-loop μ-loop
-stream-requires c κs = let s = c .before .before .before .before .before in omega (arith, c .loop-test .taken, six (s .args .d) (s .pre .0 .described))
+stream-requires c κs = let s = c .before .before .before .before .before in
+    omega (arith, c .loop-test .taken, six (s .args .d) (s .pre .0 .described))
 
 strand-of-requires : tie.Need-strand-of-requires Inv-loop μ-loop
 strand-of-requires c κs =
@@ -37,7 +39,8 @@ strand-of-requires c κs =
     )
 
 elements-in-requires : tie.Need-elements-in-requires Inv-loop μ-loop
-elements-in-requires c κs = (c .before .before .before .before .before .before .before .pre .0 .described .few, c .before .before .before .loop .inv .0)
+elements-in-requires c κs =
+    (c .before .before .before .before .before .before .before .pre .0 .described .few, c .before .before .before .loop .inv .0)
 
 cast-fill-stream : tie.Need-cast-fill-stream Inv-loop μ-loop
 cast-fill-stream c =
@@ -48,7 +51,8 @@ fill-stream-requires : tie.Need-fill-stream-requires Inv-loop μ-loop
 fill-stream-requires c κs =
     let s = c .before .before .before .before .before .before .before .before .before in
     let l = c .before .before .before .before .before .loop in (
-      stringing (s .args .d) (s .pre .0 .described) (l .i) (c .before .before .before .before .loop-test .taken) (c .before .before .before .stream .ensures)
+      stringing (s .args .d) (s .pre .0 .described) (l .i) (c .before .before .before .before .loop-test .taken)
+          (c .before .before .before .stream .ensures)
           (c .before .before .strand-of .ensures .1) (c .before .elements-in .ensures) (l .inv .1) (s .pre .0 .of-spans) (s .pre .0 .long),
       l .inv .2 .words,
     )
@@ -83,7 +87,8 @@ loop-again c =
     let k = c .before .before .before .fill-stream .ensures in (
       omega (arith, t),
       c .joined .ensures ∙ sums-next (s .args .d) (s .pre .0 .described) (l .i) t e (ap (λ (g : Strand). g .hop) g) (k .0) (l .inv .1),
-      filled-next (s .pre .0) (l .i) t e (l .inv .1) g (c .before .before .before .before .before .elements-in .ensures) (l .ports) (k .1) (l .inv .2),
+      filled-next (s .pre .0) (l .i) t e (l .inv .1) g (c .before .before .before .before .before .elements-in .ensures) (l .ports)
+          (k .1) (l .inv .2),
     )
 
 same-length : tie.Need-same-length Inv-loop μ-loop
@@ -99,5 +104,5 @@ returns c =
 pub fill-streams-spec : {M : Type 1} → statement M
 fill-streams-spec =
     tie.close
-    (tie.spec Inv-loop μ-loop loop-holds cast-stream stream-requires strand-of-requires elements-in-requires cast-fill-stream fill-stream-requires
-    joined-requires add-i loop-less loop-again same-length returns)
+    (tie.spec Inv-loop μ-loop loop-holds cast-stream stream-requires strand-of-requires elements-in-requires cast-fill-stream
+    fill-stream-requires joined-requires add-i loop-less loop-again same-length returns)

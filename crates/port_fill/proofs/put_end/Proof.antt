@@ -17,16 +17,20 @@ end-of-requires : tie.Need-end-of-requires
 end-of-requires c κs = let p = c .before .before .before .before .before .pre in (p .0 .near, p .0 .narrow, omega (arith, p .0 .pipe))
 
 add-put-end : tie.Need-add-put-end
-add-put-end c = let p = c .before .before .before .before .before .before .before .pre in record { fits = omega (arith, p .0 .based, p .0 .pipe) }
+add-put-end c = let p = c .before .before .before .before .before .before .before .pre in
+    record { fits = omega (arith, p .0 .based, p .0 .pipe) }
 
 mul-put-end : tie.Need-mul-put-end
-mul-put-end c = let p = c .before .before .before .before .before .before .before .pre in record { fits = omega (arith, p .0 .based, p .0 .pipe) }
+mul-put-end c = let p = c .before .before .before .before .before .before .before .pre in
+    record { fits = omega (arith, p .0 .based, p .0 .pipe) }
 
 add-put-end-2 : tie.Need-add-put-end-2
-add-put-end-2 c = let p = c .before .before .before .before .before .before .before .pre in record { fits = omega (arith, p .0 .based, p .0 .pipe) }
+add-put-end-2 c = let p = c .before .before .before .before .before .before .before .pre in
+    record { fits = omega (arith, p .0 .based, p .0 .pipe) }
 
 cast-put-end : tie.Need-cast-put-end
-cast-put-end c = let p = c .before .before .before .before .before .before .before .pre in record { fits = omega (arith, p .0 .based, p .0 .pipe) }
+cast-put-end c = let p = c .before .before .before .before .before .before .before .pre in
+    record { fits = omega (arith, p .0 .based, p .0 .pipe) }
 
 put-end-requires : tie.Need-put-end-requires
 put-end-requires c κs =
@@ -43,7 +47,8 @@ same-length c = search needs
 returns : tie.Need-returns
 returns c =
     let a = c .before .before .before .before .before .before .before .before .before .before .args in
-    let t = sym (c .before .before .before .before .before .before .is-entry .ensures) ∙ c .before .before .before .before .before .if1 .taken in (
+    let t = sym (c .before .before .before .before .before .before .is-entry .ensures)
+    ∙ c .before .before .before .before .before .if1 .taken in (
       one-yes (a .f .nest) (a .f .stream) (a .p) t,
       end-put (a .f .nest) (a .f .stream) (a .g) (a .start) (a .base) (a .j) (a .p) (now (a .ports)) t
           (c .before .before .before .before .end-of .ensures) (c .before .before .put-end .ensures),
@@ -52,10 +57,13 @@ returns c =
 returns-2 : tie.Need-returns-2
 returns-2 c =
     let a = c .before .before .before .before .before .args in
-    let t = sym (c .before .is-entry .ensures) ∙ c .if1 .left in
-    (one-no (a .f .nest) (a .f .stream) (a .p) t, end-left (a .f .nest) (a .f .stream) (a .g) (a .start) (a .base) (a .j) (a .p) (now (a .ports)) t)
+    let t = sym (c .before .is-entry .ensures) ∙ c .if1 .left in (
+      one-no (a .f .nest) (a .f .stream) (a .p) t,
+      end-left (a .f .nest) (a .f .stream) (a .g) (a .start) (a .base) (a .j) (a .p) (now (a .ports)) t,
+    )
 
 pub put-end-spec : {M : Type 1} → statement M
 put-end-spec =
     tie.close
-    (tie.spec is-entry-requires end-of-requires add-put-end mul-put-end add-put-end-2 cast-put-end put-end-requires same-length returns returns-2)
+    (tie.spec is-entry-requires end-of-requires add-put-end mul-put-end add-put-end-2 cast-put-end put-end-requires same-length
+    returns returns-2)

@@ -1,5 +1,5 @@
--- `port_fill::put_ends` meets its contract: the ends of the pipes that begin before process p are written, and j is how many those are. Assumes
--- nothing.
+-- `port_fill::put_ends` meets its contract: the ends of the pipes that begin before process p are written, and j is how many those are.
+-- Assumes nothing.
 use borrow.Author.Needs.{needs}
 use mathlib.Core.Path.{_≡_, refl, sym, _∙_, ap}
 use Prim.Native.Nat.{ℕ, suc, _+_, _-_, _≤_, _<_}
@@ -22,7 +22,8 @@ abbrev μ-loop : tie.MeasureT-loop
 μ-loop f g processes spans lanes starts first base ports₀ j₀ p₀ ports j p = processes - p
 
 loop-holds : tie.Need-loop-holds Inv-loop μ-loop
-loop-holds c = let a = c .before .before .before .before .args in (omega arith, refl, entered-zero (a .f .nest) (a .f .stream), sym (marks-zero _ _ _ _ _))
+loop-holds c = let a = c .before .before .before .before .args in
+    (omega arith, refl, entered-zero (a .f .nest) (a .f .stream), sym (marks-zero _ _ _ _ _))
 
 cast-start : tie.Need-cast-start Inv-loop μ-loop
 cast-start c = search needs
@@ -49,7 +50,8 @@ add-j c =
     let s = c .before .before .before .before .before .before .before .before .before .before .before in
     let a = s .args in
     let l = c .before .before .before .before .before .before .loop in
-    let m : l .p < length (processes (a .f .nest)) = omega (arith, c .before .before .before .before .before .loop-test .taken, s .pre .0 .counted) in
+    let m : l .p < length (processes (a .f .nest)) = omega
+    (arith, c .before .before .before .before .before .loop-test .taken, s .pre .0 .counted) in
     omega (
       arith,
       l .inv .2,
@@ -71,9 +73,11 @@ loop-again c =
     let l = c .before .before .before .before .before .before .loop in
     let k = c .before .before .put-end .ensures in
     let z : suc (l .p) ≡ l .p + 1 = omega arith in
-    let m : l .p < length (processes (a .f .nest)) = omega (arith, c .before .before .before .before .before .loop-test .taken, s .pre .0 .counted) in
+    let m : l .p < length (processes (a .f .nest)) = omega
+    (arith, c .before .before .before .before .before .loop-test .taken, s .pre .0 .counted) in
     let e =
-    ends-turn (a .f .nest) (a .f .stream) (a .g) (a .first) (a .base) (l .p) (now (a .ports)) (l .inv .3) (s .pre .0 .begins (l .p) m) (l .inv .2) (k .1) in (
+    ends-turn (a .f .nest) (a .f .stream) (a .g) (a .first) (a .base) (l .p) (now (a .ports)) (l .inv .3) (s .pre .0 .begins (l .p) m)
+    (l .inv .2) (k .1) in (
       omega (arith, c .before .before .before .before .before .loop-test .taken),
       ends-length (a .f .nest) (a .f .stream) (a .g) (a .first) (a .base) (l .p + 1) (now (a .ports)) e,
       ap (λ (j : ℕ). j + c .before .before .put-end .result) (l .inv .2) ∙ entered-next (a .f .nest) (a .f .stream) (l .p) m _ (k .0)
@@ -97,5 +101,5 @@ returns c =
 pub put-ends-spec : {M : Type 1} → statement M
 put-ends-spec =
     tie.close
-    (tie.spec Inv-loop μ-loop loop-holds cast-start mul-start shared-slice-read-start cast-put-end put-end-requires add-j add-p loop-less loop-again
-    same-length returns)
+    (tie.spec Inv-loop μ-loop loop-holds cast-start mul-start shared-slice-read-start cast-put-end put-end-requires add-j add-p
+    loop-less loop-again same-length returns)

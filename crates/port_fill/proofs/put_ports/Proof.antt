@@ -39,8 +39,12 @@ loop-again : tie.Need-loop-again Inv-loop μ-loop
 loop-again c =
     let a = c .before .before .before .before .before .before .before .before .before .before .args in
     let l = c .before .before .before .before .before .loop in
-    let e = ports-turn (a .f .nest) (a .f .stream) (a .g) (a .i) (l .p) (now (a .ports)) (l .inv .2) (c .before .before .put-port .ensures) in
-    (omega (arith, c .before .before .before .before .loop-test .taken), ports-length (a .f .nest) (a .f .stream) (a .g) (a .i) (l .p + 1) (now (a .ports)) e, e)
+    let e = ports-turn (a .f .nest) (a .f .stream) (a .g) (a .i) (l .p) (now (a .ports)) (l .inv .2)
+    (c .before .before .put-port .ensures) in (
+      omega (arith, c .before .before .before .before .loop-test .taken),
+      ports-length (a .f .nest) (a .f .stream) (a .g) (a .i) (l .p + 1) (now (a .ports)) e,
+      e,
+    )
 
 same-length : tie.Need-same-length Inv-loop μ-loop
 same-length c = search needs
@@ -53,4 +57,5 @@ returns c =
     l .inv .2 ∙ ap (λ (k : ℕ). portRows (a .f .nest) (a .f .stream) (a .g) (a .i) k (now (a .ports))) e
 
 pub put-ports-spec : {M : Type 1} → statement M
-put-ports-spec = tie.close (tie.spec Inv-loop μ-loop loop-holds cast-put-port put-port-requires add-p loop-less loop-again same-length returns)
+put-ports-spec =
+    tie.close (tie.spec Inv-loop μ-loop loop-holds cast-put-port put-port-requires add-p loop-less loop-again same-length returns)

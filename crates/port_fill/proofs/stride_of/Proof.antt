@@ -48,7 +48,8 @@ add-sum-2 c =
     record { fits = omega (arith, c .hop-of .ensures, a .hop, l .inv .1, sums-slack (s .args .d) (s .pre) (l .i) (l .inv .0) .words) }
 
 add-i : tie.Need-add-i Inv-loop μ-loop
-add-i c = let s = c .before .before .before .before .before in record { fits = omega (arith, c .before .before .loop-test .taken, six (s .args .d) (s .pre)) }
+add-i c = let s = c .before .before .before .before .before in
+    record { fits = omega (arith, c .before .before .loop-test .taken, six (s .args .d) (s .pre)) }
 
 loop-less : tie.Need-loop-less Inv-loop μ-loop
 loop-less c = search needs

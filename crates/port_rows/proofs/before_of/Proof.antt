@@ -15,7 +15,8 @@ cast-number-back c = search needs
 
 number-back-requires : tie.Need-number-back-requires
 number-back-requires c κs =
-    let p = c .before .before .before .before .pre .0 in (p .seen .flows, p .lt, some-before (one-before p (c .before .entry-at .ensures .0) (c .if1 .left)))
+    let p = c .before .before .before .before .pre .0 in
+    (p .seen .flows, p .lt, some-before (one-before p (c .before .entry-at .ensures .0) (c .if1 .left)))
 
 port-at-requires : tie.Need-port-at-requires
 port-at-requires c κs = search needs

@@ -33,12 +33,16 @@ cast-number-on : tie.Need-cast-number-on
 cast-number-on c = search needs
 
 reach-of-requires : tie.Need-reach-of-requires
-reach-of-requires c κs = let p = c .before .before .before .before .before .before .before .pre .0 in going-on (p .seen .flows) (p .lt) (c .before .before .point-at .ensures)
+reach-of-requires c κs = let p = c .before .before .before .before .before .before .before .pre .0 in
+    going-on (p .seen .flows) (p .lt) (c .before .before .point-at .ensures)
 
 number-on-requires : tie.Need-number-on-requires
 number-on-requires c κs =
-    let p = c .before .before .before .before .before .before .before .before .pre .0 in
-    (p .seen .flows, p .lt, omega (arith, reach-on (p .seen .flows) (p .lt) (c .before .before .before .point-at .ensures) (c .reach-of .ensures .0)))
+    let p = c .before .before .before .before .before .before .before .before .pre .0 in (
+      p .seen .flows,
+      p .lt,
+      omega (arith, reach-on (p .seen .flows) (p .lt) (c .before .before .before .point-at .ensures) (c .reach-of .ensures .0)),
+    )
 
 port-at-requires-2 : tie.Need-port-at-requires-2
 port-at-requires-2 c κs = search needs
@@ -88,12 +92,15 @@ returns c =
     let p = s .pre .0 in
     let n = s .args .f .nest in
     let t = s .args .f .stream in
-    let e = reach-on (p .seen .flows) (p .lt) (c .before .before .before .before .before .before .before .point-at .ensures) (c .before .before .before .before .reach-of .ensures .0) in
+    let e = reach-on (p .seen .flows) (p .lt) (c .before .before .before .before .before .before .before .point-at .ensures)
+    (c .before .before .before .before .reach-of .ensures .0) in
     let l = c .before .before .port-at2 .ensures .0
-    ∙ ap (portIndex (s .args .g)) (c .before .before .before .number-on .ensures .0 ∙ ap (λ (k : ℕ). rowIndex (space n) (shift2 (processOf n (s .args .p)) (pos k) (move n t))) e) in
+    ∙ ap (portIndex (s .args .g)) (c .before .before .before .number-on .ensures .0
+    ∙ ap (λ (k : ℕ). rowIndex (space n) (shift2 (processOf n (s .args .p)) (pos k) (move n t))) e) in
     let a = c .before .before .before .before .before .port-at .ensures .0 in
     let b = c .before .before .before .before .before .before .end-at .ensures .0 in
-    same-end b a (ap (λ (k : ℕ). k + 4) a) (ap (λ (k : ℕ). k + 1) l) (ap (λ (k : ℕ). k + 1) b) (ap (λ (k : ℕ). k + 2) b) refl (c .total-at .ensures .0) refl
+    same-end b a (ap (λ (k : ℕ). k + 4) a) (ap (λ (k : ℕ). k + 1) l) (ap (λ (k : ℕ). k + 1) b) (ap (λ (k : ℕ). k + 2) b) refl
+    (c .total-at .ensures .0) refl
 
 pub end-of-spec : {M : Type 1} → statement M
 end-of-spec =

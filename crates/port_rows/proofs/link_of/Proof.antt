@@ -21,8 +21,11 @@ add-t13 c = search needs
 
 number-on-requires : tie.Need-number-on-requires
 number-on-requires c κs =
-    let p = c .before .before .before .before .before .pre in
-    (p .0, p .1, omega (arith, reach-on (p .0) (p .1) (c .before .before .point-at .ensures) (c .before .reach-of .ensures .0), c .if1 .left))
+    let p = c .before .before .before .before .before .pre in (
+      p .0,
+      p .1,
+      omega (arith, reach-on (p .0) (p .1) (c .before .before .point-at .ensures) (c .before .reach-of .ensures .0), c .if1 .left),
+    )
 
 port-at-requires : tie.Need-port-at-requires
 port-at-requires c κs = search needs
@@ -40,7 +43,8 @@ returns-2 : tie.Need-returns-2
 returns-2 c =
     let s = c .before .before .before .before .before .before .before in
     link-next (s .args .f .nest) (s .args .f .stream) (s .args .g) (s .args .sent) (s .args .p)
-    (λ z. c .before .before .if1 .left (reach-on (s .pre .0) (s .pre .1) (c .before .before .before .before .point-at .ensures) (c .before .before .before .reach-of .ensures .0) ∙ z))
+    (λ z. c .before .before .if1 .left (reach-on (s .pre .0) (s .pre .1) (c .before .before .before .before .point-at .ensures)
+    (c .before .before .before .reach-of .ensures .0) ∙ z))
     (c .before .number-on .ensures .0) (c .port-at .ensures .0)
 
 pub link-of-spec : {M : Type 1} → statement M

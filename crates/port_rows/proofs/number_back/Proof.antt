@@ -9,13 +9,16 @@ point-at-requires : tie.Need-point-at-requires
 point-at-requires c κs = let p = c .before .before .pre in (spanning (p .0), point-lt (p .0) (p .1))
 
 moved-requires : tie.Need-moved-requires
-moved-requires c κs = let p = c .before .before .before .pre in (point-small (p .0) (p .1) (c .point-at .ensures), p .0 .back-small, omega arith)
+moved-requires c κs = let p = c .before .before .before .pre in
+    (point-small (p .0) (p .1) (c .point-at .ensures), p .0 .back-small, omega arith)
 
 row-number-requires : tie.Need-row-number-requires
-row-number-requires c κs = let p = c .before .before .before .before .pre in (spanning (p .0), back-box (p .0) (p .1) (c .before .point-at .ensures) (p .2) (c .moved .ensures))
+row-number-requires c κs = let p = c .before .before .before .before .pre in
+    (spanning (p .0), back-box (p .0) (p .1) (c .before .point-at .ensures) (p .2) (c .moved .ensures))
 
 returns : tie.Need-returns
-returns c = let p = c .before .before .before .before .before .pre in back-number (p .0) (p .1) (c .before .before .point-at .ensures) (p .2) (c .before .moved .ensures) (c .row-number .ensures)
+returns c = let p = c .before .before .before .before .before .pre in
+    back-number (p .0) (p .1) (c .before .before .point-at .ensures) (p .2) (c .before .moved .ensures) (c .row-number .ensures)
 
 pub number-back-spec : {M : Type 1} → statement M
 number-back-spec =

@@ -61,10 +61,17 @@ cast-t23 : tie.Need-cast-t23
 cast-t23 c = search needs
 
 cast-t24 : tie.Need-cast-t24
-cast-t24 c = record { fits = omega (arith, count-fits (c .before .before .before .before .before .before .before .before .before .before .before .before .before .before .pre .0 .near)) }
+cast-t24 c = record {
+  fits = omega (
+    arith,
+    count-fits
+        (c .before .before .before .before .before .before .before .before .before .before .before .before .before .before .pre .0 .near),
+  );
+}
 
 total-at-requires : tie.Need-total-at-requires
-total-at-requires c κs = c .before .before .before .before .before .before .before .before .before .before .before .before .before .before .pre .0 .near
+total-at-requires c κs =
+    c .before .before .before .before .before .before .before .before .before .before .before .before .before .before .pre .0 .near
 
 cast-t26 : tie.Need-cast-t26
 cast-t26 c = search needs
@@ -74,9 +81,17 @@ keeps-requires c κs = search needs
 
 returns : tie.Need-returns
 returns c =
-    let s = c .before .before .before .before .before .before .before .before .before .before .before .before .before .before .before .before in
-    port-row (s .args .g) (s .pre .0 .near) (c .before .before .before .before .before .before .before .before .before .before .before .end-at .result) (c .before .before .before .before .before .before .before .before .before .before .before .end-at .ensures .0 ∙ ap (endIndex (s .args .g)) (c .before .before .before .before .before .before .before .before .before .before .before .before .pipe-number .ensures .0))
-    (c .before .before .before .before .before .before .before .before .port-at .ensures .0) (c .before .before .before .before .before .before .before .before-of .ensures) (c .before .before .before .before .before .before .before .before .before .before .link-of .ensures .0) (c .before .before .before .before .before .before .before .before .before .before .link-of .ensures .1) refl refl
+    let s =
+    c .before .before .before .before .before .before .before .before .before .before .before .before .before .before .before .before in
+    port-row (s .args .g)
+    (s .pre .0 .near) (c .before .before .before .before .before .before .before .before .before .before .before .end-at .result)
+    (c .before .before .before .before .before .before .before .before .before .before .before .end-at .ensures .0
+    ∙ ap (endIndex (s .args .g))
+    (c .before .before .before .before .before .before .before .before .before .before .before .before .pipe-number .ensures .0))
+    (c .before .before .before .before .before .before .before .before .port-at .ensures .0)
+    (c .before .before .before .before .before .before .before .before-of .ensures)
+    (c .before .before .before .before .before .before .before .before .before .before .link-of .ensures .0)
+    (c .before .before .before .before .before .before .before .before .before .before .link-of .ensures .1) refl refl
     (c .before .before .soak-of .ensures) refl (c .before .total-at .ensures .0) (c .keeps .ensures)
 
 pub port-of-spec : {M : Type 1} → statement M

@@ -25,7 +25,8 @@ port-of-requires c κs = search needs
 returns : tie.Need-returns
 returns c =
     let s = c .before .before .before .before .before .before .before in
-    row-bare (s .pre .0 .near) (c .before .before .before .held-at .ensures) (s .args .g) (c .before .before .if1 .taken) (c .off-of .ensures)
+    row-bare (s .pre .0 .near) (c .before .before .before .held-at .ensures) (s .args .g) (c .before .before .if1 .taken)
+    (c .off-of .ensures)
 
 returns-2 : tie.Need-returns-2
 returns-2 c =

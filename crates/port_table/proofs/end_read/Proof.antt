@@ -57,7 +57,11 @@ word-requires-9 c κs = search needs
 
 returns : tie.Need-returns
 returns c =
-    same-end (c .before .before .before .before .before .before .before .before .word .ensures .0) (c .before .before .before .before .before .before .before .word2 .ensures .0) (c .before .before .before .before .before .before .word3 .ensures .0) (c .before .before .before .before .before .word4 .ensures .0) (c .before .before .before .before .word5 .ensures .0) (c .before .before .before .word6 .ensures .0) (c .before .before .word7 .ensures .0) (c .before .word8 .ensures .0) (c .word9 .ensures .0)
+    same-end (c .before .before .before .before .before .before .before .before .word .ensures .0)
+    (c .before .before .before .before .before .before .before .word2 .ensures .0)
+    (c .before .before .before .before .before .before .word3 .ensures .0) (c .before .before .before .before .before .word4 .ensures .0)
+    (c .before .before .before .before .word5 .ensures .0) (c .before .before .before .word6 .ensures .0)
+    (c .before .before .word7 .ensures .0) (c .before .word8 .ensures .0) (c .word9 .ensures .0)
 
 pub end-read-spec : {M : Type 1} → statement M
 end-read-spec =

@@ -67,8 +67,12 @@ word-requires-10 c κs = search needs
 
 returns : tie.Need-returns
 returns c =
-    same-port (c .before .before .before .before .before .before .before .before .before .word .ensures .0) (c .before .before .before .before .before .before .before .before .word2 .ensures .0) (c .before .before .before .before .before .before .before .word3 .ensures .0) (c .before .before .before .before .before .before .word4 .ensures .0) (c .before .before .before .before .before .word5 .ensures .0) (c .before .before .before .before .word6 .ensures .0) (c .before .before .before .word7 .ensures .0) (c .before .before .word8 .ensures .0) (c .before .word9 .ensures .0)
-    (ap (λ (w : ℕ). not (eqb w 0)) (c .word10 .ensures .0))
+    same-port (c .before .before .before .before .before .before .before .before .before .word .ensures .0)
+    (c .before .before .before .before .before .before .before .before .word2 .ensures .0)
+    (c .before .before .before .before .before .before .before .word3 .ensures .0)
+    (c .before .before .before .before .before .before .word4 .ensures .0) (c .before .before .before .before .before .word5 .ensures .0)
+    (c .before .before .before .before .word6 .ensures .0) (c .before .before .before .word7 .ensures .0)
+    (c .before .before .word8 .ensures .0) (c .before .word9 .ensures .0) (ap (λ (w : ℕ). not (eqb w 0)) (c .word10 .ensures .0))
 
 pub port-read-spec : {M : Type 1} → statement M
 port-read-spec =

@@ -24,7 +24,8 @@ same-length c = search needs
 returns : tie.Need-returns
 returns c =
     let s = c .before .before .before .before .before .before .before in
-    c .before .before .store .ensures ∙ ap (λ (row : List ℕ). stored row (s .args .at) (length row) (now (s .args .ports))) (c .before .before .before .before .before .end-words .ensures)
+    c .before .before .store .ensures ∙ ap (λ (row : List ℕ). stored row (s .args .at) (length row) (now (s .args .ports)))
+    (c .before .before .before .before .before .end-words .ensures)
 
 pub put-end-spec : {M : Type 1} → statement M
 put-end-spec =

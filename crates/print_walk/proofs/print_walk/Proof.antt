@@ -15,7 +15,8 @@ description-requires c κs =
     walk-within _ _ (sym (c .before .walk-of .ensures .0) ∙ c .if1 .taken) .0 .sized
 
 slice-aggregate-print-whole : tie.Need-slice-aggregate-print-whole
-slice-aggregate-print-whole c = sym (c .before .before .before .before .walk-of .ensures .1 (c .before .before .before .if1 .taken) .1 .room)
+slice-aggregate-print-whole c =
+    sym (c .before .before .before .before .walk-of .ensures .1 (c .before .before .before .if1 .taken) .1 .room)
 
 bits-at-requires : tie.Need-bits-at-requires
 bits-at-requires c κs = search needs

@@ -44,7 +44,8 @@ returns-2 : tie.Need-returns-2
 returns-2 c =
     let q = c .before .before .before .before .before .before .before in
     let a = q .before .before .before .before .before .before .before .args in
-    let m = answer-marked _ _ _ (a .words .now) (many-words (a .words .now) (q .before .before .before .of-ready .ensures) (q .before .before .if1 .left)) (q .mark-ready .ensures) in
+    let m = answer-marked _ _ _ (a .words .now)
+    (many-words (a .words .now) (q .before .before .before .of-ready .ensures) (q .before .before .if1 .left)) (q .mark-ready .ensures) in
     (ap₂ Ready (c .before .before .count .ensures) (c .lowest .ensures) ∙ m .0, m .1)
 
 pub ready-opened-spec : {M : Type 1} → statement M

@@ -64,4 +64,5 @@ returns-2 c =
     let h = found-end (on (a .l .now) (a .from)) i 32 (omega arith) in (e ∙ sym h ∙ c .before .loop .inv .1, omega arith)
 
 pub first-in-spec : {M : Type 1} → statement M
-first-in-spec = tie.close (tie.spec Inv-loop μ-loop loop-holds add-if1 mul-if1 shared-slice-read-if1 returns add-i loop-less loop-again returns-2)
+first-in-spec =
+    tie.close (tie.spec Inv-loop μ-loop loop-holds add-if1 mul-if1 shared-slice-read-if1 returns add-i loop-less loop-again returns-2)

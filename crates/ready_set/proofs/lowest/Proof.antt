@@ -1,4 +1,5 @@
--- `ready_set::lowest` meets its contract: the first of the upper words leads to the first of its block, and that to the first flag. Assumes nothing.
+-- `ready_set::lowest` meets its contract: the first of the upper words leads to the first of its block, and that to the first flag.
+-- Assumes nothing.
 use mathlib.Core.Path.{sym, _∙_, ap}
 use Prim.Native.Nat.{ℕ, _+_, _*_}
 use native.Mathlib.Omega.{arith}

@@ -41,8 +41,10 @@ returns c =
 
 returns-2 : tie.Need-returns-2
 returns-2 c =
-    let s = c .before .before .before .before in
-    (s .pre .0, λ f kept. put-none f (s .args .l .now) (s .args .r) (s .args .b) (s .pre .1) (c .if1 .left ∙ c .before .before .flag .ensures) kept)
+    let s = c .before .before .before .before in (
+      s .pre .0,
+      λ f kept. put-none f (s .args .l .now) (s .args .r) (s .args .b) (s .pre .1) (c .if1 .left ∙ c .before .before .flag .ensures) kept,
+    )
 
 pub put-spec : {M : Type 1} → statement M
 put-spec =

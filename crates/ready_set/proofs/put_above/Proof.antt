@@ -19,7 +19,8 @@ module _ (l : List ℕ) (k : ℕ) (b : Bool) where
   changed : (w : ℕ) → w ≡ above l (32 * k) b → (getD l (32768 + k) 0 ≡ w → ⊥) → after w ≡ putAbove l k b
   unfolding putAbove
   changed w e n =
-      ap after e ∙ ap (λ (t : Bool). cond t l (after (above l (32 * k) b))) (sym (ne-eqb (getD l (32768 + k) 0) (above l (32 * k) b) (λ q. n (q ∙ sym e))))
+      ap after e ∙ ap (λ (t : Bool). cond t l (after (above l (32 * k) b)))
+      (sym (ne-eqb (getD l (32768 + k) 0) (above l (32 * k) b) (λ q. n (q ∙ sym e))))
 
   same : getD l (32768 + k) 0 ≡ above l (32 * k) b → l ≡ putAbove l k b
   unfolding putAbove
@@ -82,7 +83,8 @@ same-length-2 c = search needs
 
 returns-2 : tie.Need-returns-2
 returns-2 c =
-    let a = c .before .before .before .before .before .args in same (a .l .now) (a .k) (a .b) (c .if1 .left ∙ c .before .before .above .ensures)
+    let a = c .before .before .before .before .before .args in
+    same (a .l .now) (a .k) (a .b) (c .if1 .left ∙ c .before .before .above .ensures)
 
 pub put-above-spec : {M : Type 1} → statement M
 put-above-spec =

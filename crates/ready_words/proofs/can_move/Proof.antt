@@ -10,7 +10,8 @@ use Rattle.ready_words.proofs.can_move.Statement.{statement}
 use Rattle.ready_words.proofs.can_move.Tie as tie
 
 abbrev Inv-loop : tie.InvT-loop
-Inv-loop ports state z p m i₀ i = (i ≤ z .streams) × (anyLeft (passesBy ports state p) (z .streams) i ≡ any (passesBy ports state p) (numbers (z .streams)))
+Inv-loop ports state z p m i₀ i =
+    (i ≤ z .streams) × (anyLeft (passesBy ports state p) (z .streams) i ≡ any (passesBy ports state p) (numbers (z .streams)))
 
 abbrev μ-loop : tie.MeasureT-loop
 μ-loop ports state z p m i₀ i = z .streams - i

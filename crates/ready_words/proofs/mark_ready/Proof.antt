@@ -55,7 +55,8 @@ loop-again c =
     let m = c .before .can-move .ensures in (
       omega (arith, c .before .before .loop-test .taken),
       ⊎-elim
-          (λ w. w .5 ∙ w .2 .ensures ∙ ap (λ (words : List ℕ). marked words (l .p)) (l .inv .1) ∙ sym (marked-pass _ _ _ (sym m ∙ w .0 .taken)))
+          (λ w. w .5 ∙ w .2 .ensures ∙ ap (λ (words : List ℕ). marked words (l .p)) (l .inv .1)
+          ∙ sym (marked-pass _ _ _ (sym m ∙ w .0 .taken)))
           (λ w. w .1 ∙ l .inv .1 ∙ sym (marked-fail _ _ _ (sym m ∙ w .0 .left)))
           (c .if1 .came),
     )

@@ -11,8 +11,10 @@ fill-walk-requires c κs = search needs
 
 returns : tie.Need-returns
 returns c =
-    let p = c .before .before .before .before .before .before .pre in
-    (c .before .before .before .before .fill-processes .ensures .1, record { layout = p .layout; walked = c .fill-walk .ensures; few = p .instances; room = search needs })
+    let p = c .before .before .before .before .before .before .pre in (
+      c .before .before .before .before .fill-processes .ensures .1,
+      record { layout = p .layout; walked = c .fill-walk .ensures; few = p .instances; room = search needs },
+    )
 
 pub fill-nest-spec : {M : Type 1} → statement M
 fill-nest-spec = tie.close (tie.spec fill-processes-requires fill-walk-requires returns)

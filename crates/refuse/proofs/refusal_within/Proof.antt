@@ -32,8 +32,10 @@ returns c =
     let b = c .before .before .before in
     let a = b .before .before .before .before .before .args in
     let s = now (a .s) in
-    let e = b .before .walk-within .ensures in
-    (walk-goes-on (a .limits) s (e .0) (b .if1 .taken) (rw (c .before .before .description .ensures) at (c .streams-refusal .ensures)), λ z. e .1 (b .if1 .taken) .0)
+    let e = b .before .walk-within .ensures in (
+      walk-goes-on (a .limits) s (e .0) (b .if1 .taken) (rw (c .before .before .description .ensures) at (c .streams-refusal .ensures)),
+      λ z. e .1 (b .if1 .taken) .0,
+    )
 
 returns-2 : tie.Need-returns-2
 returns-2 c =

@@ -26,14 +26,20 @@ returns : tie.Need-returns
 returns c =
     let b = c .before .before .before .before in
     let p = b .before .before .before .before .before .before .pre in
-    rw (sym (zero-bits tt (p .1 .xs)) ∙ eq-eqb _ _ (b .before .before .before .if1 .taken), sym (zero-bits tt (p .1 .ys)) ∙ eq-eqb _ _ (b .if2 .taken))
+    rw (
+      sym (zero-bits tt (p .1 .xs)) ∙ eq-eqb _ _ (b .before .before .before .if1 .taken),
+      sym (zero-bits tt (p .1 .ys)) ∙ eq-eqb _ _ (b .if2 .taken),
+    )
     (ap (λ (z : ℤ). ltZ z (pos 0)) (box tt (mul (at tt (p .0 .zs)) (at tt (p .1 .zs))) .eq))
 
 returns-2 : tie.Need-returns-2
 returns-2 c =
     let b = c .before .before .before .before in
     let p = b .before .before .before .before .before .before .pre in
-    rw (sym (zero-bits tt (p .1 .xs)) ∙ eq-eqb _ _ (b .before .before .before .if1 .taken), sym (zero-bits tt (p .1 .ys)) ∙ ne-eqb _ _ (b .if2 .left))
+    rw (
+      sym (zero-bits tt (p .1 .xs)) ∙ eq-eqb _ _ (b .before .before .before .if1 .taken),
+      sym (zero-bits tt (p .1 .ys)) ∙ ne-eqb _ _ (b .if2 .left),
+    )
     (ap (λ (z : ℤ). ltZ z (pos 0)) (box tt (mul (at tt (p .0 .ys)) (at tt (p .1 .ys))) .eq))
 
 returns-3 : tie.Need-returns-3

@@ -45,7 +45,8 @@ returns-2 : tie.Need-returns-2
 returns-2 c =
     let s = c .before .before .before .before .before .before .before .before in
     let k = c .before .before .before .before in
-    let z = box-sized (s .args .s) (k .before .before .extent-of .ensures .0) (k .instance-count .ensures .0) (k .before .size-of .ensures .0) in
+    let z = box-sized (s .args .s) (k .before .before .extent-of .ensures .0) (k .instance-count .ensures .0)
+    (k .before .size-of .ensures .0) in
     refusal-by z (s .pre .0 .nest) (s .pre .1) (c .before .untouched .ensures)
 
 pub elements-refused-spec : {M : Type 1} → statement M

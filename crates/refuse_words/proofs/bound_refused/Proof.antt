@@ -18,12 +18,14 @@ returns c = rw (sym (c .before .above-x .ensures) ∙ c .if1 .taken)
 
 returns-2 : tie.Need-returns-2
 returns-2 c =
-    rw (sym (c .before .before .before .above-x .ensures) ∙ c .before .before .if1 .left, sym (c .before .above-y .ensures) ∙ c .if2 .taken) (c .if2 .taken)
+    rw (sym (c .before .before .before .above-x .ensures) ∙ c .before .before .if1 .left, sym (c .before .above-y .ensures) ∙ c .if2 .taken)
+    (c .if2 .taken)
 
 returns-3 : tie.Need-returns-3
 returns-3 c =
     let b = c .before .before in
-    rw (sym (b .before .before .above-x .ensures) ∙ b .before .if1 .left, sym (b .above-y .ensures) ∙ c .before .if2 .left) (c .above-z .ensures)
+    rw (sym (b .before .before .above-x .ensures) ∙ b .before .if1 .left, sym (b .above-y .ensures) ∙ c .before .if2 .left)
+    (c .above-z .ensures)
 
 pub bound-refused-spec : {M : Type 1} → statement M
 bound-refused-spec =

@@ -21,7 +21,8 @@ returns c = refuses 1 _ (lt-ltb _ _ (c .if1 .taken))
 returns-2 : tie.Need-returns-2
 returns-2 c =
     let z = c .before .before .sizes .ensures in
-    passes 1 _ (le-ltb _ _ (c .before .before .before .if1 .left)) (refuses 2 _ (rw z at (sym (c .before .size-refused .ensures) ∙ c .if2 .taken)))
+    passes 1 _ (le-ltb _ _ (c .before .before .before .if1 .left))
+    (refuses 2 _ (rw z at (sym (c .before .size-refused .ensures) ∙ c .if2 .taken)))
 
 returns-3 : tie.Need-returns-3
 returns-3 c =

@@ -18,12 +18,16 @@ returns c = rw (sym (c .before .outside .ensures) ∙ c .if1 .taken)
 
 returns-2 : tie.Need-returns-2
 returns-2 c =
-    rw (sym (c .before .before .before .outside .ensures) ∙ c .before .before .if1 .left, sym (c .before .outside2 .ensures) ∙ c .if2 .taken) (c .if2 .taken)
+    rw (
+      sym (c .before .before .before .outside .ensures) ∙ c .before .before .if1 .left,
+      sym (c .before .outside2 .ensures) ∙ c .if2 .taken,
+    ) (c .if2 .taken)
 
 returns-3 : tie.Need-returns-3
 returns-3 c =
     let b = c .before .before in
-    rw (sym (b .before .before .outside .ensures) ∙ b .before .if1 .left, sym (b .outside2 .ensures) ∙ c .before .if2 .left) (c .outside3 .ensures)
+    rw (sym (b .before .before .outside .ensures) ∙ b .before .if1 .left, sym (b .outside2 .ensures) ∙ c .before .if2 .left)
+    (c .outside3 .ensures)
 
 pub size-refused-spec : {M : Type 1} → statement M
 size-refused-spec =

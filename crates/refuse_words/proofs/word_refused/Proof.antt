@@ -51,7 +51,8 @@ loop-less c = omega arith
 
 loop-again : tie.Need-loop-again Inv-loop μ-loop
 loop-again c =
-    sym (every-turn _ _ _ (omega arith) (sym (c .before .in-range .ensures) ∙ not-false _ (c .if1 .left))) ∙ c .before .before .before .loop .inv
+    sym (every-turn _ _ _ (omega arith) (sym (c .before .in-range .ensures) ∙ not-false _ (c .if1 .left)))
+    ∙ c .before .before .before .loop .inv
 
 returns-2 : tie.Need-returns-2 Inv-loop μ-loop
 returns-2 c = answer _ _ (c .before .before .line-at .ensures .0) (sym (every-end _ _ _ (omega arith)) ∙ c .before .loop .inv)

@@ -6,7 +6,8 @@ use Rattle.replay.proofs.play_calls.Statement.{statement}
 use Rattle.replay.proofs.play_calls.Tie as tie
 
 abbrev Inv-loop : tie.InvT-loop
-Inv-loop board s bytes waiting received₀ state₀ l₀ left₀ received state l left = (length received ≡ length received₀) × (length state ≡ length state₀)
+Inv-loop board s bytes waiting received₀ state₀ l₀ left₀ received state l left =
+    (length received ≡ length received₀) × (length state ≡ length state₀)
 
 abbrev μ-loop : tie.MeasureT-loop
 μ-loop board s bytes waiting received₀ state₀ l₀ left₀ received state l left = left

@@ -32,7 +32,8 @@ returns : tie.Need-returns Inv-loop μ-loop
 returns c =
     let l = c .before .before .before .before .before in
     let a = l .before .before .before .args in
-    let e = out-read (a .ports .now) (a .state .now) (l .loop .q) (c .before .before .before .end .ensures) (c .before .before .word .ensures .0) in
+    let e = out-read (a .ports .now) (a .state .now) (l .loop .q) (c .before .before .before .end .ensures)
+    (c .before .before .word .ensures .0) in
     sym (every-stop _ (a .pipes) (l .loop .q) (omega arith) (e ∙ ne-eqb _ _ (c .if1 .taken))) ∙ l .loop .inv .1
 
 add-q : tie.Need-add-q Inv-loop μ-loop
@@ -45,7 +46,8 @@ loop-again : tie.Need-loop-again Inv-loop μ-loop
 loop-again c =
     let l = c .before .before .before .before .before in
     let a = l .before .before .before .args in
-    let e = out-read (a .ports .now) (a .state .now) (l .loop .q) (c .before .before .before .end .ensures) (c .before .before .word .ensures .0) in
+    let e = out-read (a .ports .now) (a .state .now) (l .loop .q) (c .before .before .before .end .ensures)
+    (c .before .before .word .ensures .0) in
     (omega arith, sym (every-turn _ (a .pipes) (l .loop .q) (omega arith) (e ∙ eq-eqb _ _ (c .if1 .left))) ∙ l .loop .inv .1)
 
 returns-2 : tie.Need-returns-2 Inv-loop μ-loop

@@ -26,20 +26,24 @@ shared-slice-read-at : tie.Need-shared-slice-read-at Inv-loop μ-loop
 shared-slice-read-at c = omega (arith, c .before .loop-test .taken, c .before .before .before .pre .long)
 
 cast-at : tie.Need-cast-at Inv-loop μ-loop
-cast-at c = let p = c .before .before .before .pre in omega (arith, p .lt (c .before .before .loop .e) (c .before .loop-test .taken), p .few)
+cast-at c = let p = c .before .before .before .pre in
+    omega (arith, p .lt (c .before .before .loop .e) (c .before .loop-test .taken), p .few)
 
 mul-output : tie.Need-mul-output Inv-loop μ-loop
-mul-output c = let p = c .before .before .before .pre in omega (arith, p .lt (c .before .before .loop .e) (c .before .loop-test .taken), p .few)
+mul-output c = let p = c .before .before .before .pre in
+    omega (arith, p .lt (c .before .before .loop .e) (c .before .loop-test .taken), p .few)
 
 shared-slice-read-output : tie.Need-shared-slice-read-output Inv-loop μ-loop
-shared-slice-read-output c = c .before .before .before .before .pre .lt (c .before .before .before .loop .e) (c .before .before .loop-test .taken)
+shared-slice-read-output c =
+    c .before .before .before .before .pre .lt (c .before .before .before .loop .e) (c .before .before .loop-test .taken)
 
 mul-output-2 : tie.Need-mul-output-2 Inv-loop μ-loop
 mul-output-2 c = search needs
 
 slice-write-output : tie.Need-slice-write-output Inv-loop μ-loop
 slice-write-output c =
-    omega (arith, c .before .before .loop-test .taken, c .before .before .before .loop .inv .1, c .before .before .before .before .pre .room)
+    omega
+    (arith, c .before .before .loop-test .taken, c .before .before .before .loop .inv .1, c .before .before .before .before .pre .room)
 
 add-e : tie.Need-add-e Inv-loop μ-loop
 add-e c = search needs

@@ -30,14 +30,15 @@ returns c =
     let i = c .before .before .before .before .before .before .before .before in
     let o = i .before .before in
     let a = o .before .before .before .before .before .before .before .before .args in
-    opened-call _ (now (a .s)) (now (a .output)) (memoryOf (now (a .waiting)) (now (a .received)) (now (a .state))) (o .«open» .ensures .0) (i .if1 .taken)
-    (c .before .before .result-opened .ensures)
+    opened-call _ (now (a .s)) (now (a .output)) (memoryOf (now (a .waiting)) (now (a .received)) (now (a .state)))
+    (o .«open» .ensures .0) (i .if1 .taken) (c .before .before .result-opened .ensures)
 
 returns-2 : tie.Need-returns-2
 returns-2 c =
     let o = c .before .before in
     let a = o .before .before .before .before .before .before .before .before .args in
-    refused-call _ (now (a .s)) (now (a .output)) (memoryOf (now (a .waiting)) (now (a .received)) (now (a .state))) (o .«open» .ensures .0) (c .if1 .left)
+    refused-call _ (now (a .s)) (now (a .output)) (memoryOf (now (a .waiting)) (now (a .received)) (now (a .state)))
+    (o .«open» .ensures .0) (c .if1 .left)
 
 pub result-spec : {M : Type 1} → statement M
 result-spec =

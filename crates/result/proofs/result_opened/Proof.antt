@@ -14,14 +14,16 @@ of-result-requires : tie.Need-of-result-requires
 of-result-requires c κs = search needs
 
 description-requires : tie.Need-description-requires
-description-requires c κs = accepted-within gaugeLimits _ (c .before .before .before .before .before .before .before .before .before .pre .0 .accepted) .0 .sized
+description-requires c κs =
+    accepted-within gaugeLimits _ (c .before .before .before .before .before .before .before .before .before .pre .0 .accepted) .0 .sized
 
 fill-output-requires : tie.Need-fill-output-requires
 fill-output-requires c κs =
     let r = c .before .before .before in
     let s = r .before .before .before .before .before .before .before .before in
     let e = c .before .description .ensures in
-    let f = fillable (s .pre .0) (s .args .output .now) (r .before .all-out .ensures) (r .of-result .ensures) (c .before .before .if1 .taken) e in
+    let f = fillable (s .pre .0) (s .args .output .now) (r .before .all-out .ensures) (r .of-result .ensures)
+    (c .before .before .if1 .taken) e in
     (f .0, f .1, f .2, rw e (s .pre .1), s .pre .2)
 
 same-length : tie.Need-same-length

@@ -32,7 +32,8 @@ returns c =
     let k = c .before .before .before .before .before .before .before .before .before .before .before .before .before in
     let a = k .before .before .before .before .before .before .before .before .before .args in
     opened-call _ (now (a .s)) (a .steps) (memoryOf (now (a .waiting)) (now (a .received)) (now (a .state))) (k .«open» .ensures .0)
-    (c .before .before .before .before .before .before .before .before .before .before .before .if1 .taken) (c .before .before .before .before .run-opened .ensures)
+    (c .before .before .before .before .before .before .before .before .before .before .before .if1 .taken)
+    (c .before .before .before .before .run-opened .ensures)
 
 same-length-3 : tie.Need-same-length-3
 same-length-3 c = search needs
@@ -43,7 +44,8 @@ same-length-4 c = search needs
 returns-2 : tie.Need-returns-2
 returns-2 c =
     let a = c .before .before .before .before .before .before .before .before .before .before .before .args in
-    refused-call _ (now (a .s)) (a .steps) (memoryOf (now (a .waiting)) (now (a .received)) (now (a .state))) (c .before .before .«open» .ensures .0) (c .if1 .left)
+    refused-call _ (now (a .s)) (a .steps) (memoryOf (now (a .waiting)) (now (a .received)) (now (a .state)))
+    (c .before .before .«open» .ensures .0) (c .if1 .left)
 
 pub run-spec : {M : Type 1} → statement M
 run-spec =

@@ -13,7 +13,8 @@ description-requires c κs = accepted-within gaugeLimits _ (c .before .before .b
 
 program-of-requires : tie.Need-program-of-requires
 program-of-requires c κs =
-    let g = grounds _ (c .before .before .before .before .before .before .before .pre .0 .accepted) .described in rw (c .description .ensures) (g .nest .step, g .nest .place)
+    let g = grounds _ (c .before .before .before .before .before .before .before .pre .0 .accepted) .described in
+    rw (c .description .ensures) (g .nest .step, g .nest .place)
 
 slice-aggregate-fill-wakeups : tie.Need-slice-aggregate-fill-wakeups
 slice-aggregate-fill-wakeups c = search needs
@@ -25,7 +26,8 @@ slice-aggregate-fill-flags : tie.Need-slice-aggregate-fill-flags
 slice-aggregate-fill-flags c = search needs
 
 fill-flags-requires : tie.Need-fill-flags-requires
-fill-flags-requires c κs = flags-ask (c .before .before .before .before .before .before .before .before .before .before .before .before .before .pre .0)
+fill-flags-requires c κs =
+    flags-ask (c .before .before .before .before .before .before .before .before .before .before .before .before .before .pre .0)
 
 slice-aggregate-run-steps : tie.Need-slice-aggregate-run-steps
 slice-aggregate-run-steps c = search needs
@@ -38,7 +40,9 @@ run-steps-requires c κs =
     let k = c .before .before .before .before .before .before .before .before .before .before .before in
     let p = k .program-of .ensures in
     let h = k .before .before .before .before .before .before .before .before .pre in
-    starts (h .0) (k .before .description .ensures) (p .0) (p .1) (h .1) (h .2) (c .before .before .before .before .before .before .before .before .before .fill-wakeups .ensures) (c .before .before .before .before .before .fill-flags .ensures)
+    starts (h .0) (k .before .description .ensures) (p .0) (p .1)
+    (h .1) (h .2) (c .before .before .before .before .before .before .before .before .before .fill-wakeups .ensures)
+    (c .before .before .before .before .before .fill-flags .ensures)
 
 slice-aggregate-lowest : tie.Need-slice-aggregate-lowest
 slice-aggregate-lowest c = search needs
@@ -54,7 +58,8 @@ same-length-2 c = search needs
 
 returns : tie.Need-returns
 returns c =
-    let e = c .before .before .before .before .before .before .before .run-steps .ensures in ran-by e (c .lowest .ensures _ (e .ready .kept))
+    let e = c .before .before .before .before .before .before .before .run-steps .ensures in
+    ran-by e (c .lowest .ensures _ (e .ready .kept))
 
 pub run-opened-spec : {M : Type 1} → statement M
 run-opened-spec =

@@ -17,7 +17,8 @@ abbrev μ-loop : tie.MeasureT-loop
 
 loop-holds : tie.Need-loop-holds Inv-loop μ-loop
 loop-holds c =
-    let p = c .before .before .before .before .before .before .before .before .pre in partly-start _ _ _ _ _ _ (record { opened = p .opened; kept = p .kept })
+    let p = c .before .before .before .before .before .before .before .before .pre in
+    partly-start _ _ _ _ _ _ (record { opened = p .opened; kept = p .kept })
 
 lowest-requires : tie.Need-lowest-requires Inv-loop μ-loop
 lowest-requires c κs = c .before .before .loop .inv .ready .kept .words
@@ -25,31 +26,58 @@ lowest-requires c κs = c .before .before .loop .inv .ready .kept .words
 name-of-requires : tie.Need-name-of-requires Inv-loop μ-loop
 name-of-requires c κs =
     let h = c .before .before .before .before .loop .inv in
-    rank-in (c .before .before .before .before .before .before .before .before .before .before .before .before .before .pre) h (c .before .lowest .ensures _ (h .ready .kept)) (c .if1 .taken)
+    rank-in (c .before .before .before .before .before .before .before .before .before .before .before .before .before .pre) h
+    (c .before .lowest .ensures _ (h .ready .kept)) (c .if1 .taken)
 
 act-requires : tie.Need-act-requires Inv-loop μ-loop
 act-requires c κs =
     let h = c .before .before .before .before .before .before .before .loop .inv in
     rw (c .before .before .name-of .ensures)
-    (asks (c .before .before .before .before .before .before .before .before .before .before .before .before .before .before .before .before .pre) h (c .before .before .before .before .lowest .ensures _ (h .ready .kept)) (c .before .before .before .if1 .taken))
+    (asks
+    (c .before .before .before .before .before .before .before .before .before .before .before .before .before .before .before .before .pre)
+    h (c .before .before .before .before .lowest .ensures _ (h .ready .kept)) (c .before .before .before .if1 .taken))
 
 refresh-requires : tie.Need-refresh-requires Inv-loop μ-loop
 refresh-requires c κs =
     let h = c .before .before .before .before .before .before .before .before .before .before .before .before .before .before .loop .inv in
-    renews (c .before .before .before .before .before .before .before .before .before .before .before .before .before .before .before .before .before .before .before .before .before .before .before .pre) h (c .before .before .before .before .before .before .before .before .before .before .before .lowest .ensures _ (h .ready .kept)) (c .before .before .before .before .before .before .before .before .before .before .if1 .taken)
-    (rw (c .before .before .before .before .before .before .before .before .before .name-of .ensures) at (c .before .before .before .before .before .before .act .ensures))
+    renews (c .before .before .before .before .before .before .before
+    .before .before .before .before .before .before .before .before .before .before .before .before .before .before .before .before .pre) h
+    (c .before .before .before .before .before .before .before .before .before .before .before .lowest .ensures _ (h .ready .kept))
+    (c .before .before .before .before .before .before .before .before .before .before .if1 .taken)
+    (rw (c .before .before .before .before .before .before .before .before .before .name-of .ensures) at (c .before .before .before .before
+    .before .before .act .ensures))
 
 add-done : tie.Need-add-done Inv-loop μ-loop
-add-done c = record { fits = omega (arith, c .before .before .before .before .before .before .before .before .before .before .before .before .before .before .before .before .loop-test .taken, c .before .before .before .before .before .before .before .before .before .before .before .before .before .before .before .before .before .before .before .before .before .before .before .before .before .before .fits) }
+add-done c = record {
+  fits = omega (
+    arith,
+    c .before .before .before .before .before .before .before .before .before .before .before .before .before .before .before .before
+        .loop-test .taken,
+    c .before .before .before .before .before .before .before .before .before .before .before .before .before .before .before .before
+        .before .before .before .before .before .before .before .before .before .before .fits,
+  );
+}
 
 loop-less : tie.Need-loop-less Inv-loop μ-loop
-loop-less c = omega (arith, c .before .before .before .before .before .before .before .before .before .before .before .before .before .before .before .before .loop-test .taken)
+loop-less c = omega (
+  arith,
+  c .before .before .before .before .before .before .before .before .before .before .before .before .before .before .before .before
+      .loop-test .taken,
+)
 
 loop-again : tie.Need-loop-again Inv-loop μ-loop
 loop-again c =
-    let h = c .before .before .before .before .before .before .before .before .before .before .before .before .before .before .before .before .before .loop .inv in
-    turned (c .before .before .before .before .before .before .before .before .before .before .before .before .before .before .before .before .before .before .before .before .before .before .before .before .before .before .pre) h (c .before .before .before .before .before .before .before .before .before .before .before .before .before .before .lowest .ensures _ (h .ready .kept)) (c .before .before .before .before .before .before .before .before .before .before .before .before .before .if1 .taken)
-    (rw (c .before .before .before .before .before .before .before .before .before .before .before .before .name-of .ensures) at (c .before .before .before .before .before .before .before .before .before .act .ensures)) (c .before .before .before .before .before .before .before .before .before .before .before .before .before .before .before .before .loop-test .taken) (c .before .before .refresh .ensures .1)
+    let h = c .before .before .before .before .before .before .before .before .before .before .before .before .before .before .before
+    .before .before .loop .inv in
+    turned (c .before .before .before .before .before .before .before .before .before .before .before .before .before .before .before
+    .before .before .before .before .before .before .before .before .before .before .before .pre) h
+    (c .before .before .before .before .before .before .before .before .before .before .before .before .before .before .lowest .ensures _
+    (h .ready .kept))
+    (c .before .before .before .before .before .before .before .before .before .before .before .before .before .if1 .taken)
+    (rw (c .before .before .before .before .before .before .before .before .before .before .before .before
+    .name-of .ensures) at (c .before .before .before .before .before .before .before .before .before .act .ensures)) (c .before .before
+    .before .before .before .before .before .before .before .before .before .before .before .before .before .before .loop-test .taken)
+    (c .before .before .refresh .ensures .1)
 
 same-length : tie.Need-same-length Inv-loop μ-loop
 same-length c = search needs

@@ -1,5 +1,5 @@
--- `send_receive::receive` meets its contract: an end that may receive has received less than its total and has a value before it, so the counts are
--- in range. Assumes nothing.
+-- `send_receive::receive` meets its contract: an end that may receive has received less than its total and has a value before it, so the
+-- counts are in range. Assumes nothing.
 use native.Mathlib.Omega.{arith}
 use borrow.Author.Needs.{needs}
 use Rattle.send_receive.specs.Moves.{receive-facts}

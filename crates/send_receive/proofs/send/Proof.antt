@@ -1,5 +1,5 @@
--- `send_receive::send` meets its contract: an end that may send has sent less than its total and has a free place, so the count and the place are in
--- range. Assumes nothing.
+-- `send_receive::send` meets its contract: an end that may send has sent less than its total and has a free place, so the count and the
+-- place are in range. Assumes nothing.
 use native.Mathlib.Omega.{arith}
 use borrow.Author.Needs.{needs}
 use Rattle.send_receive.specs.Moves.{send-facts}

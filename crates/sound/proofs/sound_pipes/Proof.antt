@@ -41,8 +41,10 @@ loop-again c =
     let a = q .before .before .before in
     let f = pipeSound (a .args .ports .now) (a .args .state .now) in
     let l : q .loop .q < a .args .z .pipes = omega (arith, c .before .before .before .if1 .taken) in
-    let e = ap (endSound (a .args .state .now)) (c .before .before .end .ensures) in
-    (omega arith, q .loop .inv .1 ∙ every-turn f (a .args .z .pipes) (q .loop .q) l (sym (c .before .sound-end .ensures ∙ e) ∙ c .if2 .taken))
+    let e = ap (endSound (a .args .state .now)) (c .before .before .end .ensures) in (
+      omega arith,
+      q .loop .inv .1 ∙ every-turn f (a .args .z .pipes) (q .loop .q) l (sym (c .before .sound-end .ensures ∙ e) ∙ c .if2 .taken),
+    )
 
 returns : tie.Need-returns Inv-loop μ-loop
 returns c =

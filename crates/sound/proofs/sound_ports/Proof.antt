@@ -46,8 +46,10 @@ loop-again c =
     let a = q .before .before .before in
     let f = one (a .args .ports .now) (a .args .state .now) (a .args .p) in
     let l = c .before .before .before .if1 .taken in
-    let e = ap (portSound (a .args .state .now)) (c .before .before .port .ensures) in
-    (omega arith, q .loop .inv .1 ∙ every-turn f (a .args .z .streams) (q .loop .i) l (sym (c .before .sound-port .ensures ∙ e) ∙ c .if2 .taken))
+    let e = ap (portSound (a .args .state .now)) (c .before .before .port .ensures) in (
+      omega arith,
+      q .loop .inv .1 ∙ every-turn f (a .args .z .streams) (q .loop .i) l (sym (c .before .sound-port .ensures ∙ e) ∙ c .if2 .taken),
+    )
 
 returns : tie.Need-returns Inv-loop μ-loop
 returns c =

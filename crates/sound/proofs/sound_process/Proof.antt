@@ -25,7 +25,8 @@ returns c =
     let q = c .before .before in
     let a = q .before .before .before .before in
     let e = ap (λ (k : Port). leb (word (a .args .state .now) (k .fired)) (k .count)) (q .before .port .ensures) in
-    let f : firingsSound (a .args .ports .now) (a .args .state .now) (a .args .p) ≡ true = sym (q .sound-firings .ensures ∙ e) ∙ c .before .if1 .taken in
+    let f : firingsSound (a .args .ports .now) (a .args .state .now) (a .args .p) ≡ true = sym (q .sound-firings .ensures ∙ e)
+    ∙ c .before .if1 .taken in
     rw (f, c .sound-ports .ensures)
 
 returns-2 : tie.Need-returns-2
@@ -33,7 +34,8 @@ returns-2 c =
     let q = c .before in
     let a = q .before .before .before .before in
     let e = ap (λ (k : Port). leb (word (a .args .state .now) (k .fired)) (k .count)) (q .before .port .ensures) in
-    let f : firingsSound (a .args .ports .now) (a .args .state .now) (a .args .p) ≡ false = sym (q .sound-firings .ensures ∙ e) ∙ c .if1 .left in
+    let f : firingsSound (a .args .ports .now) (a .args .state .now) (a .args .p) ≡ false = sym (q .sound-firings .ensures ∙ e)
+    ∙ c .if1 .left in
     rw f
 
 pub sound-process-spec : {M : Type 1} → statement M

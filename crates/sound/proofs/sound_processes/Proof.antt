@@ -12,7 +12,8 @@ use Rattle.sound.proofs.sound_processes.Tie as tie
 abbrev Inv-loop : tie.InvT-loop
 Inv-loop ports state z p₀ p =
     (p ≤ z .processes)
-    × (every (processSound ports state (z .streams)) (numbers (z .processes)) ≡ everyLeft (processSound ports state (z .streams)) (z .processes) p)
+    × (every (processSound ports state (z .streams)) (numbers (z .processes))
+    ≡ everyLeft (processSound ports state (z .streams)) (z .processes) p)
 
 abbrev μ-loop : tie.MeasureT-loop
 μ-loop ports state z p₀ p = z .processes - p

@@ -16,7 +16,13 @@ unfolding portHolds
 returns c =
     let h = c .before .before in
     let b = h .before in
-    rw (le-leb _ _ (b .before .before .if1 .taken), le-leb _ _ (b .if2 .taken), ← h .hand-holds .ensures, c .before .if3 .taken, c .link-holds .ensures)
+    rw (
+      le-leb _ _ (b .before .before .if1 .taken),
+      le-leb _ _ (b .if2 .taken),
+      ← h .hand-holds .ensures,
+      c .before .if3 .taken,
+      c .link-holds .ensures,
+    )
 
 returns-2 : tie.Need-returns-2
 unfolding portHolds

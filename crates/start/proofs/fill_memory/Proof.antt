@@ -17,13 +17,17 @@ slice-aggregate-put-values c = search needs
 put-values-requires : tie.Need-put-values-requires
 put-values-requires c κs =
     let f = c .before .before .before in
-    putting (f .before .before .before .before .before .before .before .pre .0) (f .fill-places .ensures) (omega (arith, f .fill-places .kept .1 .1 .0))
+    putting (f .before .before .before .before .before .before .before .pre .0) (f .fill-places .ensures)
+    (omega (arith, f .fill-places .kept .1 .1 .0))
 
 clear-requires : tie.Need-clear-requires
-clear-requires c κs = let p = c .before .before .before .before .before .before .before .before .before .before .before .before .before .before .pre .0 in omega (arith, elements-is p, p .received)
+clear-requires c κs =
+    let p = c .before .before .before .before .before .before .before .before .before .before .before .before .before .before .pre .0 in
+    omega (arith, elements-is p, p .received)
 
 clear-requires-2 : tie.Need-clear-requires-2
-clear-requires-2 c κs = let p = c .before .before .before .before .before .before .before .before .before .before .before .before .before .before .before .before .before .before .pre .0 in omega (arith, words-is p, p .state)
+clear-requires-2 c κs = let p = c .before .before .before .before .before .before .before .before .before .before .before .before .before
+    .before .before .before .before .before .pre .0 in omega (arith, words-is p, p .state)
 
 same-length : tie.Need-same-length
 same-length c = search needs
@@ -37,7 +41,9 @@ same-length-3 c = search needs
 returns : tie.Need-returns
 returns c =
     let f = c .before .before .before .before .before .before .before .before .before .before .before .before .before .before in
-    memory-filled (f .before .before .before .before .before .before .before .pre .0) (f .fill-places .ensures) (c .before .before .before .before .before .before .before .before .before .before .put-values .ensures) (c .before .before .before .before .before .before .clear .ensures) (c .before .before .clear2 .ensures)
+    memory-filled (f .before .before .before .before .before .before .before .pre .0)
+    (f .fill-places .ensures) (c .before .before .before .before .before .before .before .before .before .before .put-values .ensures)
+    (c .before .before .before .before .before .before .clear .ensures) (c .before .before .clear2 .ensures)
 
 pub fill-memory-spec : {M : Type 1} → statement M
 fill-memory-spec =

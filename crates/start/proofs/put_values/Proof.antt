@@ -27,7 +27,8 @@ shared-slice-read-at : tie.Need-shared-slice-read-at Inv-loop μ-loop
 shared-slice-read-at c = omega (arith, c .before .loop-test .taken, c .before .before .before .pre .long)
 
 cast-at : tie.Need-cast-at Inv-loop μ-loop
-cast-at c = let p = c .before .before .before .pre in omega (arith, p .lt (c .before .before .loop .e) (c .before .loop-test .taken), p .few)
+cast-at c = let p = c .before .before .before .pre in
+    omega (arith, p .lt (c .before .before .loop .e) (c .before .loop-test .taken), p .few)
 
 mul-waiting : tie.Need-mul-waiting Inv-loop μ-loop
 mul-waiting c = search needs
@@ -52,7 +53,8 @@ loop-less : tie.Need-loop-less Inv-loop μ-loop
 loop-less c = search needs
 
 loop-again : tie.Need-loop-again Inv-loop μ-loop
-loop-again c = let v = c .before .before .before .loop .inv in (omega (arith, c .before .before .loop-test .taken), simp length-set (v .1), rw (spread-step, v .2) refl)
+loop-again c = let v = c .before .before .before .loop .inv in
+    (omega (arith, c .before .before .loop-test .taken), simp length-set (v .1), rw (spread-step, v .2) refl)
 
 same-length : tie.Need-same-length Inv-loop μ-loop
 same-length c = search needs

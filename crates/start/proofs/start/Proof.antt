@@ -39,12 +39,14 @@ returns c =
     let i = d .before .before in
     let a = i .before .before .before .before .before .before .before .before .args in
     accepted-call _ (now (a .s)) (now (a .values)) (memoryOf (now (a .waiting)) (now (a .received)) (now (a .state)))
-    (i .before .refusal-of .ensures .0) (i .if1 .taken) (d .description .ensures) (c .before .before .before .before .before .before .start-accepted .ensures)
+    (i .before .refusal-of .ensures .0) (i .if1 .taken) (d .description .ensures)
+    (c .before .before .before .before .before .before .start-accepted .ensures)
 
 returns-2 : tie.Need-returns-2
 returns-2 c =
     let a = c .before .before .before .before .before .before .before .before .args in
-    refused-call _ (now (a .s)) (now (a .values)) (memoryOf (now (a .waiting)) (now (a .received)) (now (a .state))) (c .before .refusal-of .ensures .0) (c .if1 .left)
+    refused-call _ (now (a .s)) (now (a .values)) (memoryOf (now (a .waiting)) (now (a .received)) (now (a .state)))
+    (c .before .refusal-of .ensures .0) (c .if1 .left)
 
 pub start-spec : {M : Type 1} → statement M
 start-spec =

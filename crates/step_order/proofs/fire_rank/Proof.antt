@@ -19,7 +19,8 @@ add-result-2 : tie.Need-add-result-2
 add-result-2 c = let s = c .before .before in record { fits = omega (arith, steps-most (s .pre .0), steps-inside (s .args .z) (s .pre .1)) }
 
 add-result-3 : tie.Need-add-result-3
-add-result-3 c = let s = c .before .before .before in record { fits = omega (arith, steps-most (s .pre .0), steps-inside (s .args .z) (s .pre .1)) }
+add-result-3 c = let s = c .before .before .before in
+    record { fits = omega (arith, steps-most (s .pre .0), steps-inside (s .args .z) (s .pre .1)) }
 
 returns : tie.Need-returns
 returns c = let s = c .before .before .before in (refl, omega (arith, steps-most (s .pre .0), steps-inside (s .args .z) (s .pre .1)))

@@ -34,7 +34,8 @@ sub-t11 : tie.Need-sub-t11
 sub-t11 c = search needs
 
 returns-2 : tie.Need-returns-2
-returns-2 c = rw (le-ltb _ _ (c .before .before .before .before .before .if1 .left), lt-ltb _ _ (c .before .if2 .taken)) (c .process-name .ensures)
+returns-2 c =
+    rw (le-ltb _ _ (c .before .before .before .before .before .if1 .left), lt-ltb _ _ (c .before .if2 .taken)) (c .process-name .ensures)
 
 returns-3 : tie.Need-returns-3
 returns-3 c = rw (le-ltb _ _ (c .before .before .before .before .before .if1 .left), le-ltb _ _ (c .before .if2 .left))
@@ -42,4 +43,5 @@ returns-3 c = rw (le-ltb _ _ (c .before .before .before .before .before .if1 .le
 pub name-of-spec : {M : Type 1} → statement M
 name-of-spec =
     tie.close
-    (tie.spec returns mul-width add-width mul-if2 div-process-name rem-process-name process-name-requires mul-t10 sub-t11 returns-2 returns-3)
+    (tie.spec returns mul-width add-width mul-if2 div-process-name rem-process-name process-name-requires mul-t10 sub-t11
+    returns-2 returns-3)

@@ -11,7 +11,8 @@ use Rattle.step_rules.proofs.act.Tie as tie
 
 end-requires : tie.Need-end-requires
 end-requires c κs =
-    let p = c .before .before .before .before .before .before .before .pre in (p .0 .words, omega (arith, p .0 .pipes, p .2 .pipe (inl (c .before .match .keys1))))
+    let p = c .before .before .before .before .before .before .before .pre in
+    (p .0 .words, omega (arith, p .0 .pipes, p .2 .pipe (inl (c .before .match .keys1))))
 
 send-requires : tie.Need-send-requires
 unfolding canBy
@@ -24,8 +25,11 @@ send-requires c κs =
 port-requires : tie.Need-port-requires
 port-requires c κs =
     let p = c .before .before .before .before .before .before .before .pre in
-    let k = c .before .match .keys2 in
-    (p .0 .words, omega (arith, p .0 .processes, p .2 .process (omega arith) (omega arith)), omega (arith, p .0 .streams, p .2 .port (inl k)))
+    let k = c .before .match .keys2 in (
+      p .0 .words,
+      omega (arith, p .0 .processes, p .2 .process (omega arith) (omega arith)),
+      omega (arith, p .0 .streams, p .2 .port (inl k)),
+    )
 
 take-requires : tie.Need-take-requires
 unfolding canBy
@@ -44,8 +48,11 @@ fire-requires c κs =
 port-requires-2 : tie.Need-port-requires-2
 port-requires-2 c κs =
     let p = c .before .before .before .before .before .before .before .pre in
-    let k = c .before .match .keys4 in
-    (p .0 .words, omega (arith, p .0 .processes, p .2 .process (omega arith) (omega arith)), omega (arith, p .0 .streams, p .2 .port (inr k)))
+    let k = c .before .match .keys4 in (
+      p .0 .words,
+      omega (arith, p .0 .processes, p .2 .process (omega arith) (omega arith)),
+      omega (arith, p .0 .streams, p .2 .port (inr k)),
+    )
 
 give-requires : tie.Need-give-requires
 unfolding canBy
@@ -56,7 +63,8 @@ give-requires c κs =
 
 end-requires-2 : tie.Need-end-requires-2
 end-requires-2 c κs =
-    let p = c .before .before .before .before .before .before .before .before .pre in (p .0 .words, omega (arith, p .0 .pipes, p .2 .pipe (inr (omega arith))))
+    let p = c .before .before .before .before .before .before .before .before .pre in
+    (p .0 .words, omega (arith, p .0 .pipes, p .2 .pipe (inr (omega arith))))
 
 receive-requires : tie.Need-receive-requires
 unfolding canBy
@@ -75,7 +83,8 @@ unfolding actBy
 returns c =
     let a = c .before .before .before .before .before .before .before .before .before .before .before .args in
     rw (c .before .before .before .before .before .match .keys1)
-    (ap (memoryOf (a .waiting .now) (a .received .now)) (c .before .before .send .ensures ∙ rw (c .before .before .before .end .ensures) refl))
+    (ap (memoryOf (a .waiting .now) (a .received .now))
+    (c .before .before .send .ensures ∙ rw (c .before .before .before .end .ensures) refl))
 
 same-length-2 : tie.Need-same-length-2
 same-length-2 c = search needs
@@ -85,7 +94,8 @@ unfolding actBy
 returns-2 c =
     let a = c .before .before .before .before .before .before .before .before .before .before .before .args in
     rw (c .before .before .before .before .before .match .keys2)
-    (ap (memoryOf (a .waiting .now) (a .received .now)) (c .before .before .take .ensures ∙ rw (c .before .before .before .port .ensures) refl))
+    (ap (memoryOf (a .waiting .now) (a .received .now))
+    (c .before .before .take .ensures ∙ rw (c .before .before .before .port .ensures) refl))
 
 same-length-3 : tie.Need-same-length-3
 same-length-3 c = search needs
@@ -93,7 +103,9 @@ same-length-3 c = search needs
 returns-3 : tie.Need-returns-3
 unfolding actBy
 returns-3 c =
-    let a = c .before .before .before .before .before .before .before .before .before .before .args in rw (c .before .before .before .before .match .keys3) (ap (memoryOf (a .waiting .now) (a .received .now)) (c .before .before .fire .ensures))
+    let a = c .before .before .before .before .before .before .before .before .before .before .args in
+    rw (c .before .before .before .before .match .keys3)
+    (ap (memoryOf (a .waiting .now) (a .received .now)) (c .before .before .fire .ensures))
 
 same-length-4 : tie.Need-same-length-4
 same-length-4 c = search needs
@@ -103,7 +115,8 @@ unfolding actBy
 returns-4 c =
     let a = c .before .before .before .before .before .before .before .before .before .before .before .args in
     rw (c .before .before .before .before .before .match .keys4)
-    (ap (memoryOf (a .waiting .now) (a .received .now)) (c .before .before .give .ensures ∙ rw (c .before .before .before .port2 .ensures) refl))
+    (ap (memoryOf (a .waiting .now) (a .received .now))
+    (c .before .before .give .ensures ∙ rw (c .before .before .before .port2 .ensures) refl))
 
 same-length-5 : tie.Need-same-length-5
 same-length-5 c = search needs
@@ -116,7 +129,8 @@ unfolding actBy
 returns-5 c =
     let a = c .before .before .before .before .before .before .before .before .before .before .before .before .before .before .args in
     let r = c .before .before .before .before .receive .ensures in
-    ap₂ (memoryOf (a .waiting .now)) (r .1 ∙ rw (c .before .before .before .before .before .end2 .ensures) refl) (r .0 ∙ rw (c .before .before .before .before .before .end2 .ensures) refl)
+    ap₂ (memoryOf (a .waiting .now)) (r .1 ∙ rw (c .before .before .before .before .before .end2 .ensures) refl)
+    (r .0 ∙ rw (c .before .before .before .before .before .end2 .ensures) refl)
     ∙ sym (by-last (a .kind) (omega arith) _ _ _ _ _)
 
 pub act-spec : {M : Type 1} → statement M

@@ -17,8 +17,11 @@ can-send-requires c κs =
 port-requires : tie.Need-port-requires
 port-requires c κs =
     let p = c .before .before .before .pre in
-    let k = c .match .keys2 in
-    (p .0 .words, omega (arith, p .0 .processes, p .1 .process (omega arith) (omega arith)), omega (arith, p .0 .streams, p .1 .port (inl k)))
+    let k = c .match .keys2 in (
+      p .0 .words,
+      omega (arith, p .0 .processes, p .1 .process (omega arith) (omega arith)),
+      omega (arith, p .0 .streams, p .1 .port (inl k)),
+    )
 
 can-take-requires : tie.Need-can-take-requires
 can-take-requires c κs =
@@ -35,8 +38,11 @@ can-fire-requires c κs =
 port-requires-2 : tie.Need-port-requires-2
 port-requires-2 c κs =
     let p = c .before .before .before .pre in
-    let k = c .match .keys4 in
-    (p .0 .words, omega (arith, p .0 .processes, p .1 .process (omega arith) (omega arith)), omega (arith, p .0 .streams, p .1 .port (inr k)))
+    let k = c .match .keys4 in (
+      p .0 .words,
+      omega (arith, p .0 .processes, p .1 .process (omega arith) (omega arith)),
+      omega (arith, p .0 .streams, p .1 .port (inr k)),
+    )
 
 can-give-requires : tie.Need-can-give-requires
 can-give-requires c κs =

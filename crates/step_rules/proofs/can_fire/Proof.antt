@@ -24,14 +24,16 @@ returns : tie.Need-returns
 returns c =
     let a = c .before .before .before .before .before .before .before .args in
     let k = portAt (a .ports .now) (a .p) 0 in
-    let h : word (a .state .now) (k .fired) < k .count = rw (c .before .before .before .word .ensures .0, c .before .before .before .before .port .ensures) at (c .before .if1 .taken) in
+    let h : word (a .state .now) (k .fired) < k .count =
+    rw (c .before .before .before .word .ensures .0, c .before .before .before .before .port .ensures) at (c .before .if1 .taken) in
     rw (lt-ltb (word (a .state .now) (k .fired)) (k .count) h) (c .can-use-all .ensures)
 
 returns-2 : tie.Need-returns-2
 returns-2 c =
     let a = c .before .before .before .before .before .before .args in
     let k = portAt (a .ports .now) (a .p) 0 in
-    let h : k .count ≤ word (a .state .now) (k .fired) = rw (c .before .before .word .ensures .0, c .before .before .before .port .ensures) at (c .if1 .left) in
+    let h : k .count ≤ word (a .state .now) (k .fired) =
+    rw (c .before .before .word .ensures .0, c .before .before .before .port .ensures) at (c .if1 .left) in
     rw (le-ltb (word (a .state .now) (k .fired)) (k .count) h) refl
 
 pub can-fire-spec : {M : Type 1} → statement M

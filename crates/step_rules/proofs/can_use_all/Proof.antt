@@ -24,7 +24,8 @@ loop-holds c = (omega arith, refl)
 
 port-requires : tie.Need-port-requires Inv-loop μ-loop
 port-requires c κs =
-    let p = c .before .before .before .before .before .pre in (p .0 .words, omega (arith, p .0 .processes, p .1), omega (arith, p .0 .streams, c .if1 .taken))
+    let p = c .before .before .before .before .before .pre in
+    (p .0 .words, omega (arith, p .0 .processes, p .1), omega (arith, p .0 .streams, c .if1 .taken))
 
 can-use-requires : tie.Need-can-use-requires Inv-loop μ-loop
 can-use-requires c κs =
@@ -46,7 +47,8 @@ loop-again c =
     let f = canUse (a .state .now) in
     let e = ap f (ports-at (a .ports .now) (a .p) (q .i) (omega (arith, m, t)) ∙ sym (c .before .before .port .ensures)) in (
       omega arith,
-      sym (every-next f (portsAt (a .ports .now) (a .p)) (q .i) (a .z .streams) t m (e ∙ sym (c .before .can-use .ensures) ∙ c .if2 .taken)) ∙ q .inv .1,
+      sym (every-next f (portsAt (a .ports .now) (a .p)) (q .i) (a .z .streams) t m (e ∙ sym (c .before .can-use .ensures) ∙ c .if2 .taken))
+          ∙ q .inv .1,
     )
 
 returns : tie.Need-returns Inv-loop μ-loop
@@ -58,7 +60,8 @@ returns c =
     let m = s .pre .0 .streams in
     let f = canUse (a .state .now) in
     let e = ap f (ports-at (a .ports .now) (a .p) (q .i) (omega (arith, m, t)) ∙ sym (c .before .before .port .ensures)) in
-    sym (every-stop f (portsAt (a .ports .now) (a .p)) (q .i) (a .z .streams) t m (e ∙ sym (c .before .can-use .ensures) ∙ c .if2 .left)) ∙ q .inv .1
+    sym (every-stop f (portsAt (a .ports .now) (a .p)) (q .i) (a .z .streams) t m (e ∙ sym (c .before .can-use .ensures) ∙ c .if2 .left))
+    ∙ q .inv .1
 
 returns-2 : tie.Need-returns-2 Inv-loop μ-loop
 returns-2 c =

@@ -13,13 +13,15 @@ array-copy-out-k c = search needs
 
 word-requires : tie.Need-word-requires
 word-requires c κs =
-    let p = c .before .before .before .before .before .before .pre in rw (c .before .before .ports-of .ensures) (p .0 .ports _ 0 (p .2) (p .0 .some) .fired)
+    let p = c .before .before .before .before .before .before .pre in
+    rw (c .before .before .ports-of .ensures) (p .0 .ports _ 0 (p .2) (p .0 .some) .fired)
 
 instance-of-requires : tie.Need-instance-of-requires
 instance-of-requires c κs =
     let s = c .before .before .before .before .before .before .before in
     let p = s .pre in
-    rw (c .word .ensures .0, c .before .before .before .ports-of .ensures) (next-runs (s .args .state .now) (s .args .p) (p .0) (p .1) (p .2) (p .3))
+    rw (c .word .ensures .0, c .before .before .before .ports-of .ensures)
+    (next-runs (s .args .state .now) (s .args .p) (p .0) (p .1) (p .2) (p .3))
 
 fire-requires : tie.Need-fire-requires
 fire-requires c κs =
@@ -31,7 +33,11 @@ same-length c = search needs
 
 returns : tie.Need-returns
 returns c =
-    c .before .before .fire .ensures ∙ rw (c .before .before .before .before .before .instance-of .ensures, c .before .before .before .before .before .before .word .ensures .0, c .before .before .before .before .before .before .before .before .before .ports-of .ensures) refl
+    c .before .before .fire .ensures ∙ rw (
+      c .before .before .before .before .before .instance-of .ensures,
+      c .before .before .before .before .before .before .word .ensures .0,
+      c .before .before .before .before .before .before .before .before .before .ports-of .ensures,
+    ) refl
 
 pub fire-spec : {M : Type 1} → statement M
 fire-spec =

@@ -15,7 +15,8 @@ place-of-line-requires c κs = search needs
 returns : tie.Need-returns
 returns c =
     let a = c .before .before .before .args in
-    rw (not-true (stationary (a .n) (a .s)) (sym (c .before .before .moves .ensures) ∙ c .before .if1 .taken)) (c .place-of-line .ensures .0)
+    rw (not-true (stationary (a .n) (a .s)) (sym (c .before .before .moves .ensures) ∙ c .before .if1 .taken))
+    (c .place-of-line .ensures .0)
 
 returns-2 : tie.Need-returns-2
 returns-2 c =

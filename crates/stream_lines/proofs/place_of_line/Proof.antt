@@ -11,7 +11,8 @@ line-of-requires c κs = search needs
 
 image-of-requires : tie.Need-image-of-requires
 image-of-requires c κs =
-    let p = c .before .before .before .pre .nest .place in (record { top = wider tt (p .top); low = wider tt (p .low) }, c .line-of .ensures .1)
+    let p = c .before .before .before .pre .nest .place in
+    (record { top = wider tt (p .top); low = wider tt (p .low) }, c .line-of .ensures .1)
 
 returns : tie.Need-returns
 returns c =

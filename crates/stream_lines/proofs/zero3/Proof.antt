@@ -9,13 +9,14 @@ returns : tie.Need-returns
 returns c =
     let b = c .before .before in
     let p = b .before .before .before .before .before .before .pre in
-    and-goes (and-goes (zero-bits tt (p .xs)) (eq-eqb _ _ (b .before .before .before .if1 .taken)) (zero-bits tt (p .ys))) (eq-eqb _ _ (b .if2 .taken))
-    (zero-bits tt (p .zs))
+    and-goes (and-goes (zero-bits tt (p .xs)) (eq-eqb _ _ (b .before .before .before .if1 .taken)) (zero-bits tt (p .ys)))
+    (eq-eqb _ _ (b .if2 .taken)) (zero-bits tt (p .zs))
 
 returns-2 : tie.Need-returns-2
 returns-2 c =
     let p = c .before .before .before .before .before .before .pre in
-    and-stops _ (and-goes (zero-bits tt (p .xs)) (eq-eqb _ _ (c .before .before .before .if1 .taken)) (zero-bits tt (p .ys))) (ne-eqb _ _ (c .if2 .left))
+    and-stops _ (and-goes (zero-bits tt (p .xs)) (eq-eqb _ _ (c .before .before .before .if1 .taken)) (zero-bits tt (p .ys)))
+    (ne-eqb _ _ (c .if2 .left))
 
 returns-3 : tie.Need-returns-3
 returns-3 c =

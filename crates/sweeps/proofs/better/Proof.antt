@@ -37,13 +37,15 @@ shared-slice-copy-out-result-4 c = search needs
 returns : tie.Need-returns
 returns c =
     let a = c .before .before .before .args in
-    ap₂ ltZ (tower (getD (a .steps .now) (a .j) (pos 0)) (c .before .result .given)) (tower (getD (a .steps .now) (a .i) (pos 0)) (c .result2 .given))
+    ap₂ ltZ (tower (getD (a .steps .now) (a .j) (pos 0)) (c .before .result .given))
+    (tower (getD (a .steps .now) (a .i) (pos 0)) (c .result2 .given))
     ∙ ap (λ (b : Bool). betterBy (a .steps .now) b (a .i) (a .j)) (sym (c .before .before .if1 .taken))
 
 returns-2 : tie.Need-returns-2
 returns-2 c =
     let a = c .before .before .before .args in
-    ap₂ ltZ (tower (getD (a .steps .now) (a .i) (pos 0)) (c .before .result3 .given)) (tower (getD (a .steps .now) (a .j) (pos 0)) (c .result4 .given))
+    ap₂ ltZ (tower (getD (a .steps .now) (a .i) (pos 0)) (c .before .result3 .given))
+    (tower (getD (a .steps .now) (a .j) (pos 0)) (c .result4 .given))
     ∙ ap (λ (b : Bool). betterBy (a .steps .now) b (a .i) (a .j)) (sym (c .before .before .if1 .left))
 
 pub better-spec : {M : Type 1} → statement M

@@ -12,7 +12,8 @@ use Rattle.sweeps.proofs.fill_chosen.Tie as tie
 abbrev Inv-loop : tie.InvT-loop
 Inv-loop numbers instances steps last points out₀ k₀ out k =
     (k ≤ instances) × (length out ≡ length out₀) × (Most k points out)
-    × (sweep (chosen (betterBy steps last)) k (drop k (take instances numbers)) out ≡ sweep (chosen (betterBy steps last)) 0 (take instances numbers) out₀)
+    × (sweep (chosen (betterBy steps last)) k (drop k (take instances numbers)) out
+    ≡ sweep (chosen (betterBy steps last)) 0 (take instances numbers) out₀)
 
 abbrev μ-loop : tie.MeasureT-loop
 μ-loop numbers instances steps last points out₀ k₀ out k = instances - k

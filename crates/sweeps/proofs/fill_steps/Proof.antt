@@ -52,7 +52,8 @@ loop-again : tie.Need-loop-again Inv-loop μ-loop
 loop-again c =
     let v = c .before .before .before .loop .inv in
     let d = c .dot-of in
-    let e = held (d .ok) (d .ensures .0 ∙ ap (dot (c .before .before .before .before .before .before .args .n .step)) (c .before .instance .ensures .0)) in
+    let e = held (d .ok)
+    (d .ensures .0 ∙ ap (dot (c .before .before .before .before .before .before .args .n .step)) (c .before .instance .ensures .0)) in
     (omega arith, simp length-set (v .1), rw (fill-step, e, v .2))
 
 same-length : tie.Need-same-length Inv-loop μ-loop
@@ -61,7 +62,8 @@ same-length c = search needs
 returns : tie.Need-returns Inv-loop μ-loop
 returns c =
     let s = c .before .before .before .before in
-    let n = s .args .n in fill-done _ _ _ _ (c .before .loop .inv .2) (omega arith) ∙ filled (λ x. stepOf n x) (instances n) zero3 (pos 0) _ (s .pre .1)
+    let n = s .args .n in
+    fill-done _ _ _ _ (c .before .loop .inv .2) (omega arith) ∙ filled (λ x. stepOf n x) (instances n) zero3 (pos 0) _ (s .pre .1)
 
 pub fill-steps-spec : {M : Type 1} → statement M
 fill-steps-spec =

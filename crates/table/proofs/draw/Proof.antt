@@ -44,7 +44,8 @@ returns c =
         front = es;
         spans = s .pre .1;
         copied = subst (λ (v : List ℕ). (j : ℕ) → j < 3072 → getD v j 0 ≡ getD es j 0) (sym (k .copy-spans .ensures)) (front-copied es w l);
-        streams = subst (Streamed n (streamsOf (s .args .d)) _) (sym (k .copy-spans .ensures)) (streamed-copied es w l (f .fill-streams .ensures));
+        streams = subst (Streamed n (streamsOf (s .args .d)) _) (sym (k .copy-spans .ensures))
+            (streamed-copied es w l (f .fill-streams .ensures));
       },
     )
 

@@ -84,7 +84,8 @@ loop-again c =
       same-len-mid a k (l .words) ys n ∙ l .inv .1,
       streamed-next a k ys (g .processes) (omega arith) (omega arith) (omega (arith, l .inv .1, g .most))
           (n ∙ mid-len a (a + 2048) (l .words) (omega (arith, l .inv .1, g .most))) (l .inv .2)
-          (subst (λ (u : Stream). Passed (s .args .d .nest) u ys) (stream-read g (omega arith) (t .stream .ensures)) (f .fill-stream .ensures)),
+          (subst (λ (u : Stream). Passed (s .args .d .nest) u ys) (stream-read g (omega arith) (t .stream .ensures))
+          (f .fill-stream .ensures)),
     )
 
 same-length : tie.Need-same-length Inv-loop μ-loop

@@ -15,7 +15,8 @@ description-requires c κs = accepted-sized _ _ (c .before .pre)
 extent-of-requires : tie.Need-extent-of-requires
 extent-of-requires c κs =
     let d = c .before .before in
-    let b = subst (λ (d : Description). Bounded (d .nest)) (sym (d .description .ensures)) (accepted-bounded _ _ (d .before .before .pre)) in (b, b .place)
+    let b = subst (λ (d : Description). Bounded (d .nest)) (sym (d .description .ensures))
+    (accepted-bounded _ _ (d .before .before .pre)) in (b, b .place)
 
 size-of-requires : tie.Need-size-of-requires
 size-of-requires c κs = search needs

@@ -1,5 +1,5 @@
--- `table_words::table_words` meets its contract: as many rows are lent as fit into the words, so what the call leaves has room there. Assumes
--- nothing.
+-- `table_words::table_words` meets its contract: as many rows are lent as fit into the words, so what the call leaves has room there.
+-- Assumes nothing.
 use mathlib.Core.Path.{refl, sym, _∙_}
 use lib.ListN.{length}
 use denote.Ref.{now}
@@ -22,7 +22,8 @@ process-count-requires c κs =
     let a = t .before .before .before .args in
     let u = limits-up-to (a .board) in
     table-accepts u (now (a .bytes)) (length (now (a .words)))
-    (sym (room-number u (now (a .bytes)) (length (now (a .words))) refl (t .table .ensures .0) (i .before .number-of .ensures)) ∙ i .if1 .taken)
+    (sym (room-number u (now (a .bytes)) (length (now (a .words))) refl (t .table .ensures .0) (i .before .number-of .ensures))
+    ∙ i .if1 .taken)
 
 put-rows-requires : tie.Need-put-rows-requires
 put-rows-requires c κs =
@@ -31,7 +32,8 @@ put-rows-requires c κs =
     let a = t .before .before .before .args in
     let u = limits-up-to (a .board) in
     table-fits u (now (a .bytes)) (length (now (a .words)))
-    (sym (room-number u (now (a .bytes)) (length (now (a .words))) refl (t .table .ensures .0) (i .before .number-of .ensures)) ∙ i .if1 .taken) (c .before .process-count .ensures)
+    (sym (room-number u (now (a .bytes)) (length (now (a .words))) refl (t .table .ensures .0) (i .before .number-of .ensures))
+    ∙ i .if1 .taken) (c .before .process-count .ensures)
 
 same-length : tie.Need-same-length
 same-length c = search needs

@@ -1,5 +1,5 @@
--- `take_give::give` meets its contract: a port that may give has a free place after it, and has given less than it took, so no count passes 32 bits.
--- Assumes nothing.
+-- `take_give::give` meets its contract: a port that may give has a free place after it, and has given less than it took, so no count passes
+-- 32 bits. Assumes nothing.
 use native.Mathlib.Omega.{arith}
 use lib.ListN.{length-set}
 use borrow.Author.Needs.{needs}

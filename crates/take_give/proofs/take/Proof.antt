@@ -1,5 +1,5 @@
--- `take_give::take` meets its contract: a port that may take has a value before it, and has taken less than was put in, so no count passes 32 bits.
--- Assumes nothing.
+-- `take_give::take` meets its contract: a port that may take has a value before it, and has taken less than was put in, so no count passes
+-- 32 bits. Assumes nothing.
 use native.Mathlib.Omega.{arith}
 use lib.ListN.{length-set}
 use borrow.Author.Needs.{needs}

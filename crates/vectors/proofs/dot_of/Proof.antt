@@ -7,7 +7,8 @@ mul-result : tie.Need-mul-result
 mul-result c = let p = c .before .before .before .before .pre in fits tt (mul (at tt (p .0 .xs)) (at tt (p .1 .xs)))
 
 mul-result-2 : tie.Need-mul-result-2
-mul-result-2 c = let p = c .before .before .before .before .before .before .before .before .pre in fits tt (mul (at tt (p .0 .ys)) (at tt (p .1 .ys)))
+mul-result-2 c = let p = c .before .before .before .before .before .before .before .before .pre in
+    fits tt (mul (at tt (p .0 .ys)) (at tt (p .1 .ys)))
 
 add-result : tie.Need-add-result
 add-result c =
@@ -17,7 +18,8 @@ add-result c =
     fits tt (add x y)
 
 mul-result-3 : tie.Need-mul-result-3
-mul-result-3 c = let p = c .before .before .before .before .before .before .before .before .before .before .before .before .pre in fits tt (mul (at tt (p .0 .zs)) (at tt (p .1 .zs)))
+mul-result-3 c = let p = c .before .before .before .before .before .before .before .before .before .before .before .before .pre in
+    fits tt (mul (at tt (p .0 .zs)) (at tt (p .1 .zs)))
 
 add-result-2 : tie.Need-add-result-2
 add-result-2 c =

@@ -14,8 +14,10 @@ dot-of-requires-2 c κs = search needs
 returns : tie.Need-returns
 returns c =
     let a = c .before .dot-of in
-    let b = c .dot-of2 in
-    (same2 (held (a .ok) (a .ensures .0)) (held (b .ok) (b .ensures .0)), record { first = held-abs (a .ok) (a .ensures .1); second = held-abs (b .ok) (b .ensures .1) })
+    let b = c .dot-of2 in (
+      same2 (held (a .ok) (a .ensures .0)) (held (b .ok) (b .ensures .0)),
+      record { first = held-abs (a .ok) (a .ensures .1); second = held-abs (b .ok) (b .ensures .1) },
+    )
 
 pub image-of-spec : {M : Type 1} → statement M
 image-of-spec = tie.close (tie.spec dot-of-requires dot-of-requires-2 returns)

@@ -31,7 +31,8 @@ cast-t10 c = search needs
 
 mul-t11 : tie.Need-mul-t11
 mul-t11 c =
-    let p = c .before .before .before .before .before .before .before .before .before .before .pre in fits tt (mul (bits tt (p .2)) (at tt (p .1 .zs)))
+    let p = c .before .before .before .before .before .before .before .before .before .before .pre in
+    fits tt (mul (bits tt (p .2)) (at tt (p .1 .zs)))
 
 add-t12 : tie.Need-add-t12
 add-t12 c =

@@ -15,8 +15,10 @@ turned-requires c κs = (c .before .before .before .pre .0, c .before .before .s
 returns : tie.Need-returns
 unfolding lineOf
 returns c =
-    let n = c .before .before .before .before .args .n in
-    (c .turned .ensures .0 ∙ ap (λ (r : Short). turn (n .step) (r .vector)) (c .before .before .before .short-of .ensures .0), c .turned .ensures .1)
+    let n = c .before .before .before .before .args .n in (
+      c .turned .ensures .0 ∙ ap (λ (r : Short). turn (n .step) (r .vector)) (c .before .before .before .short-of .ensures .0),
+      c .turned .ensures .1,
+    )
 
 pub line-of-spec : {M : Type 1} → statement M
 line-of-spec = tie.close (tie.spec short-of-requires turned-requires returns)

@@ -7,7 +7,8 @@ mul-result : tie.Need-mul-result
 mul-result c = let p = c .before .before .before .before .pre in fits tt (mul (at tt (p .0 .xs)) (at tt (p .1 .ys)))
 
 mul-result-2 : tie.Need-mul-result-2
-mul-result-2 c = let p = c .before .before .before .before .before .before .before .before .pre in fits tt (mul (at tt (p .0 .ys)) (at tt (p .1 .xs)))
+mul-result-2 c = let p = c .before .before .before .before .before .before .before .before .pre in
+    fits tt (mul (at tt (p .0 .ys)) (at tt (p .1 .xs)))
 
 sub-result : tie.Need-sub-result
 sub-result c =

@@ -13,7 +13,8 @@ mul-t5 c = let p = c .before .before .pre in fits tt (mul (bits tt (p .2)) (at t
 
 add-t6 : tie.Need-add-t6
 add-t6 c =
-    let p = c .before .before .before .before .pre in fits tt (add (at tt (p .0 .first)) (box tt (mul (bits tt (p .2)) (at tt (p .1 .first)))))
+    let p = c .before .before .before .before .pre in
+    fits tt (add (at tt (p .0 .first)) (box tt (mul (bits tt (p .2)) (at tt (p .1 .first)))))
 
 cast-t7 : tie.Need-cast-t7
 cast-t7 c = search needs

@@ -14,8 +14,11 @@ end-requires c κs =
 port-requires : tie.Need-port-requires
 port-requires c κs =
     let p = c .before .before .pre in
-    let k = c .match .keys2 in
-    (p .0 .words, omega (arith, p .0 .processes, p .1 .process (omega arith) (omega arith)), omega (arith, p .0 .streams, p .1 .port (inl k)))
+    let k = c .match .keys2 in (
+      p .0 .words,
+      omega (arith, p .0 .processes, p .1 .process (omega arith) (omega arith)),
+      omega (arith, p .0 .streams, p .1 .port (inl k)),
+    )
 
 port-requires-2 : tie.Need-port-requires-2
 port-requires-2 c κs =
@@ -26,8 +29,11 @@ port-requires-2 c κs =
 port-requires-3 : tie.Need-port-requires-3
 port-requires-3 c κs =
     let p = c .before .before .pre in
-    let k = c .match .keys4 in
-    (p .0 .words, omega (arith, p .0 .processes, p .1 .process (omega arith) (omega arith)), omega (arith, p .0 .streams, p .1 .port (inr k)))
+    let k = c .match .keys4 in (
+      p .0 .words,
+      omega (arith, p .0 .processes, p .1 .process (omega arith) (omega arith)),
+      omega (arith, p .0 .streams, p .1 .port (inr k)),
+    )
 
 add-result : tie.Need-add-result
 add-result c =

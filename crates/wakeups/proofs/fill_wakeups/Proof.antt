@@ -49,12 +49,16 @@ loop-again c =
     let l = c .before .before .loop in
     let s = c .before .before .before .before .before .before in
     let h = c .before .loop-test .taken in
-    let e = c .before .before .before .count .ensures .0 in
-    (omega arith, filled-next _ _ _ _ (s .pre .2) (omega (arith, h, e)) (c .foreign-of .ensures .0) (c .foreign-of .ensures .1) (omega arith) (l .inv .1))
+    let e = c .before .before .before .count .ensures .0 in (
+      omega arith,
+      filled-next _ _ _ _ (s .pre .2) (omega (arith, h, e)) (c .foreign-of .ensures .0) (c .foreign-of .ensures .1)
+          (omega arith) (l .inv .1),
+    )
 
 same-length : tie.Need-same-length Inv-loop μ-loop
 same-length c =
-    c .before .loop .inv .1 .words ∙ sym (ap length (c .before .before .before .before .before .pre .3) ∙ length-replicate {A = ℕ} (1 + stateWordsMost) 0)
+    c .before .loop .inv .1 .words
+    ∙ sym (ap length (c .before .before .before .before .before .pre .3) ∙ length-replicate {A = ℕ} (1 + stateWordsMost) 0)
 
 returns : tie.Need-returns Inv-loop μ-loop
 returns c =

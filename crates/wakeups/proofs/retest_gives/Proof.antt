@@ -38,7 +38,8 @@ loop-again c =
     let l = g .before .before in
     let a = l .before .before .before .before .args in (
       omega (arith, g .before .loop-test .taken),
-      renewed-then (λ x. give-next (a .z) (a .p) (l .loop .i) (g .give-rank .result) x (g .give-rank .ensures .0)) (l .loop .inv .1) (f .retest .ensures),
+      renewed-then (λ x. give-next (a .z) (a .p) (l .loop .i) (g .give-rank .result) x (g .give-rank .ensures .0)) (l .loop .inv .1)
+          (f .retest .ensures),
     )
 
 same-length : tie.Need-same-length Inv-loop μ-loop

@@ -39,7 +39,8 @@ retest-port-requires c κs =
     let m = c .before in
     let s = m .before .before .before .before .before in
     let n = m .before .name-of .result in
-    let k = odd (kind-most (s .args .z) (s .args .r) n (s .pre .2) (m .before .name-of .ensures)) (m .match .rest .0 .1) (m .match .rest .1) in
+    let k = odd (kind-most (s .args .z) (s .args .r) n (s .pre .2) (m .before .name-of .ensures)) (m .match .rest .0 .1)
+    (m .match .rest .1) in
     let f = own-port (s .args .z) (s .args .r) n (s .pre .2) (m .before .name-of .ensures) k in
     (s .pre .0, s .pre .1, f .0, f .1, search needs)
 
@@ -50,7 +51,8 @@ returns : tie.Need-returns
 returns c =
     let m = c .before .before .before .before in
     let s = m .before .before .before .before .before in
-    renewed-less (own-alone (s .args .z) (s .args .r) (m .before .name-of .result) (s .pre .2) (m .before .name-of .ensures) (fourth (m .match .keys1)))
+    renewed-less
+    (own-alone (s .args .z) (s .args .r) (m .before .name-of .result) (s .pre .2) (m .before .name-of .ensures) (fourth (m .match .keys1)))
     (c .before .before .retest .ensures)
 
 same-length-2 : tie.Need-same-length-2
@@ -72,8 +74,10 @@ returns-3 c =
     let m = c .before .before .before .before in
     let s = m .before .before .before .before .before in
     let n = m .before .name-of .result in
-    let k = odd (kind-most (s .args .z) (s .args .r) n (s .pre .2) (m .before .name-of .ensures)) (m .match .rest .0 .1) (m .match .rest .1) in
-    renewed-less (own-port (s .args .z) (s .args .r) n (s .pre .2) (m .before .name-of .ensures) k .2) (c .before .before .retest-port .ensures)
+    let k = odd (kind-most (s .args .z) (s .args .r) n (s .pre .2) (m .before .name-of .ensures)) (m .match .rest .0 .1)
+    (m .match .rest .1) in
+    renewed-less (own-port (s .args .z) (s .args .r) n (s .pre .2) (m .before .name-of .ensures) k .2)
+    (c .before .before .retest-port .ensures)
 
 pub retest-own-spec : {M : Type 1} → statement M
 retest-own-spec =

@@ -22,8 +22,13 @@ retest-named-requires-2 : tie.Need-retest-named-requires-2
 retest-named-requires-2 c κs =
     let s = c .before .before .before .before .before .before .before .before .before .before in
     let p = s .pre in
-    let r = c .before .fire-rank .ensures in
-    (p .0, p .1, r .1, rw (r .0) (fire-name (s .args .z) (s .args .p) (p .2)), c .before .before .before .before .retest-named .ensures .words)
+    let r = c .before .fire-rank .ensures in (
+      p .0,
+      p .1,
+      r .1,
+      rw (r .0) (fire-name (s .args .z) (s .args .p) (p .2)),
+      c .before .before .before .before .retest-named .ensures .words,
+    )
 
 give-rank-requires : tie.Need-give-rank-requires
 give-rank-requires c κs = search needs
@@ -32,8 +37,13 @@ retest-named-requires-3 : tie.Need-retest-named-requires-3
 retest-named-requires-3 c κs =
     let s = c .before .before .before .before .before .before .before .before .before .before .before .before .before .before .before in
     let p = s .pre in
-    let r = c .before .give-rank .ensures in
-    (p .0, p .1, r .1, rw (r .0) (give-name (s .args .z) (s .args .p) (s .args .i) (p .2) (p .3)), c .before .before .before .before .retest-named2 .ensures .words)
+    let r = c .before .give-rank .ensures in (
+      p .0,
+      p .1,
+      r .1,
+      rw (r .0) (give-name (s .args .z) (s .args .p) (s .args .i) (p .2) (p .3)),
+      c .before .before .before .before .retest-named2 .ensures .words,
+    )
 
 same-length : tie.Need-same-length
 same-length c = search needs

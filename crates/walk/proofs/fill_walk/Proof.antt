@@ -64,7 +64,8 @@ loop-again c =
     let e = c .before .put-line .ensures in (
       omega arith,
       e .1 .long ∙ l .inv .1,
-      e .0 ∙ ap (λ (k : ℕ). k + count n (processOf n (l .p))) (l .inv .2) ∙ sym (passed-next n (l .p) h) ∙ ap (passed n) (sym (add-one (l .p))),
+      e .0 ∙ ap (λ (k : ℕ). k + count n (processOf n (l .p))) (l .inv .2) ∙ sym (passed-next n (l .p) h)
+          ∙ ap (passed n) (sym (add-one (l .p))),
       λ k b. walked-on n (l .p) h (l .inv .2) (l .inv .3) (e .1) k (subst (λ (r : ℕ). k < r) (e .0) b),
     )
 

@@ -24,7 +24,8 @@ row-number-requires : tie.Need-row-number-requires
 row-number-requires c κs =
     let s = c .before .before in (
       s .pre .box,
-      subst (Inside (boxed (s .args .e))) (sym (c .image-of .ensures .0 ∙ ap (image (s .args .m)) (c .before .instance-at .ensures))) (s .pre .inside),
+      subst (Inside (boxed (s .args .e)))
+          (sym (c .image-of .ensures .0 ∙ ap (image (s .args .m)) (c .before .instance-at .ensures))) (s .pre .inside),
     )
 
 cast-result : tie.Need-cast-result
@@ -34,7 +35,8 @@ returns : tie.Need-returns
 returns c =
     let s = c .before .before .before in
     c .row-number .ensures
-    ∙ ap (λ (p : V2). rowIndex (boxed (s .args .e)) p) (c .before .image-of .ensures .0 ∙ ap (image (s .args .m)) (c .before .before .instance-at .ensures))
+    ∙ ap (λ (p : V2). rowIndex (boxed (s .args .e)) p)
+    (c .before .image-of .ensures .0 ∙ ap (image (s .args .m)) (c .before .before .instance-at .ensures))
 
 pub number-at-spec : {M : Type 1} → statement M
 number-at-spec =

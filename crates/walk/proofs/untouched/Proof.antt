@@ -40,7 +40,8 @@ slice-read-if1 c =
 
 number-at-requires : tie.Need-number-at-requires Inv-loop μ-loop Inv-elements μ-elements
 number-at-requires c κs =
-    let l = c .before .before .before .loop in c .before .before .before .before .before .before .before .pre .each (l .k) (omega (arith, l .inv .1, c .if2 .left))
+    let l = c .before .before .before .loop in
+    c .before .before .before .before .before .before .before .pre .each (l .k) (omega (arith, l .inv .1, c .if2 .left))
 
 slice-write-marks : tie.Need-slice-write-marks Inv-loop μ-loop Inv-elements μ-elements
 slice-write-marks c =

@@ -1,4 +1,5 @@
--- `window::accepted_piece` meets its contract: what the lists or the side are refused by comes before the pipe is looked for. Assumes nothing.
+-- `window::accepted_piece` meets its contract: what the lists or the side are refused by comes before the pipe is looked for.
+-- Assumes nothing.
 use borrow.Author.Needs.{needs}
 use mathlib.Core.Path.{sym, _∙_, ap, subst}
 use Rattle.window.specs.declared.Piece.{Piece}

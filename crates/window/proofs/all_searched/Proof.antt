@@ -1,5 +1,5 @@
--- `window::all_searched` meets its contract: the search in what is left of the streams has the answer of the whole; a stream adds at most 4,194,304
--- to the start. Assumes nothing.
+-- `window::all_searched` meets its contract: the search in what is left of the streams has the answer of the whole; a stream adds at most
+-- 4,194,304 to the start. Assumes nothing.
 use mathlib.Core.Path.{_≡_, refl, sym, _∙_, ap}
 use Prim.Native.Nat.{_+_, _*_, _-_, _≤_}
 use native.Mathlib.Omega.{arith}
@@ -44,7 +44,13 @@ stream-searched-requires c κs =
 
 add-i : tie.Need-add-i Inv-loop μ-loop
 add-i c =
-    record { fits = omega (arith, c .before .before .loop-test .taken, c .before .before .before .before .before .before .pre .0 .few .ranged .sized .most-streams) }
+    record {
+      fits = omega (
+        arith,
+        c .before .before .loop-test .taken,
+        c .before .before .before .before .before .before .pre .0 .few .ranged .sized .most-streams,
+      );
+    }
 
 loop-less : tie.Need-loop-less Inv-loop μ-loop
 loop-less c = search needs

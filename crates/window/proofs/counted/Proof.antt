@@ -15,7 +15,8 @@ add-t6 : tie.Need-add-t6
 add-t6 c = search needs
 
 returns-2 : tie.Need-returns-2
-returns-2 c = let a = c .before .before .before .args in (count-here (a .w) (a .length) (c .before .before .if1 .left) (c .if2 .taken), omega arith)
+returns-2 c = let a = c .before .before .before .args in
+    (count-here (a .w) (a .length) (c .before .before .if1 .left) (c .if2 .taken), omega arith)
 
 returns-3 : tie.Need-returns-3
 returns-3 c =

@@ -21,7 +21,8 @@ returns c =
     let a = b .before .before .args in
     let d = descriptionOf (now (a .s)) in
     let e = c .piece-within .ensures in (
-      e .0 ∙ ap (λ (l : Limits). pieceOf d (a .pipe) (refusedBy l (now (a .s)) (ownTests d (a .pipe) (a .side) (a .waiting) (a .received)))) (b .limits-of .ensures .0),
+      e .0 ∙ ap (λ (l : Limits). pieceOf d (a .pipe) (refusedBy l (now (a .s)) (ownTests d (a .pipe) (a .side) (a .waiting) (a .received))))
+          (b .limits-of .ensures .0),
       e .1,
     )
 

@@ -21,7 +21,8 @@ accepted-piece-requires c κs =
     let d = c .before in
     let z = d .before .before .if1 .taken in
     let r = d .before .before .before .refusal-within .ensures in
-    rw (d .description .ensures) (windowed _ (by-gauge (d .before .before .before .before .before .before .pre) _ (sym (r .0) ∙ z)), r .1 z, omega arith)
+    rw (d .description .ensures)
+    (windowed _ (by-gauge (d .before .before .before .before .before .before .pre) _ (sym (r .0) ∙ z)), r .1 z, omega arith)
 
 refused-requires : tie.Need-refused-requires
 refused-requires c κs = search needs
@@ -32,8 +33,8 @@ returns c =
     let i = d .before .before in
     let a = i .before .before .before .before .args in
     let p = c .accepted-piece .ensures in (
-      accepted-call (a .limits) (now (a .s)) (a .pipe) (a .side) (a .waiting) (a .received) (sym (i .before .refusal-within .ensures .0) ∙ i .if1 .taken)
-          (d .description .ensures) (p .0),
+      accepted-call (a .limits) (now (a .s)) (a .pipe) (a .side) (a .waiting) (a .received)
+          (sym (i .before .refusal-within .ensures .0) ∙ i .if1 .taken) (d .description .ensures) (p .0),
       p .1,
     )
 
@@ -41,7 +42,8 @@ returns-2 : tie.Need-returns-2
 returns-2 c =
     let i = c .before in
     let a = i .before .before .before .before .args in
-    refused-call (a .limits) (now (a .s)) (a .pipe) (a .side) (a .waiting) (a .received) (i .before .refusal-within .ensures .0) (i .if1 .left) (c .refused .ensures)
+    refused-call (a .limits) (now (a .s)) (a .pipe) (a .side) (a .waiting) (a .received) (i .before .refusal-within .ensures .0)
+    (i .if1 .left) (c .refused .ensures)
 
 pub piece-within-spec : {M : Type 1} → statement M
 piece-within-spec =

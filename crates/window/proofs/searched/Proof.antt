@@ -1,5 +1,5 @@
--- `window::searched` meets its contract: the search in what is left of the processes has the answer of the whole; no start passes 32 bits, since
--- every pipe has at most 4,096 elements. Assumes nothing.
+-- `window::searched` meets its contract: the search in what is left of the processes has the answer of the whole; no start passes 32 bits,
+-- since every pipe has at most 4,096 elements. Assumes nothing.
 use mathlib.Core.Path.{_≡_, refl, _∙_, ap}
 use Prim.Native.Nat.{_+_, _*_, _-_, _≤_}
 use native.Mathlib.Omega.{arith}
@@ -30,8 +30,10 @@ visited-requires c κs =
     let s = c .before .before .before .before in
     let l = c .before .loop in
     let p = s .pre .0 in
-    let few = p .seen .flows .laid .processes in
-    (record { seen = p .seen; lt = omega (arith, p .counted, c .loop-test .taken) }, omega (arith, l .inv .1, s .pre .1, p .counted, few, c .loop-test .taken))
+    let few = p .seen .flows .laid .processes in (
+      record { seen = p .seen; lt = omega (arith, p .counted, c .loop-test .taken) },
+      omega (arith, l .inv .1, s .pre .1, p .counted, few, c .loop-test .taken),
+    )
 
 add-p : tie.Need-add-p Inv-loop μ-loop
 add-p c = omega (arith, c .before .loop-test .taken)
@@ -57,7 +59,8 @@ returns c =
     let f = s .args .f in
     let l = c .before .loop in
     let p = s .pre .0 in (
-      visit-end (f .nest) (f .stream) (l .w) (processes (f .nest)) (l .p) (omega (arith, c .loop-test .left, l .inv .0, p .counted)) ∙ l .inv .2,
+      visit-end (f .nest) (f .stream) (l .w) (processes (f .nest)) (l .p) (omega (arith, c .loop-test .left, l .inv .0, p .counted))
+          ∙ l .inv .2,
       omega (arith, l .inv .1, l .inv .0, p .counted, p .seen .flows .laid .processes),
     )
 

@@ -37,14 +37,19 @@ slice-aggregate-searched c = search needs
 searched-requires : tie.Need-searched-requires
 searched-requires c κs =
     let z = c .before .before .before .before in
-    let f = z .before .before .flow-of in
-    (record { seen = c .before .before .fill-lanes .ensures; counted = counted-is (f .ensures .2) (z .size-of .ensures .0) }, z .before .before .before .before .pre .3)
+    let f = z .before .before .flow-of in (
+      record { seen = c .before .before .fill-lanes .ensures; counted = counted-is (f .ensures .2) (z .size-of .ensures .0) },
+      z .before .before .before .before .pre .3,
+    )
 
 returns : tie.Need-returns
 returns c =
     let f = c .before .before .before .before .before .before .before in
-    let a = f .before .before .args in
-    (c .searched .ensures .0 ∙ ap₂ (λ (n : Nest) (s : Stream). results (a .w) (streamLengths n s)) (f .flow-of .ensures .0) (f .flow-of .ensures .1), c .searched .ensures .1)
+    let a = f .before .before .args in (
+      c .searched .ensures .0
+          ∙ ap₂ (λ (n : Nest) (s : Stream). results (a .w) (streamLengths n s)) (f .flow-of .ensures .0) (f .flow-of .ensures .1),
+      c .searched .ensures .1,
+    )
 
 pub stream-searched-spec : {M : Type 1} → statement M
 stream-searched-spec =

@@ -20,15 +20,18 @@ returns : tie.Need-returns
 returns c =
     let a = c .before .before .before .before .before .before .args in
     let t = c .before .total-at .ensures in (
-      visit-yes (a .f .nest) (a .f .stream) (a .w) (processOf (a .f .nest) (a .p)) (sym (c .before .before .before .is-entry .ensures) ∙ c .before .before .if1 .taken)
+      visit-yes (a .f .nest) (a .f .stream) (a .w) (processOf (a .f .nest) (a .p))
+          (sym (c .before .before .before .is-entry .ensures) ∙ c .before .before .if1 .taken)
           (c .counted .ensures .0) (t .0),
       omega (arith, c .counted .ensures .1, t .1),
     )
 
 returns-2 : tie.Need-returns-2
 returns-2 c =
-    let a = c .before .before .before .before .args in
-    (visit-no (a .f .nest) (a .f .stream) (a .w) (processOf (a .f .nest) (a .p)) (sym (c .before .is-entry .ensures) ∙ c .if1 .left), omega arith)
+    let a = c .before .before .before .before .args in (
+      visit-no (a .f .nest) (a .f .stream) (a .w) (processOf (a .f .nest) (a .p)) (sym (c .before .is-entry .ensures) ∙ c .if1 .left),
+      omega arith,
+    )
 
 pub visited-spec : {M : Type 1} → statement M
 visited-spec = tie.close (tie.spec is-entry-requires total-at-requires counted-requires returns returns-2)
