@@ -18,12 +18,9 @@ use meaning::Answer;
 use meaning::Divisors;
 use meaning::ELEMENTS;
 use meaning::Figures;
-use meaning::GAUGE_PROCESSES;
 use meaning::PROCESSES;
 use meaning::Row;
 use walk::WALK;
-
-const MOST_ELEMENTS: u32 = ELEMENTS as u32;
 
 // ---- values and sums
 
@@ -265,8 +262,8 @@ fn accept_line(board: u32, s: &[u8]) -> Extents
         Acceptance::Accepted(f, g) => {
             print_figures(f, g);
             Extents {
-                processes: within(f.processes, GAUGE_PROCESSES),
-                elements: within(f.elements, MOST_ELEMENTS),
+                processes: within(f.processes, PROCESSES),
+                elements: within(f.elements, ELEMENTS),
                 small: f.elements <= 12,
             }
         }

@@ -1,5 +1,6 @@
 -- `ready::ready_opened` meets its contract: too few words, or those of the processes that can move. Assumes nothing.
 use mathlib.Core.Path.{_∙_, ap₂}
+use native.Mathlib.Omega.{arith}
 use borrow.Author.Needs.{needs}
 use Rattle.meaning.specs.declared.Readiness.the-variants.{Ready}
 use Rattle.ready.specs.Call.{answer-few, many-words, answer-marked}
