@@ -31,11 +31,11 @@ array-copy-out-row-words c = search needs
 row-words-requires : tie.Need-row-words-requires Inv-loop μ-loop
 row-words-requires c κs = search needs
 
-slice-aggregate-store : tie.Need-slice-aggregate-store Inv-loop μ-loop
-slice-aggregate-store c = sym (ap length (c .before .row-words .ensures))
-
 mul-store : tie.Need-mul-store Inv-loop μ-loop
 mul-store c = search needs
+
+slice-aggregate-store : tie.Need-slice-aggregate-store Inv-loop μ-loop
+slice-aggregate-store c = sym (ap length (c .before .before .row-words .ensures))
 
 store-requires : tie.Need-store-requires Inv-loop μ-loop
 store-requires c κs =
@@ -79,8 +79,8 @@ put-rows-spec =
     mul-row-words
     array-copy-out-row-words
     row-words-requires
-    slice-aggregate-store
     mul-store
+    slice-aggregate-store
     store-requires
     add-p
     loop-less
