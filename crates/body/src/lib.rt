@@ -6,82 +6,13 @@
 //   Store      gather and scatter in turn
 //   Execute    one instance on a store, as the plain run and as firing have it
 ghost use mathlib.Core.Path.{_≡_};
-ghost use Prim.Native.Nat.{_*_, _-_, _%_, _≤_};
 ghost use lib.ListN.{length, take};
-ghost use Rattle.meaning.specs.Operations.{modulus, fixedProduct, operate};
-ghost use Rattle.meaning.specs.Guards.{indexOf, compares, admits};
 ghost use Rattle.meaning.specs.Body.{runLine, runLines, gather, scatter};
 ghost use Rattle.body.specs.Fit.{Within, Fit, Places, Runnable};
 ghost use Rattle.body.specs.Store.{registers};
 ghost use Rattle.body.specs.Execute.{executeAt};
 use integers::V3;
 use meaning::Line;
-
-// The exact product.
-fn exact(a: u32, b: u32) -> u64
-    ensures { λ r. ⌜ (r ≡ a * b) × (r ≤ (modulus - 1) * (modulus - 1)) ⌝ }
-{
-    a as u64 * b as u64
-}
-
-// The product modulo 2^32.
-pub fn times(a: u32, b: u32) -> u32
-    ensures { λ r. ⌜ r ≡ (a * b) % modulus ⌝ }
-{
-    (exact(a, b) % 0x1_0000_0000) as u32
-}
-
-// The product of two 16.16 numbers: divided by 2^16, rounded down, modulo 2^32.
-pub fn fixed_times(a: u32, b: u32) -> u32
-    ensures { λ r. ⌜ r ≡ fixedProduct a b ⌝ }
-{
-    (exact(a, b) / 0x1_0000 % 0x1_0000_0000) as u32
-}
-
-// One operation: copy the first, add, subtract, multiply, smaller, larger, multiply as 16.16 numbers.
-pub fn operate(op: u32, a: u32, b: u32) -> u32
-    ensures { λ r. ⌜ r ≡ operate op a b ⌝ }
-{
-    match op {
-        0 => a,
-        1 => std::num::wrapping_add_u32(a, b),
-        2 => std::num::wrapping_sub_u32(a, b),
-        3 => times(a, b),
-        4 => { if b < a { b } else { a } }
-        5 => { if a < b { b } else { a } }
-        _ => fixed_times(a, b),
-    }
-}
-
-// The index of loop i at instance x.
-fn index_of(i: u32, x: V3) -> i32
-    ensures { λ r. ⌜ r ≡ indexOf i x ⌝ }
-{
-    match i {
-        0 => x.x,
-        1 => x.y,
-        _ => x.z,
-    }
-}
-
-// How an index compares with a bound: always, equal, at most, at least.
-fn compares(c: u32, v: i32, bound: i32) -> bool
-    ensures { λ r. ⌜ r ≡ compares c v bound ⌝ }
-{
-    match c {
-        0 => true,
-        1 => v == bound,
-        2 => v <= bound,
-        _ => bound <= v,
-    }
-}
-
-// Whether the guard of a line lets it run at instance x.
-fn admits(l: Line, x: V3) -> bool
-    ensures { λ r. ⌜ r ≡ admits l x ⌝ }
-{
-    compares(l.comparison, index_of(l.index, x), l.bound)
-}
 
 // One line of instance x; one that does not run leaves its target.
 pub fn run_line(x: V3, l: Line, registers: &mut [u32; 8])
@@ -91,8 +22,8 @@ pub fn run_line(x: V3, l: Line, registers: &mut [u32; 8])
     let target = l.target as usize;
     let first = l.first as usize;
     let second = l.second as usize;
-    if admits(l, x) {
-        registers[target] = operate(l.operation, registers[first], registers[second]);
+    if guards::admits(l, x) {
+        registers[target] = operations::operate(l.operation, registers[first], registers[second]);
     }
 }
 

@@ -5,11 +5,12 @@ use meaning::Acceptance;
 use meaning::Figures;
 use meaning::PROCESSES;
 use meaning::Row;
+use text::PAGE;
 
 // ---- a row
 
 // One number for each stream.
-fn put_streams(page: &mut [u8; 4096], at: usize, words: [u32; 6], streams: u32) -> usize {
+fn put_streams(page: &mut [u8; PAGE], at: usize, words: [u32; 6], streams: u32) -> usize {
     let mut next = at;
     let mut i: usize = 0;
     while i < 6 {
@@ -22,13 +23,13 @@ fn put_streams(page: &mut [u8; 4096], at: usize, words: [u32; 6], streams: u32) 
     next
 }
 
-fn put_null(page: &mut [u8; 4096], at: usize, r: Row, streams: u32) -> usize {
+fn put_null(page: &mut [u8; PAGE], at: usize, r: Row, streams: u32) -> usize {
     let p = text::put_text(page, at, b" p");
     let soak = r.soak;
     put_streams(page, p, soak, streams)
 }
 
-fn put_computing(page: &mut [u8; 4096], at: usize, r: Row, loops: u32, streams: u32) -> usize {
+fn put_computing(page: &mut [u8; PAGE], at: usize, r: Row, loops: u32, streams: u32) -> usize {
     let f = text::put_text(page, at, b" f");
     let first = text::put_instance(page, f, r.first, loops);
     let l = text::put_text(page, first, b" l");
@@ -41,7 +42,7 @@ fn put_computing(page: &mut [u8; 4096], at: usize, r: Row, loops: u32, streams: 
     put_streams(page, d, drain, streams)
 }
 
-fn put_row(page: &mut [u8; 4096], r: Row, loops: u32, streams: u32) -> usize {
+fn put_row(page: &mut [u8; PAGE], r: Row, loops: u32, streams: u32) -> usize {
     let y = text::put(page, 0, b'y');
     let point = text::put_point(page, y, r.point, loops);
     let count = text::put_number(page, point, b" n ", r.count);
@@ -53,7 +54,7 @@ fn put_row(page: &mut [u8; 4096], r: Row, loops: u32, streams: u32) -> usize {
     text::put(page, end, b'\n')
 }
 
-fn put_figures(page: &mut [u8; 4096], f: Figures) -> usize {
+fn put_figures(page: &mut [u8; PAGE], f: Figures) -> usize {
     let processes = text::put_number(page, 0, b"processes ", f.processes);
     let instances = text::put_number(page, processes, b" instances ", f.instances);
     let steps = text::put_number(page, instances, b" steps ", f.steps);
@@ -63,13 +64,13 @@ fn put_figures(page: &mut [u8; 4096], f: Figures) -> usize {
 // ---- the table
 
 fn print_row(r: Row, loops: u32, streams: u32) {
-    let mut page = [0u8; 4096];
+    let mut page = [0u8; PAGE];
     let end = put_row(&mut page, r, loops, streams);
     text::print_page(page, end);
 }
 
 fn print_figures(f: Figures) {
-    let mut page = [0u8; 4096];
+    let mut page = [0u8; PAGE];
     let end = put_figures(&mut page, f);
     text::print_page(page, end);
 }

@@ -9,9 +9,10 @@ use integers::V3;
 use layout::SPANS;
 use libc::STDIN_FILENO;
 use meaning::Nest;
+use text::PAGE;
 use walk::WALK;
 
-fn put_visit(page: &mut [u8; 4096], n: Nest, x: V3, loops: u32) -> usize
+fn put_visit(page: &mut [u8; PAGE], n: Nest, x: V3, loops: u32) -> usize
     requires { ⌜ (Bounded n) × (Within 64 x) ⌝ }
 {
     let place = n.place;
@@ -28,7 +29,7 @@ fn put_visit(page: &mut [u8; 4096], n: Nest, x: V3, loops: u32) -> usize
 fn print_visit(n: Nest, x: V3, loops: u32)
     requires { ⌜ (Bounded n) × (Within 64 x) ⌝ }
 {
-    let mut page = [0u8; 4096];
+    let mut page = [0u8; PAGE];
     let end = put_visit(&mut page, n, x, loops);
     text::print_page(page, end);
 }
@@ -43,14 +44,14 @@ fn print_visits(n: Nest, walk: &[i32], instances: usize, loops: u32)
     }
 }
 
-fn put_figures(page: &mut [u8; 4096], processes: u32, instances: u32) -> usize {
+fn put_figures(page: &mut [u8; PAGE], processes: u32, instances: u32) -> usize {
     let first = text::put_number(page, 0, b"processes ", processes);
     let second = text::put_number(page, first, b" instances ", instances);
     text::put(page, second, b'\n')
 }
 
 fn print_figures(processes: u32, instances: u32) {
-    let mut page = [0u8; 4096];
+    let mut page = [0u8; PAGE];
     let end = put_figures(&mut page, processes, instances);
     text::print_page(page, end);
 }

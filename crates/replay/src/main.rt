@@ -10,8 +10,17 @@ use meaning::Figures;
 use meaning::Ran;
 use meaning::Readiness;
 use script::Call;
+use script::KEPT;
 use script::Lent;
 use script::Rest;
+
+// The lengths of the lists that a script is lent at most: more values and words than any description asks for that is not declined.
+const VALUES: usize = 32768;
+
+const STATE: usize = 100000;
+
+// The word that a bundle of scripts begins with.
+const BUNDLE: u32 = 4294967295;
 
 // ---- answers
 
@@ -249,7 +258,7 @@ fn result_call(
 }
 
 fn result_line(board: u32, s: &[u8], l: Lent, waiting: &[u32], received: &[u32], state: &[u32]) {
-    let mut output = [7u32; 32768];
+    let mut output = [7u32; VALUES];
     let answer = result_call(board, s, l, &mut output, waiting, received, state);
     print_list(b"result", answer, &output, l.output);
 }
@@ -351,17 +360,17 @@ fn play_calls(
 
 fn play_whole(board: u32, s: &[u8], values: &[u32], bytes: u64) -> u64 {
     let l = accept_line(board, s);
-    let mut waiting = [0u32; 32768];
-    let mut received = [0u32; 32768];
-    let mut state = [0u32; 100000];
+    let mut waiting = [0u32; VALUES];
+    let mut received = [0u32; VALUES];
+    let mut state = [0u32; STATE];
     start_line(board, s, values, l, &mut waiting, &mut received, &mut state);
     play_calls(board, s, l, bytes, &waiting, &mut received, &mut state)
 }
 
 // Plays a script with a description of so many bytes.
 fn play_script(length: u32, r: Rest) -> u64 {
-    let mut bytes = [0u8; 512];
-    let mut values = [0u32; 32768];
+    let mut bytes = [0u8; KEPT];
+    let mut values = [0u32; VALUES];
     let described = script::read_description(r, length, &mut bytes);
     let board = script::read_word(described);
     let count = script::read_word(board.rest);
@@ -403,7 +412,7 @@ fn play_bundle() {
 
 fn main() {
     let head = script::read_word(script::endless());
-    if head.value == 4294967295 {
+    if head.value == BUNDLE {
         play_bundle();
     } else {
         play_script(head.value, head.rest);

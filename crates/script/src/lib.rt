@@ -5,6 +5,14 @@ ghost use lib.ListN.{length};
 ghost use Rattle.io.specs.Counts.{Counts};
 use libc::STDIN_FILENO;
 
+// The bytes of a description that are kept, more than any good one has.
+pub const KEPT: usize = 512;
+
+const MOST: u64 = KEPT as u64;
+
+// The bytes that are read over at once.
+const CHUNK: u64 = 4096;
+
 // ---- numbers
 
 fn least(a: u64, b: u64) -> u64
@@ -121,7 +129,7 @@ fn chunk_of(left: u64) -> u64
     requires { ⌜ 0 < left ⌝ }
     ensures { λ r. ⌜ (0 < r) × (r ≤ left) × (r ≤ 4096) ⌝ }
 {
-    if left < 4096 { left } else { 4096 }
+    if left < CHUNK { left } else { CHUNK }
 }
 
 fn skip_chunk(bytes: u64) -> bool
@@ -159,7 +167,7 @@ fn passed(next: Rest, found: bool, bytes: u64) -> Rest {
 // Reads a description of so many bytes. Of one that is longer than any good one the first 512 bytes are kept.
 pub fn read_description(r: Rest, length: u32, bytes: &mut [u8]) -> Rest {
     let all = padded(length);
-    let kept = least(all, 512);
+    let kept = least(all, MOST);
     let next = behind(r, all);
     if next.whole {
         let found = filled(bytes, kept as isize);

@@ -1,10 +1,10 @@
--- `body::admits` meets its contract. Assumes nothing.
+-- `guards::admits` meets its contract. Assumes nothing.
 use mathlib.Core.Path.{_∙_, ap₂}
 use Rattle.integers.specs.Words.{tower, held}
 use Rattle.meaning.specs.Guards.{compares}
 use borrow.Author.Needs.{needs}
-use Rattle.body.proofs.admits.Statement.{statement}
-use Rattle.body.proofs.admits.Tie as tie
+use Rattle.guards.proofs.admits.Statement.{statement}
+use Rattle.guards.proofs.admits.Tie as tie
 
 index-of-requires : tie.Need-index-of-requires
 index-of-requires c κs = search needs

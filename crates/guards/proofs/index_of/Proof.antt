@@ -1,9 +1,9 @@
--- `body::index_of` meets its contract. Assumes nothing.
+-- `guards::index_of` meets its contract. Assumes nothing.
 use native.Mathlib.Omega.{arith}
 use borrow.Author.Tests.{ne-eqb}
 use Rattle.integers.specs.Words.{tower}
-use Rattle.body.proofs.index_of.Statement.{statement}
-use Rattle.body.proofs.index_of.Tie as tie
+use Rattle.guards.proofs.index_of.Statement.{statement}
+use Rattle.guards.proofs.index_of.Tie as tie
 
 returns : tie.Need-returns
 returns c = rw (c .before .match .keys1) (tower _ (c .struct-told .given .0 .1))

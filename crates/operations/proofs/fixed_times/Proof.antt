@@ -1,7 +1,7 @@
--- `body::fixed_times` meets its contract: the exact product, divided, modulo 2^32. Assumes nothing.
+-- `operations::fixed_times` meets its contract: the exact product, divided, modulo 2^32. Assumes nothing.
 use borrow.Author.Needs.{needs}
-use Rattle.body.proofs.fixed_times.Statement.{statement}
-use Rattle.body.proofs.fixed_times.Tie as tie
+use Rattle.operations.proofs.fixed_times.Statement.{statement}
+use Rattle.operations.proofs.fixed_times.Tie as tie
 
 exact-requires : tie.Need-exact-requires
 exact-requires c κs = search needs

@@ -1,11 +1,11 @@
--- `body::compares` meets its contract. Assumes nothing.
+-- `guards::compares` meets its contract. Assumes nothing.
 use mathlib.Core.Path.{refl}
 use native.Mathlib.Omega.{arith}
 use borrow.Author.Tests.{ne-eqb}
 use Rattle.integers.specs.Words.{eq-bits}
 use borrow.Author.Needs.{needs}
-use Rattle.body.proofs.compares.Statement.{statement}
-use Rattle.body.proofs.compares.Tie as tie
+use Rattle.guards.proofs.compares.Statement.{statement}
+use Rattle.guards.proofs.compares.Tie as tie
 
 returns : tie.Need-returns
 returns c = rw (c .match .keys1) refl

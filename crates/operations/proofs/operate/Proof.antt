@@ -1,12 +1,12 @@
--- `body::operate` meets its contract: a sum, a difference and the products wrap at 2^32. Assumes nothing.
+-- `operations::operate` meets its contract: a sum, a difference and the products wrap at 2^32. Assumes nothing.
 use mathlib.Core.Path.{_≡_, refl}
 use Prim.Native.Nat.{ℕ, _+_, _-_, _%_, _<_}
 use native.Mathlib.Omega.{arith}
 use borrow.Author.Needs.{needs}
 use borrow.Author.Tests.{lt-ltb, le-ltb, ne-eqb}
 use Rattle.meaning.specs.Operations.{modulus, fixedProduct, operate}
-use Rattle.body.proofs.operate.Statement.{statement}
-use Rattle.body.proofs.operate.Tie as tie
+use Rattle.operations.proofs.operate.Statement.{statement}
+use Rattle.operations.proofs.operate.Tie as tie
 
 -- the word that b is added to, to wrap to a
 difference : (r a b : ℕ) → r < modulus → b < modulus → (r + b) % modulus ≡ a → r ≡ (a + (modulus - b)) % modulus

@@ -1,7 +1,7 @@
--- `body::times` meets its contract: the exact product modulo 2^32. Assumes nothing.
+-- `operations::times` meets its contract: the exact product modulo 2^32. Assumes nothing.
 use borrow.Author.Needs.{needs}
-use Rattle.body.proofs.times.Statement.{statement}
-use Rattle.body.proofs.times.Tie as tie
+use Rattle.operations.proofs.times.Statement.{statement}
+use Rattle.operations.proofs.times.Tie as tie
 
 exact-requires : tie.Need-exact-requires
 exact-requires c κs = search needs
