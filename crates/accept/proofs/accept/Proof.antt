@@ -1,4 +1,5 @@
--- `accept::accept` meets its contract. Assumes nothing.
+-- `accept::accept` meets its contract: what a board accepts the gauge accepts too, and so it is as small as the figures ask.
+-- Assumes nothing.
 use borrow.Author.Needs.{needs}
 use mathlib.Core.Path.{sym, _∙_, ap, subst}
 use native.Mathlib.Omega.{arith}

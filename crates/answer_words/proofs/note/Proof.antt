@@ -1,4 +1,4 @@
--- `answer_words::note` meets its contract. Assumes nothing.
+-- `answer_words::note` meets its contract: a list of at most k words has none of the answer's three places, and stays. Assumes nothing.
 use mathlib.Core.Path.{sym, _∙_, ap}
 use mathlib.Core.List.{List}
 use Prim.Native.Nat.{ℕ, _+_, _*_}

@@ -1,4 +1,5 @@
--- `beqlanosh::beqlanosh_accept` meets its contract. Assumes nothing.
+-- `beqlanosh::beqlanosh_accept` meets its contract: the figures are left in the lent words if it accepts; if it refuses, these stay.
+-- Assumes nothing.
 use mathlib.Core.Path.{sym, _∙_}
 use denote.Ref.{now}
 use Rattle.beqlanosh.specs.Kept.{accepted-left, refused-left}

@@ -1,4 +1,5 @@
--- `beqlanosh::beqlanosh_ready` meets its contract. Assumes nothing.
+-- `beqlanosh::beqlanosh_ready` meets its contract: the count and the lowest are left in the lent words if it answers; if it refuses, these
+-- stay. Assumes nothing.
 use mathlib.Core.Path.{sym, _∙_}
 use denote.Ref.{now}
 use Rattle.beqlanosh.specs.Kept.{ready-left, ready-declined}

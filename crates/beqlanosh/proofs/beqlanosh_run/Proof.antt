@@ -1,4 +1,5 @@
--- `beqlanosh::beqlanosh_run` meets its contract. Assumes nothing.
+-- `beqlanosh::beqlanosh_run` meets its contract: the steps done and the flag are left in the lent words if it runs; if it refuses, these
+-- stay. Assumes nothing.
 use mathlib.Core.Path.{sym, _∙_}
 use denote.Ref.{now}
 use Rattle.beqlanosh.specs.Kept.{ran-left, run-declined}

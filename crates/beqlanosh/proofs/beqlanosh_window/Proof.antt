@@ -1,4 +1,5 @@
--- `beqlanosh::beqlanosh_window` meets its contract. Assumes nothing.
+-- `beqlanosh::beqlanosh_window` meets its contract: the piece has the call's refusal, and only without one are the lent words changed.
+-- Assumes nothing.
 use denote.Ref.{now}
 use Rattle.window.specs.Pieces.{number-is}
 use Rattle.beqlanosh.specs.Kept.{window-left, window-declined}

@@ -1,4 +1,4 @@
--- `bits::mark` meets its contract. Assumes nothing.
+-- `bits::mark` meets its contract: p modulo 64 is below 64, so that 1 shifted so far is a power of two that a word holds. Assumes nothing.
 use mathlib.Core.Path.{ap}
 use Prim.Native.Nat.{ℕ, _/_, _%_}
 use native.Mathlib.Nat.{mod-lt, zero-lt-suc}

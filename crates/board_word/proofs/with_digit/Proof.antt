@@ -1,4 +1,5 @@
--- `board_word::with_digit` meets its contract. Assumes nothing.
+-- `board_word::with_digit` meets its contract: ten times the value plus a digit fits 64 bits, so that nothing is lost before the cap.
+-- Assumes nothing.
 use mathlib.Core.Path.{refl, _∙_, ap}
 use Prim.Native.Nat.{ℕ, _+_, _*_, _-_, min}
 use borrow.Author.Needs.{needs}

@@ -1,4 +1,4 @@
--- `body::execute` meets its contract. Assumes nothing.
+-- `body::execute` meets its contract: both scratch registers are zero at the start, and no line reaches past them. Assumes nothing.
 use mathlib.Core.Path.{_∙_, ap}
 use lib.ListN.{take}
 use borrow.Author.Needs.{needs}

@@ -1,4 +1,4 @@
--- `body::run_line` meets its contract. Assumes nothing.
+-- `body::run_line` meets its contract: a target or an operand is at most 7, and so is one of the eight registers. Assumes nothing.
 use mathlib.Core.Path.{refl, sym, _∙_}
 use borrow.Author.Needs.{needs}
 use Rattle.body.proofs.run_line.Statement.{statement}

@@ -1,4 +1,5 @@
--- `declines::of_memory` meets its contract. Assumes nothing.
+-- `declines::of_memory` meets its contract: it tests in the order of the refusals, so that the first test that applies gives the number.
+-- Assumes nothing.
 use mathlib.Core.Path.{ap}
 use mathlib.Core.Bool.{not}
 use borrow.Author.Needs.{needs}

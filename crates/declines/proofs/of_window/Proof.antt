@@ -1,4 +1,5 @@
--- `declines::of_window` meets its contract. Assumes nothing.
+-- `declines::of_window` meets its contract: it tests in the order of the refusals, and a side below 2 is where the last of them, 19, does
+-- not apply. Assumes nothing.
 use mathlib.Core.Path.{ap}
 use mathlib.Core.Bool.{not}
 use borrow.Author.Tests.{eq-eqb, ne-eqb, lt-ltb, le-ltb}

@@ -1,4 +1,5 @@
--- `decode::description` meets its contract. Assumes nothing.
+-- `decode::description` meets its contract: the sizes that it reads are those of the bytes, which are in range, so that the parts may be
+-- read by them. Assumes nothing.
 use mathlib.Core.Path.{sym, subst}
 use Rattle.meaning.specs.declared.Sizes.{Sizes}
 use Rattle.meaning.specs.Description.{descriptionOf}

@@ -1,4 +1,5 @@
--- `decode::line_at` meets its contract. Assumes nothing.
+-- `decode::line_at` meets its contract: loops in range that are not two are three, and what stands before the lines takes 3 or 8 words a
+-- stream. Assumes nothing.
 use mathlib.Core.Path.{sym}
 use native.Mathlib.Omega.{arith}
 use Rattle.decode.specs.Offsets.{line-two, line-three}

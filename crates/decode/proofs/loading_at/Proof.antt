@@ -1,4 +1,5 @@
--- `decode::loading_at` meets its contract. Assumes nothing.
+-- `decode::loading_at` meets its contract: loops in range that are not two are three, and the index maps before take 2 or 6 words a stream.
+-- Assumes nothing.
 use mathlib.Core.Path.{sym}
 use native.Mathlib.Omega.{arith}
 use Rattle.decode.specs.Offsets.{loading-two, loading-three}

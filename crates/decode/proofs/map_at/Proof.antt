@@ -1,4 +1,4 @@
--- `decode::map_at` meets its contract. Assumes nothing.
+-- `decode::map_at` meets its contract: loops in range that are not two are three, and an index map takes 2 or 6 words. Assumes nothing.
 use mathlib.Core.Path.{sym}
 use native.Mathlib.Omega.{arith}
 use Rattle.decode.specs.Offsets.{map-two, map-three}

@@ -1,4 +1,4 @@
--- `demand3::see` meets its contract. Assumes nothing.
+-- `demand3::see` meets its contract: an answer without values is its number and two zeros. Assumes nothing.
 use mathlib.Core.Path.{_∙_, ap}
 use mathlib.Core.List.{List, []}
 use Prim.Native.Nat.{ℕ}

@@ -1,4 +1,4 @@
--- `divisors::stream_divisor` meets its contract. Assumes nothing.
+-- `divisors::stream_divisor` meets its contract: past the streams in use the list of divisors ends, and reads as 0. Assumes nothing.
 use mathlib.Core.Path.{sym, ap, subst}
 use native.Mathlib.Omega.{arith}
 use Rattle.lattice.specs.declared.Short.{Short}

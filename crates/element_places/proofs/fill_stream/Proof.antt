@@ -1,4 +1,5 @@
--- `element_places::fill_stream` meets its contract. Assumes nothing.
+-- `element_places::fill_stream` meets its contract: the starts are filled at all processes, and the entry of an instance's line is one of
+-- these. Assumes nothing.
 use borrow.Author.Needs.{needs}
 use mathlib.Core.Path.{refl, sym, subst}
 use native.Mathlib.Omega.{arith}

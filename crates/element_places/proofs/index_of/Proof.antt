@@ -1,4 +1,5 @@
--- `element_places::index_of` meets its contract. Assumes nothing.
+-- `element_places::index_of` meets its contract: of a moving stream the index is how often one can go back from the element; of a
+-- stationary one all instances of a process touch one element, whose index is the soak. Assumes nothing.
 use mathlib.Core.Path.{sym, _∙_, ap, subst}
 use lib.Dec.{T}
 use Rattle.integers.specs.Vectors.{image}

@@ -1,4 +1,5 @@
--- `element_places::place_of` meets its contract. Assumes nothing.
+-- `element_places::place_of` meets its contract: the entry of its process's line is below 1,024, so that its start can be read; a start of
+-- at most 28,672 and an index of at most 1,536 fit 32 bits. Assumes nothing.
 use borrow.Author.Needs.{needs}
 use mathlib.Core.Path.{ap₂}
 use Prim.Native.Nat.{_+_}

@@ -1,4 +1,5 @@
--- `elements::element_count` meets its contract. Assumes nothing.
+-- `elements::element_count` meets its contract: the elements of all streams are those before where a further one would begin; at most six
+-- streams have at most 4,096 each. Assumes nothing.
 use mathlib.Core.Path.{_≡_, _∙_}
 use native.Mathlib.Omega.{arith}
 use lib.ListN.{length, length-map}

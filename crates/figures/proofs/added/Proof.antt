@@ -1,4 +1,5 @@
--- `figures::added` meets its contract. Assumes nothing.
+-- `figures::added` meets its contract: an entry adds its pipe and any other process nothing; sums over a part of the entries are no more
+-- than those over all. Assumes nothing.
 use borrow.Author.Needs.{needs}
 use mathlib.Core.Path.{sym, _∙_, ap}
 use Prim.Native.Nat.{_+_}

@@ -1,4 +1,5 @@
--- `figures::figures_of` meets its contract. Assumes nothing.
+-- `figures::figures_of` meets its contract: the processes are the points of their box; the limits on these and on the words of each keep
+-- their product within 32 bits. Assumes nothing.
 use borrow.Author.Needs.{needs}
 use mathlib.Core.Path.{refl, _∙_, ap}
 use native.Mathlib.Omega.{arith}

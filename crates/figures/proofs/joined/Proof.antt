@@ -1,4 +1,5 @@
--- `figures::joined` meets its contract. Assumes nothing.
+-- `figures::joined` meets its contract: the limits on a stream's pipes and on its hop bound their product, so that the sums fit 32 bits.
+-- Assumes nothing.
 use borrow.Author.Needs.{needs}
 use native.Mathlib.Omega.{arith}
 use Rattle.stream_lines.specs.StateWords.{end-words}

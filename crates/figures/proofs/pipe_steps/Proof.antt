@@ -1,4 +1,5 @@
--- `figures::pipe_steps` meets its contract. Assumes nothing.
+-- `figures::pipe_steps` meets its contract: from its entry a pipe goes on as far as the box does, so that it has one process more than the
+-- reach there. Assumes nothing.
 use borrow.Author.Needs.{needs}
 use mathlib.Core.Path.{ap₂}
 use Prim.Native.Nat.{ℕ, _*_, _+_, _≤_}

@@ -1,4 +1,5 @@
--- `figures::share_of` meets its contract. Assumes nothing.
+-- `figures::share_of` meets its contract: a stream has no more pipes than processes, and at most 2,050 steps for each of at most 4,096
+-- elements. Assumes nothing.
 use borrow.Author.Needs.{needs}
 use mathlib.Core.Path.{refl, sym, subst, subst₂}
 use denote.Ref.{now}

@@ -1,4 +1,5 @@
--- `fire::fire` meets its contract. Assumes nothing.
+-- `fire::fire` meets its contract: a process that can fire has fired less often than its count, so that one more fits 32 bits; the words
+-- that it uses lie in the state. Assumes nothing.
 use mathlib.Core.Path.{_≡_}
 use native.Mathlib.Omega.{arith}
 use lib.ListN.{length}

@@ -1,4 +1,5 @@
--- `fire::uses` meets its contract. Assumes nothing.
+-- `fire::uses` meets its contract: its tests are the rule's, and the numbers have 32 bits, so that a usize holds their sums.
+-- Assumes nothing.
 use borrow.Author.Tests.{lt-ltb, le-ltb, eq-eqb, ne-eqb}
 use borrow.Author.Needs.{needs}
 use Rattle.fire.specs.Firing.{uses}

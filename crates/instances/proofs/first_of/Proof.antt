@@ -1,4 +1,5 @@
--- `instances::first_of` meets its contract. Assumes nothing.
+-- `instances::first_of` meets its contract: the word holds the first instance's number plus one, which is not 0 as the process has an
+-- instance. Assumes nothing.
 use mathlib.Core.Path.{_∙_}
 use native.Mathlib.Omega.{arith}
 use borrow.Author.Needs.{needs}

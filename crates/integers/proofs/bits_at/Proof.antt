@@ -1,4 +1,4 @@
--- `integers::bits_at` meets its contract. Assumes nothing.
+-- `integers::bits_at` meets its contract: four bytes, each below 256, at their places make less than 2^32. Assumes nothing.
 use Rattle.integers.specs.Bytes.{bitsAt}
 use borrow.Author.Needs.{needs}
 use Rattle.integers.proofs.bits_at.Statement.{statement}

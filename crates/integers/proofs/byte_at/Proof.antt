@@ -1,4 +1,4 @@
--- `integers::byte_at` meets its contract. Assumes nothing.
+-- `integers::byte_at` meets its contract: past its end a list reads as 0. Assumes nothing.
 use mathlib.Core.Path.{sym}
 use lib.ListN.{List·getD-eq-default}
 use Prim.Native.Nat.{_≤_}

@@ -1,4 +1,5 @@
--- `integers::signed` meets its contract. Assumes nothing.
+-- `integers::signed` meets its contract: from 2^31 on the number is −m − 1, where m = 2^32 − 1 − u is below 2^31, so that every
+-- step stays in range. Assumes nothing.
 use mathlib.Core.Path.{_≡_, sym, ap, _∙_, subst}
 use native.Mathlib.Omega.{arith}
 use Prim.Native.Nat.{ℕ, _-_, suc, _<_, _^_}

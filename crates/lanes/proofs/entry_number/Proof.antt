@@ -1,4 +1,5 @@
--- `lanes::entry_number` meets its contract. Assumes nothing.
+-- `lanes::entry_number` meets its contract: the point as far back on the line as the box allows is its entry, and lies in the box.
+-- Assumes nothing.
 use Rattle.lanes.specs.Flow.{spanning, point-lt, going-back, point-small, entry-box, entry-number}
 use Rattle.lanes.proofs.entry_number.Statement.{statement}
 use Rattle.lanes.proofs.entry_number.Tie as tie

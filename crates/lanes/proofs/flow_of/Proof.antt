@@ -1,4 +1,5 @@
--- `lanes::flow_of` meets its contract. Assumes nothing.
+-- `lanes::flow_of` meets its contract: the components of a move are at most 1 either way, and stay so as it is turned round.
+-- Assumes nothing.
 use mathlib.Core.Path.{refl, sym, _∙_, ap, subst}
 use borrow.Author.Needs.{needs}
 use Rattle.integers.specs.Vectors.{neg2, image}

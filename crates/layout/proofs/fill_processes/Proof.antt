@@ -1,4 +1,5 @@
--- `layout::fill_processes` meets its contract. Assumes nothing.
+-- `layout::fill_processes` meets its contract: the tables hold the process and the step of every instance, so that what is chosen from them
+-- is the first and the last one of each process. Assumes nothing.
 use native.Mathlib.Omega.{arith}
 use borrow.Author.Needs.{needs}
 use Rattle.sweeps.specs.Tables.{filled-steps, table-listed}

@@ -1,4 +1,5 @@
--- `layout::fill_spans` meets its contract. Assumes nothing.
+-- `layout::fill_spans` meets its contract: three parts of 1,024 words are filled one after the other, and none changes another.
+-- Assumes nothing.
 use denote.Ref.{now}
 use borrow.Author.Needs.{needs}
 use Rattle.layout.specs.Spans.{last-room, swept}

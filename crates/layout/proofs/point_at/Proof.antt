@@ -1,4 +1,5 @@
--- `layout::point_at` meets its contract. Assumes nothing.
+-- `layout::point_at` meets its contract: row and column are quotient and remainder by the width of the box, and both are at most 1,536.
+-- Assumes nothing.
 use mathlib.Core.Path.{_∙_}
 use native.Mathlib.Omega.{arith}
 use borrow.Author.Needs.{needs}

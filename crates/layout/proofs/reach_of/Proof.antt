@@ -1,4 +1,5 @@
--- `layout::reach_of` meets its contract. Assumes nothing.
+-- `layout::reach_of` meets its contract: one can go on as often as the coordinate that allows less does; one of the two changes, which
+-- bounds it. Assumes nothing.
 use mathlib.Core.Path.{sym, subst}
 use borrow.Author.Needs.{needs}
 use Rattle.layout.specs.Rays.{Along, first-along, second-along, reach-left, reach-right}

@@ -1,4 +1,4 @@
--- `named_step::named` meets its contract. Assumes nothing.
+-- `named_step::named` meets its contract: each of the five kinds has its own test, and a number past 4 is no kind. Assumes nothing.
 use mathlib.Core.Path.{refl}
 use native.Mathlib.Omega.{arith}
 use borrow.Author.Needs.{needs}

@@ -1,4 +1,5 @@
--- `named_step::perform` meets its contract. Assumes nothing.
+-- `named_step::perform` meets its contract: on an opened memory acting by the rows of the port table is what the rules say of the array.
+-- Assumes nothing.
 use mathlib.Core.Path.{_∙_}
 use borrow.Author.Needs.{needs}
 use Rattle.meaning.specs.Loops.{increment}

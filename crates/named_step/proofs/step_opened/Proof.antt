@@ -1,4 +1,5 @@
--- `named_step::step_opened` meets its contract. Assumes nothing.
+-- `named_step::step_opened` meets its contract: by the port table of an opened memory a name is that of a step, and the step is ready,
+-- exactly where it is so by the array. Assumes nothing.
 use mathlib.Core.Path.{sym, _∙_}
 use borrow.Author.Needs.{needs}
 use Rattle.meaning.specs.Limits.{gaugeLimits}

@@ -1,4 +1,5 @@
--- `numbering::instance_count` meets its contract. Assumes nothing.
+-- `numbering::instance_count` meets its contract: each loop has as many values as turns, from 1 to 129, and the instances are their
+-- combinations. Assumes nothing.
 use mathlib.Core.Path.{_∙_, ap, sym}
 use Prim.Native.Nat.{_*_}
 use native.Mathlib.Omega.{arith}

@@ -1,4 +1,5 @@
--- `numbering::row_number` meets its contract. Assumes nothing.
+-- `numbering::row_number` meets its contract: a point of the box is at most 1,536 from its corner either way, so that the rows before it
+-- and the rest fit 32 bits. Assumes nothing.
 use mathlib.Core.Path.{ap₂}
 use Prim.Native.Nat.{ℕ, _+_, _*_, _≤_}
 use native.Mathlib.Nat.{mul-le-mul}

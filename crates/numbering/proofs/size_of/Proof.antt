@@ -1,4 +1,4 @@
--- `numbering::size_of` meets its contract. Assumes nothing.
+-- `numbering::size_of` meets its contract: rows times columns, of which there are at most 1,537 each. Assumes nothing.
 use mathlib.Core.Path.{_∙_, ap₂, sym}
 use Prim.Native.Nat.{ℕ, _+_, _*_, _≤_}
 use native.Mathlib.Nat.{mul-le-mul}

@@ -1,4 +1,5 @@
--- `numbering::turns_before` meets its contract. Assumes nothing.
+-- `numbering::turns_before` meets its contract: quotients and remainders by the turns of the inner loops split k, and no loop is empty, so
+-- that no divisor is 0. Assumes nothing.
 use native.Mathlib.Omega.{arith}
 use borrow.Author.Needs.{needs}
 use Rattle.numbering.specs.Turns.{turning, plane-some, plane-most, turned}

@@ -1,4 +1,5 @@
--- `numbering::widened` meets its contract. Assumes nothing.
+-- `numbering::widened` meets its contract: the smaller and the greater of two words are those of the numbers that they hold.
+-- Assumes nothing.
 use mathlib.Core.Path.{_≡_, _∙_, ap₂}
 use Prim.Native.Nat.{_^_, _<_}
 use lib.IntN.{ℤ}

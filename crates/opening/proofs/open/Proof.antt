@@ -1,4 +1,4 @@
--- `opening::open` meets its contract. Assumes nothing.
+-- `opening::open` meets its contract: no board's limits are above the gauge's. Assumes nothing.
 use mathlib.Core.Path.{_∙_, ap}
 use denote.Ref.{now}
 use borrow.Author.Needs.{needs}

@@ -1,4 +1,5 @@
--- `opening::open_accepted` meets its contract. Assumes nothing.
+-- `opening::open_accepted` meets its contract: the test of 22 comes last, and those of the lengths before it leave the state long enough
+-- for it. Assumes nothing.
 use mathlib.Core.Path.{_∙_}
 use denote.Ref.{now}
 use borrow.Author.Needs.{needs}

@@ -1,4 +1,5 @@
--- `opening::open_within` meets its contract. Assumes nothing.
+-- `opening::open_within` meets its contract: the memory's refusals come after the description's, and what limits up to the gauge's accept
+-- the gauge's accept too. Assumes nothing.
 use mathlib.Core.Path.{sym, _∙_, subst}
 use native.Mathlib.Omega.{arith}
 use denote.Ref.{now}

@@ -1,4 +1,5 @@
--- `opening::sound_refusal` meets its contract. Assumes nothing.
+-- `opening::sound_refusal` meets its contract: a state is sound by the rows of the port table exactly if it is sound by the array.
+-- Assumes nothing.
 use mathlib.Core.Path.{sym, _∙_, ap}
 use mathlib.Core.Bool.{not}
 use borrow.Author.Needs.{needs}

@@ -1,4 +1,5 @@
--- `pipes::drain_of` meets its contract. Assumes nothing.
+-- `pipes::drain_of` meets its contract: of a stationary stream soak, one and drain make the number that compute on the line, so that
+-- nothing underflows. Assumes nothing.
 use borrow.Author.Needs.{needs}
 use mathlib.Core.Path.{sym, _∙_, subst}
 use native.Mathlib.Omega.{arith}

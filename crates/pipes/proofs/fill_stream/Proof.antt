@@ -1,4 +1,5 @@
--- `pipes::fill_stream` meets its contract. Assumes nothing.
+-- `pipes::fill_stream` meets its contract: soaks and drains are two parts of 1,024 words, and filling the second leaves the first as it
+-- was. Assumes nothing.
 use borrow.Author.Needs.{needs}
 use mathlib.Core.Path.{refl, sym, _∙_, ap, subst}
 use native.Mathlib.Omega.{arith}

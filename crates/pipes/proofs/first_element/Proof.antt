@@ -1,4 +1,5 @@
--- `pipes::first_element` meets its contract. Assumes nothing.
+-- `pipes::first_element` meets its contract: a computing process has a first instance, so that the word of its number plus one is not 0.
+-- Assumes nothing.
 use borrow.Author.Needs.{needs}
 use mathlib.Core.Path.{_∙_, ap}
 use native.Mathlib.Omega.{arith}

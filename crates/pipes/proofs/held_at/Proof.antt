@@ -1,4 +1,4 @@
--- `pipes::held_at` meets its contract. Assumes nothing.
+-- `pipes::held_at` meets its contract: an entry is below 1,024, so that its word is one of the third 1,024 of the lanes. Assumes nothing.
 use borrow.Author.Needs.{needs}
 use mathlib.Core.Path.{ap}
 use Prim.Native.Nat.{ℕ, _+_}

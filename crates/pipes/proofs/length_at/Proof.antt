@@ -1,4 +1,5 @@
--- `pipes::length_at` meets its contract. Assumes nothing.
+-- `pipes::length_at` meets its contract: the elements of the pipe are the first instance's and those that one reaches back and on from it.
+-- Assumes nothing.
 use borrow.Author.Needs.{needs}
 use native.Mathlib.Omega.{arith}
 use Rattle.pipes.specs.Elements.{going-against, going-first, length-moving}

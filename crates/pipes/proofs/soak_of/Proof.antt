@@ -1,4 +1,5 @@
--- `pipes::soak_of` meets its contract. Assumes nothing.
+-- `pipes::soak_of` meets its contract: a count of 0 is that of a null process, whose soak is its pipe's length; of any other it is
+-- `soak_at`'s if the stream moves, and `rank_at`'s if it is stationary. Assumes nothing.
 use borrow.Author.Needs.{needs}
 use mathlib.Core.Path.{sym, _∙_, subst}
 use lib.Dec.{T}

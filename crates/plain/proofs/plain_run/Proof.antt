@@ -1,4 +1,5 @@
--- `plain::plain_run` meets its contract. Assumes nothing.
+-- `plain::plain_run` meets its contract: what a board accepts the gauge accepts too, and then the table has room for every instance.
+-- Assumes nothing.
 use mathlib.Core.Path.{sym, _∙_, subst}
 use denote.Ref.{now}
 use borrow.Author.Needs.{needs}

@@ -1,4 +1,5 @@
--- `plain::run_loops` meets its contract. Assumes nothing.
+-- `plain::run_loops` meets its contract: the columns of all streams make a table of which row k holds the elements that instance k touches.
+-- Assumes nothing.
 use mathlib.Core.Path.{_≡_, sym, _∙_, ap, subst}
 use Prim.Native.Nat.{ℕ}
 use lib.ListN.{length, length-map, length-replicate}

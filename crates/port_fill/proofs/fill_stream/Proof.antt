@@ -1,4 +1,5 @@
--- `port_fill::fill_stream` meets its contract. Assumes nothing.
+-- `port_fill::fill_stream` meets its contract: counts and starts are filled at all processes before the rows that are made of them, and the
+-- first rows leave the table its length. Assumes nothing.
 use borrow.Author.Needs.{needs}
 use mathlib.Core.Path.{refl, sym, _∙_, ap₂, subst}
 use native.Mathlib.Omega.{arith}

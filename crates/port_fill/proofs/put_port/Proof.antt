@@ -1,4 +1,5 @@
--- `port_fill::put_port` meets its contract. Assumes nothing.
+-- `port_fill::put_port` meets its contract: p is below 1,024 and i below 6, so that its ten words lie in the table, and each number of the
+-- row fits a word. Assumes nothing.
 use borrow.Author.Needs.{needs}
 use mathlib.Core.Path.{sym, subst}
 use native.Mathlib.Omega.{arith}
