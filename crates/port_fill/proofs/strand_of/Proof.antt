@@ -1,4 +1,5 @@
--- `port_fill::strand_of` meets its contract. Assumes nothing.
+-- `port_fill::strand_of` meets its contract: the words of all processes, with those of the ends before the stream's, are at most the most
+-- of a state, so their sum fits a word. Assumes nothing.
 use borrow.Author.Needs.{needs}
 use mathlib.Core.Path.{ap}
 use Prim.Native.Nat.{ℕ}

@@ -1,4 +1,5 @@
--- `port_rows::before_of` meets its contract. Assumes nothing.
+-- `port_rows::before_of` meets its contract: a process is the entry of its line exactly if none stands before it there; before any other
+-- there is one to go back to. Assumes nothing.
 use borrow.Author.Needs.{needs}
 use mathlib.Core.Path.{refl, _∙_, ap}
 use Prim.Native.Nat.{ℕ, _+_, _*_}

@@ -1,4 +1,5 @@
--- `port_rows::number_on` meets its contract. Assumes nothing.
+-- `port_rows::number_on` meets its contract: k is within the reach, so the point k moves on lies in the process space and has a row number
+-- there. Assumes nothing.
 use Rattle.lanes.specs.Flow.{spanning, point-lt, point-small}
 use Rattle.port_rows.specs.Strands.{way-small, on-far, on-box, on-number}
 use Rattle.port_rows.proofs.number_on.Statement.{statement}

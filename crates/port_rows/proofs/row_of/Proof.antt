@@ -1,4 +1,4 @@
--- `port_rows::row_of` meets its contract. Assumes nothing.
+-- `port_rows::row_of` meets its contract: a process is on a pipe exactly if some process of its line computes. Assumes nothing.
 use borrow.Author.Needs.{needs}
 use Rattle.port_rows.specs.Strands.{row-bare, row-held}
 use Rattle.port_rows.proofs.row_of.Statement.{statement}

@@ -1,4 +1,5 @@
--- `refuse::refusal_within` meets its contract. Assumes nothing.
+-- `refuse::refusal_within` meets its contract: where 33 and 1 to 10 give 0 the streams' tests decide, and the words are in range and the
+-- walk filled; else the number stands. Assumes nothing.
 use mathlib.Core.Path.{sym, _∙_}
 use denote.Ref.{now}
 use Rattle.stream_lines.specs.Stages.{walk-goes-on, walk-stops}

@@ -1,4 +1,5 @@
--- `refuse::walk_refusal` meets its contract. Assumes nothing.
+-- `refuse::walk_refusal` meets its contract: the tests of the loops count only where 33 and 1 to 5 give 0, and then the words are in range.
+-- Assumes nothing.
 use mathlib.Core.Path.{sym, _∙_}
 use denote.Ref.{now}
 use Rattle.meaning.specs.Description.{descriptionOf}

@@ -1,4 +1,5 @@
--- `refuse::walk_within` meets its contract. Assumes nothing.
+-- `refuse::walk_within` meets its contract: a refusal of 0 leaves loops that are laid out, with instances and processes within the limits,
+-- as the filling asks. Assumes nothing.
 use mathlib.Core.Path.{refl, sym, _∙_, subst}
 use denote.Ref.{now}
 use native.Mathlib.Omega.{arith}

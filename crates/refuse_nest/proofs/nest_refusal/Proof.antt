@@ -1,4 +1,5 @@
--- `refuse_nest::nest_refusal` meets its contract. Assumes nothing.
+-- `refuse_nest::nest_refusal` meets its contract: the first of the tests 6, 7, 8 and 10 that applies gives the number; one that does not
+-- leaves it to those after it. Assumes nothing.
 use Rattle.decode.specs.Refusals.{accepts}
 use Rattle.stream_lines.specs.Stages.{applies, skips}
 use borrow.Author.Needs.{needs}

@@ -1,4 +1,5 @@
--- `refuse_stream::against` meets its contract. Assumes nothing.
+-- `refuse_stream::against` meets its contract: a direction times a component of at most 200 fits a word, and so small a component is 0
+-- exactly if its bits are. Assumes nothing.
 use mathlib.Core.Path.{sym, _∙_, ap}
 use lib.IntN.{ℤ, pos}
 use lib.Signed.{ltZ}

@@ -1,4 +1,5 @@
--- `refuse_stream::elements_refused` meets its contract. Assumes nothing.
+-- `refuse_stream::elements_refused` meets its contract: with more elements than instances one is untouched; else there are at most 4096, so
+-- each has its mark. Assumes nothing.
 use mathlib.Core.Bool.{false}
 use Prim.Native.Nat.{_≤_}
 use native.Mathlib.Omega.{arith}

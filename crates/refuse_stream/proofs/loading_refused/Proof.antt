@@ -1,4 +1,5 @@
--- `refuse_stream::loading_refused` meets its contract. Assumes nothing.
+-- `refuse_stream::loading_refused` meets its contract: a stream moves exactly if it is not stationary, so the branches are the two cases of
+-- refusal 16. Assumes nothing.
 use mathlib.Core.Path.{sym, _∙_, ap}
 use mathlib.Core.Bool.{not}
 use borrow.Author.Tests.{not-true, not-false}

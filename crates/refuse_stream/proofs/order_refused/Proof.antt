@@ -1,4 +1,5 @@
--- `refuse_stream::order_refused` meets its contract. Assumes nothing.
+-- `refuse_stream::order_refused` meets its contract: a direction is 1 or −1 and a line's component at most 200 in size, as `against` asks;
+-- a stream not written is never refused. Assumes nothing.
 use mathlib.Core.Path.{refl, _∙_, ap}
 use Rattle.meaning.specs.Accept.{against}
 use Rattle.stream_lines.specs.InRange.{directions-small}

@@ -1,4 +1,5 @@
--- `refuse_stream::stream_refusal` meets its contract. Assumes nothing.
+-- `refuse_stream::stream_refusal` meets its contract: the first of the tests 11 and 12 that applies gives the number; where neither does,
+-- the tests 13 to 17 give it. Assumes nothing.
 use Rattle.stream_lines.specs.Stages.{moveTests, applies, skips}
 use borrow.Author.Needs.{needs}
 use Rattle.refuse_stream.proofs.stream_refusal.Statement.{statement}

@@ -1,4 +1,5 @@
--- `refuse_words::in_range` meets its contract. Assumes nothing.
+-- `refuse_words::in_range` meets its contract: the range tested on the magnitude and the bits of a word is document 01's on the signed
+-- word. Assumes nothing.
 use mathlib.Core.Path.{_∙_, ap}
 use lib.IntN.{natAbs}
 use denote.Ref.{now}

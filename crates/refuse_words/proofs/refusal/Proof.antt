@@ -1,4 +1,5 @@
--- `refuse_words::refusal` meets its contract. Assumes nothing.
+-- `refuse_words::refusal` meets its contract: the tests 1, 2 and 3 to 5 in turn; where 2 does not apply the sizes are in range, as those
+-- after it ask. Assumes nothing.
 use mathlib.Core.Path.{_∙_, sym}
 use borrow.Author.Tests.{lt-ltb, le-ltb}
 use Rattle.decode.specs.Refusals.{refuses, passes, sizes-in-range}

@@ -1,4 +1,5 @@
--- `refuse_words::refusal_of_length` meets its contract. Assumes nothing.
+-- `refuse_words::refusal_of_length` meets its contract: refusal 3 applies exactly if the bytes are not four for each word; else 4 and 5
+-- give the number. Assumes nothing.
 use mathlib.Core.Path.{ap}
 use mathlib.Core.Bool.{not}
 use borrow.Author.Tests.{eq-eqb, ne-eqb}

@@ -1,4 +1,5 @@
--- `refuse_words::refusal_of_words` meets its contract. Assumes nothing.
+-- `refuse_words::refusal_of_words` meets its contract: the first of the tests 4 and 5 that applies gives the number, and 0 is given where
+-- neither does. Assumes nothing.
 use mathlib.Core.Path.{sym, _∙_, ap}
 use Rattle.meaning.specs.Description.{refused5}
 use Rattle.decode.specs.Refusals.{refuses, passes, accepts}

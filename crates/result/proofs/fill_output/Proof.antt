@@ -1,4 +1,5 @@
--- `result::fill_output` meets its contract. Assumes nothing.
+-- `result::fill_output` meets its contract: the place of an element lies within the received values, and reading each value at its
+-- element's place puts them in element order. Assumes nothing.
 use borrow.Author.Needs.{needs}
 use native.Mathlib.Omega.{arith}
 use Rattle.result.specs.Order.{readable, ordered}

@@ -1,4 +1,5 @@
--- `result::result` meets its contract. Assumes nothing.
+-- `result::result` meets its contract: the memory's refusal comes before the call's own, which are tested on an opened memory.
+-- Assumes nothing.
 use borrow.Author.Needs.{needs}
 use native.Mathlib.Omega.{arith}
 use denote.Ref.{now}

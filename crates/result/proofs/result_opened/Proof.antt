@@ -1,4 +1,5 @@
--- `result::result_opened` meets its contract. Assumes nothing.
+-- `result::result_opened` meets its contract: where neither 25 nor 28 applies the output has a word for each element, so it can be filled;
+-- else it stays. Assumes nothing.
 use borrow.Author.Needs.{needs}
 use Rattle.meaning.specs.Limits.{gaugeLimits}
 use Rattle.stream_lines.specs.Accepted.{accepted-within}

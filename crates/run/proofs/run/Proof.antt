@@ -1,4 +1,4 @@
--- `run::run` meets its contract. Assumes nothing.
+-- `run::run` meets its contract: the memory's refusal, with the memory as it was, or the steps on an opened memory. Assumes nothing.
 use native.Mathlib.Omega.{arith}
 use denote.Ref.{now}
 use borrow.Author.Needs.{needs}

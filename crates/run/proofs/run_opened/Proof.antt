@@ -1,4 +1,5 @@
--- `run::run_opened` meets its contract. Assumes nothing.
+-- `run::run_opened` meets its contract: the flags are kept true of the state, so after the steps the lowest one set tells whether any step
+-- is ready. Assumes nothing.
 use borrow.Author.Needs.{needs}
 use Rattle.meaning.specs.Limits.{gaugeLimits}
 use Rattle.stream_lines.specs.Accepted.{accepted-within}

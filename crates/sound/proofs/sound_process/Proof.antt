@@ -1,4 +1,5 @@
--- `sound::sound_process` meets its contract. Assumes nothing.
+-- `sound::sound_process` meets its contract: there is at least one stream, and the row of the first tells where the firings of the process
+-- stand. Assumes nothing.
 use mathlib.Core.Path.{_≡_, sym, _∙_, ap}
 use mathlib.Core.Bool.{true, false}
 use lib.Dec.{leb}

@@ -1,4 +1,5 @@
--- `start::fill_memory` meets its contract. Assumes nothing.
+-- `start::fill_memory` meets its contract: a value put at its element's place stands in pipe order, and the figures say how many words to
+-- clear, no more than the lists have. Assumes nothing.
 use borrow.Author.Needs.{needs}
 use native.Mathlib.Omega.{arith}
 use Rattle.start.specs.Call.{elements-is, words-is, putting, memory-filled}

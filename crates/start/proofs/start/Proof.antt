@@ -1,4 +1,5 @@
--- `start::start` meets its contract. Assumes nothing.
+-- `start::start` meets its contract: what the limits of a board accept the gauge's accept too, so the elements have places; a refused call
+-- leaves the memory. Assumes nothing.
 use mathlib.Core.Path.{sym, _∙_}
 use native.Mathlib.Omega.{arith}
 use denote.Ref.{now}

@@ -1,4 +1,5 @@
--- `start::start_accepted` meets its contract. Assumes nothing.
+-- `start::start_accepted` meets its contract: where no test of its own applies the lists have the lengths that the filling asks for; else
+-- they stay. Assumes nothing.
 use borrow.Author.Needs.{needs}
 use denote.Ref.{now}
 use Rattle.meaning.specs.Rules.{memoryOf}

@@ -1,4 +1,5 @@
--- `step::step` meets its contract. Assumes nothing.
+-- `step::step` meets its contract: the memory's refusal comes before the call's own, and the step is tested and done only on an opened
+-- memory. Assumes nothing.
 use native.Mathlib.Omega.{arith}
 use denote.Ref.{now}
 use borrow.Author.Needs.{needs}

@@ -1,4 +1,5 @@
--- `step_rules::can_fire` meets its contract. Assumes nothing.
+-- `step_rules::can_fire` meets its contract: there is at least one stream, and the row of the first has the firings and the count of the
+-- process. Assumes nothing.
 use mathlib.Core.Path.{refl}
 use Prim.Native.Nat.{_≤_, _<_}
 use native.Mathlib.Omega.{arith}

@@ -1,4 +1,5 @@
--- `step_rules::fire` meets its contract. Assumes nothing.
+-- `step_rules::fire` meets its contract: a process that can fire has fired less often than it has instances, so there is a next one on its
+-- line. Assumes nothing.
 use mathlib.Core.Path.{refl, _∙_}
 use borrow.Author.Needs.{needs}
 use Rattle.step_rules.specs.Fits.{process-fits, next-runs}

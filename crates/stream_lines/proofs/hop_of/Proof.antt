@@ -1,4 +1,4 @@
--- `stream_lines::hop_of` meets its contract. Assumes nothing.
+-- `stream_lines::hop_of` meets its contract: the step of a line is not negative, so its magnitude is the step itself. Assumes nothing.
 use mathlib.Core.Path.{sym, _∙_, ap}
 use lib.IntN.{natAbs}
 use borrow.Author.Tests.{not-true, not-false}

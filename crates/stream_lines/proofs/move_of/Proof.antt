@@ -1,4 +1,5 @@
--- `stream_lines::move_of` meets its contract. Assumes nothing.
+-- `stream_lines::move_of` meets its contract: a stream moves exactly if it is not stationary, by which document 01 chooses the place of its
+-- line or its loading vector. Assumes nothing.
 use mathlib.Core.Path.{sym, _∙_}
 use borrow.Author.Tests.{not-true, not-false}
 use Rattle.meaning.specs.Streams.{stationary}

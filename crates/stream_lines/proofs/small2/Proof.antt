@@ -1,4 +1,5 @@
--- `stream_lines::small2` meets its contract. Assumes nothing.
+-- `stream_lines::small2` meets its contract: a component within 4800 is read back from its word unchanged, so the tests on the words are
+-- those on the components. Assumes nothing.
 use mathlib.Core.Path.{_∙_, ap}
 use Rattle.integers.specs.Words.{at}
 use Rattle.meaning.specs.Accept.{small}

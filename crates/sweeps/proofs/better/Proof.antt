@@ -1,4 +1,5 @@
--- `sweeps::better` meets its contract. Assumes nothing.
+-- `sweeps::better` meets its contract: a step fits its word and is read back unchanged, so the words compare as the steps do.
+-- Assumes nothing.
 use mathlib.Core.Path.{_∙_, ap, ap₂, sym}
 use mathlib.Core.Bool.{Bool}
 use lib.IntN.{pos}

@@ -1,4 +1,5 @@
--- `sweeps::choice` meets its contract. Assumes nothing.
+-- `sweeps::choice` meets its contract: `old` is 0 or one more than the number of an earlier instance, so one taken off it, where it is not
+-- 0, is an index of the steps. Assumes nothing.
 use mathlib.Core.Path.{_∙_, sym}
 use native.Mathlib.Omega.{arith}
 use borrow.Author.Needs.{needs}

@@ -1,4 +1,5 @@
--- `table::draw` meets its contract. Assumes nothing.
+-- `table::draw` meets its contract: the words of the processes lie before those of all streams, so copying them there leaves the streams'
+-- as they were filled. Assumes nothing.
 use mathlib.Core.Path.{_≡_, sym, subst}
 use mathlib.Core.List.{List}
 use Prim.Native.Nat.{ℕ, _≤_, _<_}

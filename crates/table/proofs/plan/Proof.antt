@@ -1,4 +1,5 @@
--- `table::plan` meets its contract. Assumes nothing.
+-- `table::plan` meets its contract: what the limits of a board accept the gauge's accept too, so it can be drawn; a declined plan has no
+-- rows. Assumes nothing.
 use mathlib.Core.Path.{sym, _∙_, ap}
 use native.Mathlib.Omega.{arith}
 use denote.Ref.{now}

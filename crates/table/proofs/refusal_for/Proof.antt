@@ -1,4 +1,5 @@
--- `table::refusal_for` meets its contract. Assumes nothing.
+-- `table::refusal_for` meets its contract: the call's own test counts only where the description is accepted, and then its loops are
+-- bounded, so its processes can be counted. Assumes nothing.
 use mathlib.Core.Path.{sym, _∙_, ap, subst}
 use lib.ListN.{length}
 use Rattle.meaning.specs.declared.Description.{Description}

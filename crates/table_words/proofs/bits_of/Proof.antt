@@ -1,4 +1,5 @@
--- `table_words::bits_of` meets its contract. Assumes nothing.
+-- `table_words::bits_of` meets its contract: the bits of −q are 2^32 − q, and the magnitude of a negative number is at least 1, so nothing
+-- goes below 0. Assumes nothing.
 use mathlib.Core.Path.{refl, _∙_, ap}
 use Prim.Native.Nat.{ℕ, _-_}
 use native.Mathlib.Omega.{arith}

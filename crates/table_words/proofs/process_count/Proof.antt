@@ -1,4 +1,5 @@
--- `table_words::process_count` meets its contract. Assumes nothing.
+-- `table_words::process_count` meets its contract: an accepted description has its words in range, so the box of its process space can be
+-- measured, and the points of that are the processes. Assumes nothing.
 use mathlib.Core.Path.{sym, _∙_, ap, subst}
 use lib.ListN.{length}
 use Rattle.meaning.specs.declared.Description.{Description}

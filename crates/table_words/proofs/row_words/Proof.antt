@@ -1,4 +1,5 @@
--- `table_words::row_words` meets its contract. Assumes nothing.
+-- `table_words::row_words` meets its contract: the components of the point fit their words and are read back unchanged, so the bits are
+-- their own; the rest comes in its order. Assumes nothing.
 use Rattle.table_words.specs.Words.{bits-held, row-made}
 use borrow.Author.Needs.{needs}
 use Rattle.table_words.proofs.row_words.Statement.{statement}

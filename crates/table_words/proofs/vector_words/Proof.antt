@@ -1,4 +1,5 @@
--- `table_words::vector_words` meets its contract. Assumes nothing.
+-- `table_words::vector_words` meets its contract: a component fits its word and is read back unchanged, so the bits are its own.
+-- Assumes nothing.
 use mathlib.Core.Path.{ap, ap₂}
 use mathlib.Core.List.{[], _∷_}
 use Prim.Native.Nat.{ℕ}

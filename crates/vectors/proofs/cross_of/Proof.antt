@@ -1,4 +1,5 @@
--- `vectors::cross_of` meets its contract. Assumes nothing.
+-- `vectors::cross_of` meets its contract: the components of a cross product are the minors of the vectors rolled once, twice and not at
+-- all. Assumes nothing.
 use borrow.Author.Needs.{needs}
 use Rattle.integers.specs.Vectors.{same3}
 use Rattle.integers.specs.Words.{held, held-abs}

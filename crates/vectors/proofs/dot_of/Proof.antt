@@ -1,4 +1,5 @@
--- `vectors::dot_of` meets its contract. Assumes nothing.
+-- `vectors::dot_of` meets its contract: three products of at most 8 · 200 add up to at most 4800, so nothing leaves its word.
+-- Assumes nothing.
 use Rattle.integers.specs.Words.{at, box, mul, add, fits, bounded}
 use Rattle.vectors.proofs.dot_of.Statement.{statement}
 use Rattle.vectors.proofs.dot_of.Tie as tie

@@ -1,4 +1,4 @@
--- `vectors::later` meets its contract. Assumes nothing.
+-- `vectors::later` meets its contract: 4096 times 200, and 64 more, is below 2^31, so no component leaves its word. Assumes nothing.
 use borrow.Author.Needs.{needs}
 use Rattle.integers.specs.Words.{at, bits, box, add, mul, fits}
 use Rattle.integers.specs.Vectors.{same3}

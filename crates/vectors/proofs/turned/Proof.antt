@@ -1,4 +1,5 @@
--- `vectors::turned` meets its contract. Assumes nothing.
+-- `vectors::turned` meets its contract: the word of the dot product has its sign, and the negated vector is as small as the vector.
+-- Assumes nothing.
 use mathlib.Core.Path.{refl, sym, ap, _∙_}
 use lib.IntN.{ℤ, pos}
 use lib.Signed.{ltZ}

@@ -1,4 +1,4 @@
--- `walk::number_at` meets its contract. Assumes nothing.
+-- `walk::number_at` meets its contract: the image of the instance lies in the box, so it has a row number there. Assumes nothing.
 use mathlib.Core.Path.{sym, _∙_, ap, subst}
 use borrow.Author.Needs.{needs}
 use Rattle.integers.specs.Vectors.{image}

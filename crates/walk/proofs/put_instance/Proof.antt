@@ -1,4 +1,5 @@
--- `walk::put_instance` meets its contract. Assumes nothing.
+-- `walk::put_instance` meets its contract: three stores, none of which changes the length, so each of the three words lies within the walk.
+-- Assumes nothing.
 use native.Mathlib.Omega.{arith}
 use lib.ListN.{length-set}
 use borrow.Author.Needs.{needs}

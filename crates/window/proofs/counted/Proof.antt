@@ -1,4 +1,5 @@
--- `window::counted` meets its contract. Assumes nothing.
+-- `window::counted` meets its contract: a search that has found stays; with none left to pass over it finds this pipe, and with some left
+-- one can be taken off. Assumes nothing.
 use borrow.Author.Needs.{needs}
 use native.Mathlib.Omega.{arith}
 use Rattle.window.specs.Search.{count-found, count-here, count-on}

@@ -1,4 +1,5 @@
--- `window::located` meets its contract. Assumes nothing.
+-- `window::located` meets its contract: the search finds a pipe exactly if its number is below how many there are, and the elements passed
+-- over say where its part begins. Assumes nothing.
 use borrow.Author.Needs.{needs}
 use mathlib.Core.Path.{refl}
 use Rattle.window.specs.Pieces.{found-piece, lost-piece}

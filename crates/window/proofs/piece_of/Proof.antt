@@ -1,4 +1,4 @@
--- `window::piece_of` meets its contract. Assumes nothing.
+-- `window::piece_of` meets its contract: the limits of a board are at most the gauge's, as `piece_within` asks. Assumes nothing.
 use mathlib.Core.Path.{_∙_, ap}
 use denote.Ref.{now}
 use borrow.Author.Needs.{needs}

@@ -1,4 +1,5 @@
--- `window::piece_within` meets its contract. Assumes nothing.
+-- `window::piece_within` meets its contract: what the limits accept the gauge's accept too, so the pipe can be looked for; a refused call
+-- has no part. Assumes nothing.
 use borrow.Author.Needs.{needs}
 use mathlib.Core.Path.{sym, _∙_}
 use native.Mathlib.Omega.{arith}

@@ -1,4 +1,5 @@
--- `window::stream_searched` meets its contract. Assumes nothing.
+-- `window::stream_searched` meets its contract: the flow is that of the nest and the stream, and the lanes are filled for as many processes
+-- as its space has. Assumes nothing.
 use borrow.Author.Needs.{needs}
 use mathlib.Core.Path.{refl, sym, _∙_, ap₂, subst}
 use denote.Ref.{now}

@@ -1,4 +1,5 @@
--- `window::visited` meets its contract. Assumes nothing.
+-- `window::visited` meets its contract: an entry counts its pipe and any other process nothing, and a pipe has at most 4096 elements, so
+-- the start grows by no more. Assumes nothing.
 use borrow.Author.Needs.{needs}
 use mathlib.Core.Path.{sym, _∙_}
 use native.Mathlib.Omega.{arith}

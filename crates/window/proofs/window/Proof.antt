@@ -1,4 +1,5 @@
--- `window::window` meets its contract. Assumes nothing.
+-- `window::window` meets its contract: the part lies within both lists, so it can be cut out of either; that of a refused call is empty.
+-- Assumes nothing.
 use borrow.Author.Needs.{needs}
 use denote.Ref.{now}
 use Rattle.window.specs.Pieces.{number-is, part-is}
