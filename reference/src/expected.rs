@@ -18,14 +18,14 @@ use crate::table::table_text;
 use crate::walk_text::walk_text;
 
 /// A program's standard input and the output that it should print.
-pub struct Case {
-    pub name: &'static str,
-    pub stdin: Vec<u8>,
-    pub stdout: Vec<u8>,
+struct Case {
+    name: &'static str,
+    stdin: Vec<u8>,
+    stdout: Vec<u8>,
 }
 
 /// Every case that this implementation is responsible for.
-pub fn cases() -> Vec<Case> {
+fn cases() -> Vec<Case> {
     vec![
         shorten_case(),
         print_table_case(),
@@ -37,6 +37,7 @@ pub fn cases() -> Vec<Case> {
 
 /// Writes the files that other programs are held against below a directory: the cases and the examples.
 pub fn write_files(directory: &Path) -> io::Result<()> {
+    fs::create_dir_all(directory)?;
     write_cases(directory)?;
     write_examples(directory)
 }

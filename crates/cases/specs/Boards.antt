@@ -19,8 +19,7 @@ use Rattle.meaning.specs.Array.{insertByStep, byStep, pipesFrom, arrayOf}
 use Rattle.meaning.specs.Rules.{moveDown, sound, writeAll, apply, firstReady, runSteps, applyAll}
 use Rattle.meaning.specs.Answers.{acceptNumber, acceptValues, ranNumber, ranValues}
 use Rattle.meaning.specs.Calls.{start, run, result}
-use Rattle.meaning.specs.Comparison.{Case, _is_, naturals, number, eqList, firstWrong, agree-after}
-use Rattle.meaning.specs.Cases as P
+use Rattle.meaning.specs.Comparison.{Case, _is_, naturals, number, eqList, firstWrong, agree}
 use Rattle.meaning.specs.Designs.{bytes, line, pair, polynomial, designOne, values, startedWith, undivided}
 
 -- the answer's number on a board
@@ -73,4 +72,4 @@ unfolding eqList firstWrong bytes bitsAt wordAt gcdOf euclid filter any every po
     progression instances lineOf points widenAll around boxOf sentTo firstOf lastOf stays march lineIn pipe usedOn pipeElements nestOf
     streamOf bodyLine descriptionOf runLines touchedFrom scatter execute executeAll testsFrom refusalOf accept insertByStep byStep pipesFrom
     arrayOf moveDown sound writeAll apply firstReady runSteps applyAll start run result
-proved = agree-after P.proved boards refl
+proved = agree boards refl

@@ -1,8 +1,7 @@
-// Worked cases that take longer, computed from the definitions as those in `meaning` are: whole runs, stopped on the way and carried on,
-// slanted arrays, walks and boards. Apart from `meaning`, so that an edit there does not compute them. Theory only: nothing here runs.
+// Worked cases, computed from the definitions as the single ones in `meaning` are. Apart from `meaning`, so that an edit there does not
+// compute them. Theory only: nothing here runs.
 //
-//   Runs              states stopped in the middle, and other orders
-//   GuardedRuns       runs under guards, plainly and in two orders
+//   Cases             document 01's cases marked P, as the requests leave them, in one table
 //   Slanted           divisors above 1, and a run of a slanted grid
 //   Walks             walks beside the written order
 //   Boards            what each board holds, another board word, and a run whose calls are told different boards

@@ -76,8 +76,3 @@ agree-from i (c ∷ cs) e = go (eqList (c .got) (c .wanted)) (same-list (c .got)
 -- no case is wrong: `suc` has both numbers computed, so that a refusal shows the number of the first wrong case
 pub agree : (cs : List Case) → suc (firstWrong 0 cs) ≡ suc (length cs) → map (λ c. c .got) cs ≡ map (λ c. c .wanted) cs
 agree cs e = agree-from 0 cs (omega arith)
-
--- a table behind another: where that one fails, this one is not computed
-pub agree-after : {P : Type 0} → P → (cs : List Case) → suc (firstWrong 0 cs) ≡ suc (length cs)
-    → map (λ c. c .got) cs ≡ map (λ c. c .wanted) cs
-agree-after before = agree

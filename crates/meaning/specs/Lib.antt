@@ -35,4 +35,3 @@ pub mod BenchBoard
 pub mod Designs
 pub mod Comparison
 pub mod Singles
-pub mod Cases

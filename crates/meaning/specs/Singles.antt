@@ -1,18 +1,19 @@
 -- Cases of single calls and steps beside document 01's, because they hold the rules: whole tables, direction −1, a stride, a link's places,
--- a state that no start leads to, three loops, null processes, guards, declined calls. They are computed in a moment, so that a wrong rule
--- is found here, before any run. The words are those of the second implementation.
+-- a state that no start leads to, three loops, null processes, guards, operations, hops, declined calls. They are computed in a moment, so
+-- that a wrong rule is found here, before any run. The words are those of the second implementation.
 use mathlib.Core.Path.{_≡_, refl}
 use mathlib.Core.List.{List, [], _∷_, _++_, map}
 use Prim.Native.Nat.{ℕ}
-use lib.ListN.{length, getD, replicate}
+use lib.ListN.{length, getD, replicate, drop}
 use lib.IntN.{ℤ, pos, negsuc}
 use Rattle.integers.specs.Bytes.{bitsAt, wordAt}
 use Rattle.lattice.specs.Gcd.{gcdOf, euclid}
-use Rattle.meaning.specs.Limits.{gaugeLimits}
+use Rattle.meaning.specs.Limits.{gaugeLimits, formerLimits}
 use Rattle.meaning.specs.Lists.{filter, any, every, position, best, bestOr, total, each, numbersFrom}
 use Rattle.meaning.specs.Tests.{refusal}
 use Rattle.meaning.specs.Loops.{progression, instances, lineOf, increment}
 use Rattle.meaning.specs.Space.{points, widenAll, around, boxOf, sentTo, firstOf, lastOf}
+use Rattle.meaning.specs.Streams.{hop}
 use Rattle.meaning.specs.Pipes.{stays, march, lineIn, pipe, usedOn, pipeElements}
 use Rattle.meaning.specs.Description.{nestOf, streamOf, bodyLine, descriptionOf}
 use Rattle.meaning.specs.Body.{runLines, touchedFrom, scatter, execute, executeAll}
@@ -21,10 +22,12 @@ use Rattle.meaning.specs.Array.{insertByStep, byStep, pipesFrom, arrayOf
 use Rattle.meaning.specs.Rules.{moveDown, sound, writeAll, Memory, apply, firstReady, runSteps, applyAll}
 use Rattle.meaning.specs.Answers.{acceptNumber, acceptValues, answerNumber, ranNumber, readyNumber}
 use Rattle.meaning.specs.Calls.{table, start, step, run, readyCall, window, result, plainRun}
+use Rattle.meaning.specs.FixedPoint as FixedPoint
 use Rattle.meaning.specs.Comparison.{Case, _is_, naturals, number, planar, rowWords, eqList, firstWrong, agree}
 use Rattle.meaning.specs.Designs.{bytes, guarded, line, product, pair, polynomial, polynomialBy, designOne, designOneWith, designTwo}
 use Rattle.meaning.specs.Designs.{values, uncleared, turned, decimating, matrixProduct, matrixRising, matrixValues, columnWith}
 use Rattle.meaning.specs.Designs.{clearedOne, clearedTurned, clearedColumn, nest, blank, lent, startedWith, startedOn, undivided}
+use Rattle.meaning.specs.Designs.{designOneBy, stream}
 
 -- the words of a table of n rows lent
 abbrev tableWords : List ℕ → ℕ → List ℤ
@@ -233,8 +236,49 @@ calls =
     ∷ (number (answerNumber (plainRun gaugeLimits [] [] [] .answer)) is number 1)
     ∷ []
 
+-- ---- operations and hops
+
+-- a times b by an operation, in design one on loops 0..0: the plain run's c, and the network's
+abbrev pub multiplied : ℕ → ℕ → ℕ → List ℤ
+multiplied op a b =
+    let s = designOneBy op 0 in
+    let vs : List ℕ = a ∷ b ∷ 0 ∷ [] in
+    let end = run gaugeLimits s 1000 (startedWith s vs 27) .memory in
+    naturals (drop 2 (plainRun gaugeLimits s vs (replicate 3 1) .output) ++ drop 2 (result gaugeLimits s (replicate 3 1) end .output))
+
+abbrev pub products : List Case
+products =
+    -- operation 6 (request 2.1): 1.5 times 1.5 is 2.25, by the plain run and by the network; operation 3 wraps
+    (multiplied 6 98304 98304 is naturals (147456 ∷ 147456 ∷ []))
+    ∷ (multiplied 3 98304 98304 is naturals (1073741824 ∷ 1073741824 ∷ []))
+    -- 2^32 − 1 by itself is divided before it wraps; what is left over is dropped
+    ∷ (multiplied 6 4294967295 4294967295 is naturals (4294836224 ∷ 4294836224 ∷ []))
+    ∷ (multiplied 6 65535 65537 is naturals (65535 ∷ 65535 ∷ []))
+    -- design one with it was 4 before the request, and design one was accepted then too; operation 7 is 4
+    ∷ (number (acceptNumber (FixedPoint.formerAccept gaugeLimits (designOneBy 6 2))) is number 4)
+    ∷ (number (acceptNumber (FixedPoint.formerAccept gaugeLimits designOne)) is number 0)
+    ∷ (number (acceptNumber (accept gaugeLimits (designOneBy 7 2))) is number 4)
+    ∷ []
+
+-- design one with another map of c and another first step coefficient
+abbrev pub crossing : ℕ → List ℕ
+crossing k = polynomial 2 2 (pair (pos k) (pos 1)) (pair (pos 1) (pos 0)) (pair (pos 1) (negsuc 0)) (pos 1 ∷ pos 0 ∷ pos 0 ∷ [])
+
+abbrev pub hops : List Case
+hops =
+    -- design one with c's map i−j and step 4i+j gives c hop 5 (request 2.8); steps 5i+j and 8i+j are 14
+    (number (hop (nest (crossing 4)) (stream (crossing 4) 2)) is number 5)
+    ∷ (number (acceptNumber (accept gaugeLimits (crossing 4))) is number 0)
+    ∷ (number (acceptNumber (accept gaugeLimits (crossing 5))) is number 14)
+    ∷ (number (acceptNumber (accept gaugeLimits (crossing 8))) is number 14)
+    -- step 7i+j gives hop 8: accepted before request 2.8, and now 14; 8i+j was 14 then too
+    ∷ (number (acceptNumber (accept (formerLimits 0) (crossing 7))) is number 0)
+    ∷ (number (acceptNumber (accept gaugeLimits (crossing 7))) is number 14)
+    ∷ (number (acceptNumber (accept (formerLimits 0) (crossing 8))) is number 14)
+    ∷ []
+
 abbrev pub singles : List Case
-singles = calls ++ (threePlaces ++ (nullProcess ++ guards))
+singles = calls ++ (threePlaces ++ (nullProcess ++ (guards ++ (products ++ hops))))
 
 pub proved : map (λ c. c .got) singles ≡ map (λ c. c .wanted) singles
 unfolding eqList firstWrong bytes bitsAt wordAt gcdOf euclid filter any every position best bestOr total each numbersFrom refusal

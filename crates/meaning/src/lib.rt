@@ -31,8 +31,9 @@
 //                     lie
 //   Walk              request 2.4: the walk by process, what a whole walk comes to, and Accept with the check along it
 //   BenchBoard        request 2.9: what a board word changes, and what it leaves
-//   Designs, Cases    the documents' designs as bytes, and document 01's cases marked P, computed as one table (Comparison)
-//   Singles           cases beside them that hold the rules: tables, single steps and declined calls; `cases` has whole runs
+//   Designs           the documents' designs as bytes
+//   Singles           cases that hold the rules, computed as one table (Comparison): tables, single steps and declined calls; `cases` has
+//                     document 01's cases marked P, and `whole_runs` whole runs
 //
 // Two loops are three, the third running from 0 to 0: its direction is 1, its step coefficient 0; place and every index map get a second
 // row (0, 0, 1), and a loading vector a second component 0. Then one set of definitions serves both.

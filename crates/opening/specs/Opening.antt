@@ -25,6 +25,7 @@ use Rattle.addresses.specs.Through.{pointOf}
 use Rattle.decode.specs.Refusals.{passed}
 use Rattle.declines.specs.Tests.{memoryLengths, memory-fits}
 use Rattle.figures.specs.Shares.{Described, described}
+use Rattle.layout.specs.Spans.{Spans}
 use Rattle.body.specs.Fit.{Fit}
 use Rattle.ports.specs.Layout.{Regular}
 use Rattle.ports.specs.Rows.{rowOf}
@@ -111,6 +112,12 @@ pub record Opens (d : Description) (M : Memory) (b : List ℕ) (r : Opening) : T
 pub record Opened (s : List ℕ) (M : Memory) (b : List ℕ) (z : Size) : Type 0 where
   pub accepted : refusalOf gaugeLimits s ≡ 0
   pub stood : Stood (descriptionOf s) M b z
+
+-- what an opening answers: the refusal, and, if there is none, the port table of the array and the words of its processes
+pub record Answered (l : Limits) (s : List ℕ) (M : Memory) (b w : List ℕ) (r : Opening) : Type 0 where
+  pub refused : r .refusal ≡ refusedBy l s (memoryTests (descriptionOf s) M)
+  pub opened : r .refusal ≡ 0 → Opened s M b (r .size)
+  pub spans : r .refusal ≡ 0 → Spans (descriptionOf s .nest) w
 
 -- ---- tests one after the other
 
@@ -203,13 +210,26 @@ module _ (d : Description) {f : Figures} (e : f ≡ figures d) where
 
 -- ---- the whole opening
 
-module _ {l : Limits} (u : UpTo l gaugeLimits) (s : List ℕ) (M : Memory) {b : List ℕ} where
-  pub opened : {d : Description} {r : Opening} → refusalOf l s ≡ 0 → d ≡ descriptionOf s → Opens d M b r
-      → (r .refusal ≡ refusedBy l s (memoryTests (descriptionOf s) M)) × (r .refusal ≡ 0 → Opened s M b (r .size))
-  opened {r = r} ok e h =
+module _ {l : Limits} (u : UpTo l gaugeLimits) (s : List ℕ) (M : Memory) {b w : List ℕ} where
+  pub opened : {d : Description} {r : Opening} → refusalOf l s ≡ 0 → d ≡ descriptionOf s → Opens d M b r → Spans (descriptionOf s .nest) w
+      → Answered l s M b w r
+  opened {r = r} ok e h laid =
       let o = subst (λ (d : Description). Opens d M b r) e h in
-      (o .refused ∙ rw ok refl, λ g. record { accepted = by-gauge u s ok; stood = o .stood g })
+      record {
+        refused = o .refused ∙ rw ok refl;
+        opened = λ g. record { accepted = by-gauge u s ok; stood = o .stood g };
+        spans = λ _. laid;
+      }
 
-  pub refused : {n : ℕ} {z : Size} → n ≡ refusalOf l s → (n ≡ 0 → ⊥)
-      → (n ≡ refusedBy l s (memoryTests (descriptionOf s) M)) × (n ≡ 0 → Opened s M b z)
-  refused {n} e g = (rw (← e, ne-eqb n 0 g) refl, λ h. absurd (g h))
+  pub refused : {n : ℕ} {z : Size} → n ≡ refusalOf l s → (n ≡ 0 → ⊥) → Answered l s M b w (record { refusal = n; size = z })
+  refused {n} e g =
+      record {
+        refused = rw (← e, ne-eqb n 0 g) refl;
+        opened = λ h. absurd (g h);
+        spans = λ h. absurd (g h);
+      }
+
+-- by the limits' value
+pub by-limits : {l l' : Limits} {s : List ℕ} {M : Memory} {b w : List ℕ} {r : Opening} → l ≡ l' → Answered l s M b w r
+    → Answered l' s M b w r
+by-limits {s = s} {M} {b} {w} {r} e = subst (λ (l : Limits). Answered l s M b w r) e

@@ -12,13 +12,11 @@ ghost use Prim.Native.Nat.{_≤_};
 ghost use lib.ListN.{length};
 ghost use Rattle.meaning.specs.Tests.{_if_, refusal};
 ghost use Rattle.meaning.specs.Limits.{limitsOf, gaugeLimits, UpTo};
-ghost use Rattle.meaning.specs.Description.{descriptionOf};
 ghost use Rattle.meaning.specs.Array.{arrayOf};
 ghost use Rattle.meaning.specs.Rules.{sound, memoryOf};
-ghost use Rattle.meaning.specs.Calls.{memoryTests, refusedBy};
 ghost use Rattle.layout.specs.Spans.{Spans, spanWords};
 ghost use Rattle.port_table.specs.PortsOf.{PortsOf, portTableWords};
-ghost use Rattle.opening.specs.Opening.{sizeFrom, Grounds, Standing, Opens, Opened};
+ghost use Rattle.opening.specs.Opening.{sizeFrom, Grounds, Standing, Opens, Answered};
 use layout::SPANS;
 use meaning::Description;
 use meaning::Figures;
@@ -90,11 +88,8 @@ fn open_within(
     ports: &mut [u32],
 ) -> Opening
     requires { ⌜ (UpTo limits gaugeLimits) × (length (now ports) ≡ portTableWords) ⌝ }
-    ensures { λ r. ⌜ (r .refusal ≡ refusedBy limits (now (s .entry)) (memoryTests (descriptionOf (now (s .entry)))
-        (memoryOf (now (waiting .entry)) (now (received .entry)) (now (state .entry)))))
-        × (r .refusal ≡ 0 → Opened (now (s .entry)) (memoryOf (now (waiting .entry)) (now (received .entry)) (now (state .entry)))
-        (now (ports .exit)) (r .size))
-        × (r .refusal ≡ 0 → Spans (descriptionOf (now (s .entry)) .nest) (now (spans .exit))) ⌝ }
+    ensures { λ r. ⌜ Answered limits (now (s .entry))
+        (memoryOf (now (waiting .entry)) (now (received .entry)) (now (state .entry))) (now (ports .exit)) (now (spans .exit)) r ⌝ }
 {
     let r = refuse::refusal_within(s, limits, spans);
     if r == 0 {
@@ -129,11 +124,8 @@ pub fn open(
     ports: &mut [u32],
 ) -> Opening
     requires { ⌜ length (now ports) ≡ portTableWords ⌝ }
-    ensures { λ r. ⌜ (r .refusal ≡ refusedBy (limitsOf board) (now (s .entry)) (memoryTests (descriptionOf (now (s .entry)))
-        (memoryOf (now (waiting .entry)) (now (received .entry)) (now (state .entry)))))
-        × (r .refusal ≡ 0 → Opened (now (s .entry)) (memoryOf (now (waiting .entry)) (now (received .entry)) (now (state .entry)))
-        (now (ports .exit)) (r .size))
-        × (r .refusal ≡ 0 → Spans (descriptionOf (now (s .entry)) .nest) (now (spans .exit))) ⌝ }
+    ensures { λ r. ⌜ Answered (limitsOf board) (now (s .entry))
+        (memoryOf (now (waiting .entry)) (now (received .entry)) (now (state .entry))) (now (ports .exit)) (now (spans .exit)) r ⌝ }
 {
     let limits = boards::limits_of(board);
     open_within(s, limits, waiting, received, state, spans, ports)

@@ -8,7 +8,7 @@ use std::process::{Command, Output, Stdio};
 use reference::board::GAUGE;
 use reference::designs::{grid, polynomial_one, polynomial_two};
 use reference::examples::{example_scripts, examples};
-use reference::expected::{cases, vectors};
+use reference::expected::vectors;
 use reference::random_script::scripts;
 use reference::replay::replay;
 use reference::table::table_text;
@@ -111,10 +111,11 @@ fn random_bundle_and_files() {
 fn expected_files() {
     let place = directory("expected");
     let text = place.to_str().expect("a path in plain text");
-    for _ in 0..2 {
-        assert!(run(&["expected", text], &[]).status.success());
-    }
+    // An earlier file is in the way, and is written over.
     let folder = place.join("crates").join("shorten");
+    fs::create_dir_all(&folder).expect("a directory");
+    fs::write(folder.join("stdin"), "an earlier file").expect("a file");
+    assert!(run(&["expected", text], &[]).status.success());
     let input = fs::read(folder.join("stdin")).expect("an input file");
     let output = fs::read_to_string(folder.join("stdout")).expect("an output file");
     assert_eq!(input.len(), 12 * vectors().len());
@@ -132,10 +133,9 @@ fn expected_files() {
         assert!(!(2..1000).any(|d| left(&d)), "{line}");
     }
     assert!(output.contains("2147483648 -1 0 0\n"));
-    for case in cases() {
-        let folder = place.join("crates").join(case.name);
-        let read = |name: &str| fs::read(folder.join(name)).expect("a file of the case");
-        assert_eq!((read("stdin"), read("stdout")), (case.stdin, case.stdout));
+    for program in ["print_table", "print_walk", "compare", "replay"] {
+        let folder = place.join("crates").join(program);
+        assert!(["stdin", "stdout"].iter().all(|name| folder.join(name).is_file()));
     }
     for example in examples() {
         let file = place.join("examples").join(format!("{}.bin", example.name));

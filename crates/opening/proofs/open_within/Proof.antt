@@ -42,16 +42,15 @@ returns c =
     let z = c .before .before .before .before .before .before .before .if1 .taken in
     let M = memoryOf (now (a .waiting)) (now (a .received)) (now (a .state)) in
     let e = c .before .before .before .before .before .before .description .ensures in
-    let h = opened (k .pre .0) (now (a .s)) M (sym (b .refusal-within .ensures .0) ∙ z) e (c .before .before .open-accepted .ensures) in
-    (h .0, h .1, λ _. b .refusal-within .ensures .1 z)
+    opened (k .pre .0) (now (a .s)) M (sym (b .refusal-within .ensures .0) ∙ z) e (c .before .before .open-accepted .ensures)
+    (b .refusal-within .ensures .1 z)
 
 returns-2 : tie.Need-returns-2
 returns-2 c =
     let k = c .before .before .before .before .before .before .before .before in
     let a = k .args in
-    let e = c .before .refusal-within .ensures in
-    let h = refused (k .pre .0) (now (a .s)) (memoryOf (now (a .waiting)) (now (a .received)) (now (a .state))) (e .0) (c .if1 .left) in
-    (h .0, h .1, e .1)
+    refused (k .pre .0) (now (a .s)) (memoryOf (now (a .waiting)) (now (a .received)) (now (a .state)))
+    (c .before .refusal-within .ensures .0) (c .if1 .left)
 
 pub open-within-spec : {M : Type 1} → statement M
 open-within-spec =

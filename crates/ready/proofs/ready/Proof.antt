@@ -15,7 +15,7 @@ slice-aggregate-ready-opened c = search needs
 
 ready-opened-requires : tie.Need-ready-opened-requires
 ready-opened-requires c κs =
-    let o = c .before .before .before .before .before .«open» .ensures in opened-fits _ _ (o .1 (c .before .before .before .if1 .taken))
+    let i = c .before .before .before in opened-fits _ _ (i .before .before .«open» .ensures .opened (i .if1 .taken))
 
 same-length : tie.Need-same-length
 same-length c = search needs
@@ -24,10 +24,10 @@ returns : tie.Need-returns
 returns c =
     let i = c .before .before .before .before .before .before in
     let o = i .before .before .«open» .ensures in
-    readies _ _ _ _ (o .0) (i .if1 .taken) (o .1 (i .if1 .taken)) (c .before .before .ready-opened .ensures)
+    readies _ _ _ _ (o .refused) (i .if1 .taken) (o .opened (i .if1 .taken)) (c .before .before .ready-opened .ensures)
 
 returns-2 : tie.Need-returns-2
-returns-2 c = memory-refused _ _ _ _ (c .before .before .«open» .ensures .0) (c .if1 .left)
+returns-2 c = memory-refused _ _ _ _ (c .before .before .«open» .ensures .refused) (c .if1 .left)
 
 pub ready-spec : {M : Type 1} → statement M
 ready-spec =

@@ -21,7 +21,7 @@ result-opened-requires : tie.Need-result-opened-requires
 result-opened-requires c κs =
     let i = c .before .before .before .before .before in
     let z = i .if1 .taken in
-    let e = i .before .before .«open» .ensures in (drawable (e .1 z), e .2 z, omega arith)
+    let e = i .before .before .«open» .ensures in (drawable (e .opened z), e .spans z, omega arith)
 
 same-length : tie.Need-same-length
 same-length c = search needs
@@ -32,14 +32,14 @@ returns c =
     let o = i .before .before in
     let a = o .before .before .before .before .before .before .before .before .args in
     opened-call _ (now (a .s)) (now (a .output)) (memoryOf (now (a .waiting)) (now (a .received)) (now (a .state)))
-    (o .«open» .ensures .0) (i .if1 .taken) (c .before .before .result-opened .ensures)
+    (o .«open» .ensures .refused) (i .if1 .taken) (c .before .before .result-opened .ensures)
 
 returns-2 : tie.Need-returns-2
 returns-2 c =
     let o = c .before .before in
     let a = o .before .before .before .before .before .before .before .before .args in
     refused-call _ (now (a .s)) (now (a .output)) (memoryOf (now (a .waiting)) (now (a .received)) (now (a .state)))
-    (o .«open» .ensures .0) (c .if1 .left)
+    (o .«open» .ensures .refused) (c .if1 .left)
 
 pub result-spec : {M : Type 1} → statement M
 result-spec =

@@ -19,7 +19,7 @@ slice-aggregate-run-opened c = search needs
 run-opened-requires : tie.Need-run-opened-requires
 run-opened-requires c κs =
     let z = c .before .before .before .before .before .before .if1 .taken in
-    let e = c .before .before .before .before .before .before .before .before .«open» .ensures in (e .1 z, e .2 z, omega arith)
+    let e = c .before .before .before .before .before .before .before .before .«open» .ensures in (e .opened z, e .spans z, omega arith)
 
 same-length : tie.Need-same-length
 same-length c = search needs
@@ -31,7 +31,7 @@ returns : tie.Need-returns
 returns c =
     let k = c .before .before .before .before .before .before .before .before .before .before .before .before .before in
     let a = k .before .before .before .before .before .before .before .before .before .args in
-    opened-call _ (now (a .s)) (a .steps) (memoryOf (now (a .waiting)) (now (a .received)) (now (a .state))) (k .«open» .ensures .0)
+    opened-call _ (now (a .s)) (a .steps) (memoryOf (now (a .waiting)) (now (a .received)) (now (a .state))) (k .«open» .ensures .refused)
     (c .before .before .before .before .before .before .before .before .before .before .before .if1 .taken)
     (c .before .before .before .before .run-opened .ensures)
 
@@ -45,7 +45,7 @@ returns-2 : tie.Need-returns-2
 returns-2 c =
     let a = c .before .before .before .before .before .before .before .before .before .before .before .args in
     refused-call _ (now (a .s)) (a .steps) (memoryOf (now (a .waiting)) (now (a .received)) (now (a .state)))
-    (c .before .before .«open» .ensures .0) (c .if1 .left)
+    (c .before .before .«open» .ensures .refused) (c .if1 .left)
 
 pub run-spec : {M : Type 1} → statement M
 run-spec =

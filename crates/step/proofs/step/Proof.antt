@@ -20,7 +20,7 @@ slice-aggregate-step-opened c = search needs
 step-opened-requires : tie.Need-step-opened-requires
 step-opened-requires c κs =
     let z = c .before .before .before .before .before .before .if1 .taken in
-    let e = c .before .before .before .before .before .before .before .before .«open» .ensures in (e .1 z, e .2 z, omega arith)
+    let e = c .before .before .before .before .before .before .before .before .«open» .ensures in (e .opened z, e .spans z, omega arith)
 
 same-length : tie.Need-same-length
 same-length c = search needs
@@ -33,7 +33,7 @@ returns c =
     let k = c .before .before .before .before .before .before .before .before .before .before .before .before .before in
     let a = k .before .before .before .before .before .before .before .before .before .args in
     opened-call _ (now (a .s)) (a .kind) (a .number) (a .stream) (memoryOf (now (a .waiting)) (now (a .received)) (now (a .state)))
-    (k .«open» .ensures .0) (c .before .before .before .before .before .before .before .before .before .before .before .if1 .taken)
+    (k .«open» .ensures .refused) (c .before .before .before .before .before .before .before .before .before .before .before .if1 .taken)
     (c .before .before .before .before .step-opened .ensures)
 
 same-length-3 : tie.Need-same-length-3
@@ -46,7 +46,7 @@ returns-2 : tie.Need-returns-2
 returns-2 c =
     let a = c .before .before .before .before .before .before .before .before .before .before .before .args in
     refused-call _ (now (a .s)) (a .kind) (a .number) (a .stream) (memoryOf (now (a .waiting)) (now (a .received)) (now (a .state)))
-    (c .before .before .«open» .ensures .0) (c .if1 .left)
+    (c .before .before .«open» .ensures .refused) (c .if1 .left)
 
 pub step-spec : {M : Type 1} → statement M
 step-spec =

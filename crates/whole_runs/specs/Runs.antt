@@ -21,9 +21,8 @@ use Rattle.meaning.specs.Rules.{moveDown, sound, writeAll, Memory, Step, ready,
 use Rattle.meaning.specs.Rules.{applyAll}
 use Rattle.meaning.specs.Answers.{acceptValues, answerNumber, ranValues, readyValues}
 use Rattle.meaning.specs.Calls.{start, run, readyCall, window, result, plainRun}
-use Rattle.meaning.specs.Comparison.{Case, _is_, naturals, number, eqList, firstWrong, agree-after}
+use Rattle.meaning.specs.Comparison.{Case, _is_, naturals, number, eqList, firstWrong, agree}
 use Rattle.meaning.specs.Designs.{bytes, designOne, designTwo, values, turned, decimating, columnProduct, startedWith, startedOn, undivided}
-use Rattle.meaning.specs.Cases as P
 
 -- the highest ready step first, n times
 abbrev onward : Memory → (Step → Memory) → Found → Memory
@@ -124,4 +123,4 @@ unfolding eqList firstWrong backwards bytes bitsAt wordAt gcdOf euclid filter an
     progression instances lineOf points widenAll around boxOf sentTo firstOf lastOf stays march lineIn pipe usedOn pipeElements nestOf
     streamOf bodyLine descriptionOf runLines touchedFrom scatter execute executeAll testsFrom refusalOf accept insertByStep byStep pipesFrom
     arrayOf moveDown sound writeAll apply firstReady runSteps applyAll start run readyCall window result plainRun
-proved = agree-after P.proved more refl
+proved = agree more refl

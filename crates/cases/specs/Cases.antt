@@ -7,27 +7,26 @@ use lib.ListN.{getD, replicate, drop}
 use lib.IntN.{ℤ, pos, negsuc}
 use Rattle.integers.specs.Bytes.{bitsAt, wordAt}
 use Rattle.lattice.specs.Gcd.{gcdOf, euclid}
 use Rattle.meaning.specs.declared.Row.{Row}
-use Rattle.meaning.specs.Limits.{gaugeLimits, formerLimits, stateWordsMost}
+use Rattle.meaning.specs.Limits.{gaugeLimits, stateWordsMost}
 use Rattle.meaning.specs.Lists.{filter, any, every, position, best, bestOr, total, each, numbersFrom}
 use Rattle.meaning.specs.Tests.{refusal}
 use Rattle.meaning.specs.Loops.{progression, instances, lineOf, increment}
 use Rattle.meaning.specs.Space.{points, widenAll, around, boxOf, sentTo, firstOf, lastOf}
 use Rattle.meaning.specs.Streams.{hop}
 use Rattle.meaning.specs.Pipes.{stays, march, lineIn, pipe, usedOn, pipeElements}
 use Rattle.meaning.specs.Description.{nestOf, streamOf, bodyLine, descriptionOf}
 use Rattle.meaning.specs.Body.{runLines, touchedFrom, scatter, execute, executeAll}
 use Rattle.meaning.specs.Accept.{streamTests, testsFrom, refusalOf, accept}
 use Rattle.meaning.specs.Array.{insertByStep, byStep, pipesFrom, arrayOf}
 use Rattle.meaning.specs.Rules.{moveDown, sound, writeAll, apply, firstReady, runSteps, applyAll}
 use Rattle.meaning.specs.Answers.{acceptNumber, acceptValues}
 use Rattle.meaning.specs.Calls.{table, start, run, result, plainRun}
 use Rattle.meaning.specs.LongerStrides.{formerAccept}
-use Rattle.meaning.specs.FixedPoint as FixedPoint
-use Rattle.meaning.specs.Comparison.{Case, _is_, naturals, number, planar, eqList, firstWrong, agree-after}
+use Rattle.meaning.specs.Comparison.{Case, _is_, naturals, number, planar, eqList, firstWrong, agree}
+use Rattle.meaning.specs.Singles.{products, hops}
 use Rattle.meaning.specs.Designs.{bytes, pair, polynomial, designOne, designOneBy, designTwo, decimating, values, fixedValues, nest}
 use Rattle.meaning.specs.Designs.{stream, blank, startedWith, undivided}
-use Rattle.meaning.specs.Singles as Singles
 
 -- c's values by the plain run, and by the network run to its end from a state of n words, in two calls, which are computed sooner than one
 abbrev pub plainly : List ℕ → List ℕ → List ℤ
@@ -45,18 +44,6 @@ product = naturals (4 ∷ 13 ∷ 28 ∷ 27 ∷ 18 ∷ [])
 abbrev pub fixedProducts : List ℤ
 fixedProducts = naturals (262144 ∷ 851968 ∷ 1835008 ∷ 1769472 ∷ 1179648 ∷ [])
 
--- a times b by an operation, in design one on loops 0..0: the plain run's c, and the network's
-abbrev pub multiplied : ℕ → ℕ → ℕ → List ℤ
-multiplied op a b =
-    let s = designOneBy op 0 in
-    let vs : List ℕ = a ∷ b ∷ 0 ∷ [] in
-    let end = run gaugeLimits s 1000 (startedWith s vs 27) .memory in
-    naturals (drop 2 (plainRun gaugeLimits s vs (replicate 3 1) .output) ++ drop 2 (result gaugeLimits s (replicate 3 1) end .output))
-
--- design one with another map of c and another first step coefficient
-abbrev crossing : ℕ → List ℕ
-crossing k = polynomial 2 2 (pair (pos k) (pos 1)) (pair (pos 1) (pos 0)) (pair (pos 1) (negsuc 0)) (pos 1 ∷ pos 0 ∷ pos 0 ∷ [])
-
 -- design two with another step and place
 abbrev slanted : List ℤ → List ℤ → List ℕ
 slanted step place = polynomial 2 2 step place (pair (pos 1) (pos 1)) (pos 0 ∷ pos 0 ∷ pos 1 ∷ [])
@@ -73,8 +60,8 @@ sized p m n = polynomial m n (pair (pos 2) (pos 1)) (pair p (pos 0)) (pair (pos 
 abbrev processOne : Row
 processOne = getD (table gaugeLimits designOne (replicate 3 blank) .rows) 1 blank
 
-abbrev pub cases : List Case
-cases =
+abbrev others : List Case
+others =
     -- increments (0,1) and (1,−1)
     (planar (increment (nest designOne)) is pair (pos 0) (pos 1))
     ∷ (planar (increment (nest designTwo)) is pair (pos 1) (negsuc 0))
@@ -92,19 +79,9 @@ cases =
     -- a 1,2,3, b 4,5,6, c zeros give c 4,13,28,27,18: by the plain run in both designs
     ∷ (plainly designOne values is product)
     ∷ (plainly designTwo values is product)
-    -- operation 6 (request 2.1): 1.5 times 1.5 is 2.25, by the plain run and by the network; operation 3 wraps
-    ∷ (multiplied 6 98304 98304 is naturals (147456 ∷ 147456 ∷ []))
-    ∷ (multiplied 3 98304 98304 is naturals (1073741824 ∷ 1073741824 ∷ []))
-    -- 2^32 − 1 by itself is divided before it wraps; what is left over is dropped
-    ∷ (multiplied 6 4294967295 4294967295 is naturals (4294836224 ∷ 4294836224 ∷ []))
-    ∷ (multiplied 6 65535 65537 is naturals (65535 ∷ 65535 ∷ []))
     -- design one with operation 6 has the figures of design one; a 1.0, 2.0, 3.0, b 4.0, 5.0, 6.0 give c 4.0, 13.0, 28.0, 27.0, 18.0
     ∷ (naturals (acceptValues (accept gaugeLimits (designOneBy 6 2))) is naturals (3 ∷ 9 ∷ 11 ∷ 3 ∷ 61 ∷ 97 ∷ undivided))
     ∷ (plainly (designOneBy 6 2) fixedValues is fixedProducts)
-    -- it was 4 before the request, and design one was accepted then too; operation 7 is 4
-    ∷ (number (acceptNumber (FixedPoint.formerAccept gaugeLimits (designOneBy 6 2))) is number 4)
-    ∷ (number (acceptNumber (FixedPoint.formerAccept gaugeLimits designOne)) is number 0)
-    ∷ (number (acceptNumber (accept gaugeLimits (designOneBy 7 2))) is number 4)
     -- design two with place i−j is 13
     ∷ (number (acceptNumber (accept gaugeLimits (slanted (pair (pos 2) (pos 1)) (pair (pos 1) (negsuc 0))))) is number 13)
     -- with place 2i+j and step 3i+j its increment is (1,−2) (request 2.2), and it is 13: not of a, but of b, which is unwritten as a is
@@ -124,15 +101,6 @@ cases =
     ∷ (number (acceptNumber (accept gaugeLimits (sized (pos 0) 63 63))) is number 7)
     ∷ (number (acceptNumber (accept gaugeLimits (sized (pos 0) 63 64))) is number 6)
     ∷ (number (acceptNumber (accept gaugeLimits (sized (pos 1) 63 64))) is number 6)
-    -- design one with c's map i−j and step 4i+j gives c hop 5 (request 2.8); steps 5i+j and 8i+j are 14
-    ∷ (number (hop (nest (crossing 4)) (stream (crossing 4) 2)) is number 5)
-    ∷ (number (acceptNumber (accept gaugeLimits (crossing 4))) is number 0)
-    ∷ (number (acceptNumber (accept gaugeLimits (crossing 5))) is number 14)
-    ∷ (number (acceptNumber (accept gaugeLimits (crossing 8))) is number 14)
-    -- step 7i+j gives hop 8: accepted before request 2.8, and now 14; 8i+j was 14 then too
-    ∷ (number (acceptNumber (accept (formerLimits 0) (crossing 7))) is number 0)
-    ∷ (number (acceptNumber (accept gaugeLimits (crossing 7))) is number 14)
-    ∷ (number (acceptNumber (accept (formerLimits 0) (crossing 8))) is number 14)
     -- so a state has at most 99,328 words
     ∷ (number stateWordsMost is number 99328)
     -- design one with bounds 0..0 takes 13 steps
@@ -143,9 +111,13 @@ cases =
     ∷ (byNetwork (designOneBy 6 2) fixedValues 61 is fixedProducts)
     ∷ []
 
+-- with those that `meaning` computes for itself: the products of request 2.1 and the hops of request 2.8
+abbrev pub cases : List Case
+cases = products ++ (hops ++ others)
+
 pub proved : map (λ c. c .got) cases ≡ map (λ c. c .wanted) cases
 unfolding eqList firstWrong bytes bitsAt wordAt gcdOf euclid filter any every position best bestOr total each numbersFrom refusal
     progression instances lineOf points widenAll around boxOf sentTo firstOf lastOf stays march lineIn pipe usedOn pipeElements nestOf
     streamOf bodyLine descriptionOf runLines touchedFrom scatter execute executeAll testsFrom refusalOf accept insertByStep byStep pipesFrom
     arrayOf moveDown sound writeAll apply firstReady runSteps applyAll table start run result plainRun
-proved = agree-after Singles.proved cases refl
+proved = agree cases refl

@@ -17,10 +17,9 @@ use Rattle.meaning.specs.Accept.{testsFrom, refusalOf, accept}
 use Rattle.meaning.specs.Array.{insertByStep, byStep, pipesFrom, arrayOf}
 use Rattle.meaning.specs.Rules.{moveDown, sound, writeAll, apply, firstReady, runSteps, applyAll}
 use Rattle.meaning.specs.Calls.{start, run, result, plainRun}
-use Rattle.meaning.specs.Comparison.{Case, _is_, naturals, eqList, firstWrong, agree-after}
+use Rattle.meaning.specs.Comparison.{Case, _is_, naturals, eqList, firstWrong, agree}
 use Rattle.meaning.specs.Designs.{bytes, uncleared, clearedOne, clearedTurned, clearedColumn, startedWith}
-use Rattle.meaning.specs.Cases as P
-use Rattle.cases.specs.Runs.{backwards}
+use Rattle.whole_runs.specs.Runs.{backwards}
 
 -- request 2.5: a design run to its end from a state of n words, the lowest ready step first and the highest, leaves what the plain run does
 abbrev bothWays : List ℕ → List ℕ → ℕ → List ℕ → List Case
@@ -45,4 +44,4 @@ unfolding eqList firstWrong backwards bytes bitsAt wordAt gcdOf euclid filter an
     progression instances lineOf points widenAll around boxOf sentTo firstOf lastOf stays march lineIn pipe usedOn pipeElements nestOf
     streamOf bodyLine descriptionOf runLines touchedFrom scatter execute executeAll testsFrom refusalOf accept insertByStep byStep pipesFrom
     arrayOf moveDown sound writeAll apply firstReady runSteps applyAll start run result plainRun
-proved = agree-after P.proved cleared refl
+proved = agree cleared refl
