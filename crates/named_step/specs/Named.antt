@@ -59,7 +59,7 @@ module _ (l : Limits) (s : List ℕ) {b : List ℕ} {z : Size} (t : Stands (A l 
       go true true e f =
           let h = ltb-true p _ e in
           let k = ltb-true i _ f in
-          on p i h k ∙ ap (λ (r : Port). ltb 0 (r .total)) (sym (t .planned .ports p i h k))
+          on p i h k ∙ ap (λ (r : Port). ltb 0 (r .total)) (sym (t .table .ports p i h k))
 
   pub named-is : (kind number stream : ℕ)
       → stepOf l s kind number stream ≡ cond (namedBy b z kind number stream) (at (stepNamed kind number stream)) nothing

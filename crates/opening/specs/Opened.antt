@@ -27,24 +27,24 @@ module _ {d : Description} (g : Grounds d) {M : Memory} {b : List ℕ} {z : Size
   size-of = subst (SizeOf (arrayOf d)) (sym (o .size)) (g .size)
 
   pub fits : RowsFit (length (M .state)) b z
-  fits = subst (RowsFit (length (M .state)) b) (sym (o .size)) (g .rows b (length (M .state)) (o .planned) (o .state))
+  fits = subst (RowsFit (length (M .state)) b) (sym (o .size)) (g .rows b (length (M .state)) (o .table) (o .state))
 
   pub waiting-fits : PartsFit (length (M .waiting)) b z
   waiting-fits q h =
-      omega (arith, o .waiting, subst (PartsFit (lengthOf d) b) (sym (o .size)) (g .parts b (o .planned)) q h)
+      omega (arith, o .waiting, subst (PartsFit (lengthOf d) b) (sym (o .size)) (g .parts b (o .table)) q h)
 
   pub received-fits : PartsFit (length (M .received)) b z
   received-fits q h =
-      omega (arith, o .received, subst (PartsFit (lengthOf d) b) (sym (o .size)) (g .parts b (o .planned)) q h)
+      omega (arith, o .received, subst (PartsFit (lengthOf d) b) (sym (o .size)) (g .parts b (o .table)) q h)
 
   pub stands : Stands (arrayOf d) b z
-  stands = record { planned = o .planned; size = size-of; few = fits .streams; regular = g .regular }
+  stands = record { table = o .table; size = size-of; few = fits .streams; regular = g .regular }
 
   -- the rows of a process say how many instances it runs
   count-is : (p : ℕ) → p < z .processes → portAt b p 0 .count ≡ countAt (arrayOf d) p
   count-is p h =
       let l : p < processCount (arrayOf d) = omega (arith, size-of .processes) in
-      ap (λ (r : Port). r .count) (o .planned .ports p 0 l (omega (arith, size-of .streams, size-of .some)))
+      ap (λ (r : Port). r .count) (o .table .ports p 0 l (omega (arith, size-of .streams, size-of .some)))
       ∙ row-uses (arrayOf d) p 0 .count
 
   pub programmed : {spans : List ℕ} → Spans (d .nest) spans → length spans ≡ 3072 → Within 200 (increment (d .nest))

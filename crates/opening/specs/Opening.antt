@@ -98,7 +98,7 @@ module _ {d : Description} {z : Size} {state ports : List ℕ} (h : Standing d z
 -- nothing is refused: the port table is that of the array
 pub record Stood (d : Description) (M : Memory) (b : List ℕ) (z : Size) : Type 0 where
   pub size : z ≡ sizeOf d
-  pub planned : PortsOf (arrayOf d) b
+  pub table : PortsOf (arrayOf d) b
   pub waiting : length (M .waiting) ≡ lengthOf d
   pub received : length (M .received) ≡ lengthOf d
   pub state : stateLength d ≤ length (M .state)
@@ -194,13 +194,13 @@ module _ (d : Description) {f : Figures} (e : f ≡ figures d) where
     -- none is: 22 or nothing
     pub lengths-passed : {k : ℕ} {b : List ℕ} {z : Size} → n ≡ 0 → z ≡ sizeOf d → k ≡ refusal (soundTest d M) → PortsOf (arrayOf d) b
         → Opens d M b (record { refusal = k; size = z })
-    lengths-passed {k} h ze ke planned =
+    lengths-passed {k} h ze ke table =
         let l = lengths-hold h in
         record {
           refused = ke ∙ sym (lengths-first d M ∙ rw (← own, h) refl);
           stood = λ g. record {
             size = ze;
-            planned = planned;
+            table = table;
             waiting = l .0;
             received = l .1;
             state = l .2;

@@ -1,2 +1,2 @@
--- A row of the table, by the words of its plan.
+-- A row of the table, by the words of the columns.
 pub mod Rows

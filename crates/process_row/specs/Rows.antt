@@ -1,4 +1,4 @@
--- The rows as they are read off the plan: word p of it is the count of process p, words 1024 + p and 2048 + p are the numbers plus one of
+-- The rows as they are read off the columns: word p is the count of process p, words 1024 + p and 2048 + p are the numbers plus one of
 -- its first and last instance, 0 for none, and words 3072 + 2048 i + p and 4096 + 2048 i + p its soak and drain on stream i.
 -- Assumes nothing.
 use mathlib.Core.Path.{_≡_, refl, ap}
@@ -18,9 +18,9 @@ use Rattle.numbering.specs.Extents.{Spanning, boxed}
 use Rattle.layout.specs.Spans.{numbered, spanWords}
 use Rattle.process_row.specs.declared.Shape.{Shape}
 
--- the words of the plan: those of the processes, then for each stream soaks and drains
-abbrev pub planWords : ℕ
-planWords = spanWords + 6 * (2 * gaugeLimits .processes)
+-- the words of the columns: those of the processes, then for each stream soaks and drains
+abbrev pub columnWords : ℕ
+columnWords = spanWords + 6 * (2 * gaugeLimits .processes)
 
 pub numbered-none : (n : Nest) (k : ℕ) → k ≡ 0 → zero3 ≡ numbered n k
 numbered-none n k e = rw e refl

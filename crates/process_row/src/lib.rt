@@ -1,4 +1,4 @@
-// One row of the table, read off the words of its plan. In specs/, Rows says where each word of a row stands there.
+// One row of the table, read off the words of its columns. In specs/, Rows says where each word of a row stands there.
 ghost use mathlib.Core.Path.{_≡_};
 ghost use Prim.Native.Nat.{_<_, _≤_, _+_, _*_};
 ghost use lib.ListN.{length};
@@ -6,7 +6,7 @@ ghost use Rattle.meaning.specs.Limits.{gaugeLimits};
 ghost use Rattle.meaning.specs.Loops.{instances};
 ghost use Rattle.numbering.specs.Ranges.{Bounded};
 ghost use Rattle.layout.specs.Spans.{numbered};
-ghost use Rattle.process_row.specs.Rows.{byStream, rowFrom, Readable, planWords};
+ghost use Rattle.process_row.specs.Rows.{byStream, rowFrom, Readable, columnWords};
 use integers::V3;
 use layout::FIRSTS;
 use layout::LASTS;
@@ -18,12 +18,12 @@ use meaning::STREAMS;
 use numbering::Extent;
 use pipes::BLOCK;
 
-// The words of the plan: those of the processes, then a block for each stream, whose drains begin in the first at `DRAINS`.
+// The words of the columns: those of the processes, then a block for each stream, whose drains begin in the first at `DRAINS`.
 const DRAINS: usize = SPANS + PROCESSES;
 
-pub const PLAN: usize = SPANS + STREAMS * BLOCK;
+pub const COLUMNS: usize = SPANS + STREAMS * BLOCK;
 
-// What the rows need beside the plan's words: the refusal, 0 if there is none, the number of rows to fill, the loops and the process space.
+// What the rows need beside the columns: the refusal, 0 if there is none, the number of rows to fill, the loops and the process space.
 pub struct Shape {
     pub refusal: u32,
     pub rows: usize,
@@ -44,8 +44,8 @@ fn instance_numbered(n: Nest, k: u32) -> V3
 }
 
 // The words of all streams at one process, the first stream's at word k.
-fn by_stream(words: &[u32; PLAN], k: usize) -> [u32; 6]
-    requires { ⌜ k + 5 * (2 * gaugeLimits .processes) < planWords ⌝ }
+fn by_stream(words: &[u32; COLUMNS], k: usize) -> [u32; 6]
+    requires { ⌜ k + 5 * (2 * gaugeLimits .processes) < columnWords ⌝ }
     ensures { λ r. ⌜ r ≡ byStream (now (words .entry)) k ⌝ }
 {
     [
@@ -59,7 +59,7 @@ fn by_stream(words: &[u32; PLAN], k: usize) -> [u32; 6]
 }
 
 // The row of process p.
-pub fn row_at(shape: Shape, words: &[u32; PLAN], p: usize) -> Row
+pub fn row_at(shape: Shape, words: &[u32; COLUMNS], p: usize) -> Row
     requires { ⌜ Readable shape (now words) p ⌝ }
     ensures { λ r. ⌜ r ≡ rowFrom shape (now (words .entry)) p ⌝ }
 {

@@ -41,7 +41,7 @@ pub record Called (s received state output : List ℕ) (r : Answer) (out : List 
 -- an accepted description, the port table of its array, and a memory that fits them
 pub record Drawable (s b : List ℕ) (z : Size) (received state : List ℕ) : Type 0 where
   pub accepted : refusalOf gaugeLimits s ≡ 0
-  pub planned : PortsOf (arrayOf (descriptionOf s)) b
+  pub table : PortsOf (arrayOf (descriptionOf s)) b
   pub size : SizeOf (arrayOf (descriptionOf s)) z
   pub rows : RowsFit (length state) b z
   pub long : length received ≡ lengthOf (descriptionOf s)
@@ -52,7 +52,7 @@ module _ {s b : List ℕ} {z : Size} {received state : List ℕ} (h : Drawable s
   own =
       r
       ∙ ap₂ (λ (out : Bool) (e : ℕ). refusal (resultTests out (eqb (length output) e)))
-      (o ∙ all-out gaugeLimits s (h .planned) (h .size) state) (h .long)
+      (o ∙ all-out gaugeLimits s (h .table) (h .size) state) (h .long)
 
   -- none of them applies
   module _ (none : n ≡ 0) {d : Description} (e : d ≡ descriptionOf s) where
@@ -80,7 +80,7 @@ module _ {s : List ℕ} {M : Memory} {b : List ℕ} {z : Size} where
       let g = grounds s (o .accepted) in
       record {
         accepted = o .accepted;
-        planned = o .stood .planned;
+        table = o .stood .table;
         size = size-of g (o .stood);
         rows = fits g (o .stood);
         long = o .stood .received;

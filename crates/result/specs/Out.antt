@@ -39,6 +39,6 @@ out-read b st q {e} h g = ap (outOf st) (sym h) ∙ ap (λ (w : ℕ). eqb w (e .
 -- by the port table of an array they are those of document 01
 pub all-out : (l : Limits) (s : List ℕ) {b : List ℕ} {z : Size} → PortsOf (A l s) b → SizeOf (A l s) z → (st : List ℕ)
     → every (outBy b st) (numbers (z .pipes)) ≡ allOut l s st
-all-out l s {b} planned size st =
+all-out l s {b} table size st =
     ap (λ (n : ℕ). every (outBy b st) (numbers n)) (size .pipes)
-    ∙ same-every (outBy b st) (isOut l s st) 0 (pipeNumber (A l s)) (λ q _ h. ap (outOf st) (planned .ends q (omega arith)))
+    ∙ same-every (outBy b st) (isOut l s st) 0 (pipeNumber (A l s)) (λ q _ h. ap (outOf st) (table .ends q (omega arith)))

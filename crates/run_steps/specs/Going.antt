@@ -66,7 +66,7 @@ module _ {s : List ℕ} {M : Memory} {b : List ℕ} {z : Size} (o : Opened s M b
         accepted = o .accepted;
         stood = record {
           size = o .stood .size;
-          planned = o .stood .planned;
+          table = o .stood .table;
           waiting = ap length (waiting-same A M a) ∙ o .stood .waiting;
           received = received-length A M a ∙ o .stood .received;
           state = omega (arith, state-length a h r, o .stood .state);

@@ -40,7 +40,7 @@ pub rows-in-table : {s : List ℕ} {M : Memory} {b : List ℕ} {z : Size} → Op
 rows-in-table {s} {b = b} {z} o =
     let g = grounds s (o .accepted) in
     subst (RowsFit stateWordsMost b) (sym (o .stood .size))
-    (g .rows b stateWordsMost (o .stood .planned) (omega (arith, word-count (descriptionOf s), words-few s (o .accepted))))
+    (g .rows b stateWordsMost (o .stood .table) (omega (arith, word-count (descriptionOf s), words-few s (o .accepted))))
 
 -- what the tables are filled by
 module _ {s : List ℕ} {M : Memory} {b : List ℕ} {z : Size} (o : Opened s M b z) where

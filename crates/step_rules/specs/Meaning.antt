@@ -48,7 +48,7 @@ kind-of (suc (suc (suc (suc k)))) = is-receive (suc (suc (suc (suc k)))) (omega 
 
 -- the port table of an array
 pub record Stands (A : Array) (b : List ℕ) (z : Size) : Type 0 where
-  pub planned : PortsOf A b
+  pub table : PortsOf A b
   pub size : SizeOf A z
   pub few : z .streams ≤ 6
   pub regular : Regular A
@@ -60,7 +60,7 @@ pub record Performs (A : Array) (g : Program) : Type 0 where
 
 module _ {A : Array} {b : List ℕ} {z : Size} (s : Stands A b z) where
   port-row : (p i : ℕ) → p < z .processes → i < z .streams → portAt b p i ≡ rowOf A p i
-  port-row p i h l = s .planned .ports p i (omega (arith, s .size .processes)) (omega (arith, s .size .streams))
+  port-row p i h l = s .table .ports p i (omega (arith, s .size .processes)) (omega (arith, s .size .streams))
 
   process-is : (p : ℕ) → p < z .processes → ProcessIs A p (portsAt b p) (z .streams)
   process-is p h =
@@ -79,7 +79,7 @@ module _ {A : Array} {b : List ℕ} {z : Size} (s : Stands A b z) where
         go : {k : ℕ} → Kind k → Inside z k number stream → canBy b st (z .streams) k number stream ≡ ready A st (stepNamed k number stream)
         go is-send i =
             let h : number < pipeNumber A = omega (arith, i .pipe (inl refl), s .size .pipes) in
-            send-tested A M t number h (endAt b number) (s .planned .ends number h)
+            send-tested A M t number h (endAt b number) (s .table .ends number h)
         go is-take i =
             ap (canTake st) (port-row number stream (i .process (omega arith) (omega arith)) (i .port (inl refl)))
             ∙ take-row A number stream M t
@@ -89,7 +89,7 @@ module _ {A : Array} {b : List ℕ} {z : Size} (s : Stands A b z) where
             ∙ give-row A number stream M t
         go (is-receive k l) i =
             let h : number < pipeNumber A = omega (arith, i .pipe (inr l), s .size .pipes) in
-            by-last k l _ _ _ _ _ ∙ receive-tested A M t number h (endAt b number) (s .planned .ends number h)
+            by-last k l _ _ _ _ _ ∙ receive-tested A M t number h (endAt b number) (s .table .ends number h)
             ∙ sym (ap (ready A st) (by-last k l (Send number) (Take number stream) (Fire number) (Give number stream) (Receive number)))
 
     -- the instance that process p runs next
@@ -110,7 +110,7 @@ module _ {A : Array} {b : List ℕ} {z : Size} (s : Stands A b z) where
             → actBy g (z .streams) b M k number stream ≡ apply A M (stepNamed k number stream)
         go is-send i r =
             let h : number < pipeNumber A = omega (arith, i .pipe (inl refl), s .size .pipes) in
-            send-applied A M t number h (endAt b number) (s .planned .ends number h) (s .regular) r
+            send-applied A M t number h (endAt b number) (s .table .ends number h) (s .regular) r
         go is-take i r =
             let on : onPipe A number stream ≡ true = both-true _ _ r .0 in
             take-applied A M t number stream on (portAt b number stream)
@@ -125,5 +125,5 @@ module _ {A : Array} {b : List ℕ} {z : Size} (s : Stands A b z) where
             ∙ row-on A number stream on) (s .regular) r
         go (is-receive k l) i r =
             let h : number < pipeNumber A = omega (arith, i .pipe (inr l), s .size .pipes) in
-            by-last k l _ _ _ _ _ ∙ receive-applied A M t number h (endAt b number) (s .planned .ends number h)
+            by-last k l _ _ _ _ _ ∙ receive-applied A M t number h (endAt b number) (s .table .ends number h)
             ∙ sym (ap (apply A M) (by-last k l (Send number) (Take number stream) (Fire number) (Give number stream) (Receive number)))

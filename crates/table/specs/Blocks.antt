@@ -1,4 +1,4 @@
--- The plan's words, block by block: those of the processes, then a block for each stream in use. Assumes nothing.
+-- The columns' words, block by block: those of the processes, then a block for each stream in use. Assumes nothing.
 use mathlib.Core.Path.{_≡_, _∙_, ap}
 use mathlib.Core.Logic.{_⊎_, inl, inr}
 use mathlib.Core.List.{List}

@@ -1,4 +1,4 @@
--- What a refusal of 0 leaves for the plan, and the refusal of the call by its tests. Assumes nothing.
+-- What a refusal of 0 leaves for the columns, and the refusal of the call by its tests. Assumes nothing.
 use mathlib.Core.Path.{_≡_, refl, sym, _∙_, ap, subst}
 use mathlib.Core.Bool.{Bool, true, false, cond}
 use mathlib.Core.List.{List, []}
@@ -26,7 +26,7 @@ use Rattle.stream_lines.specs.Accepted.{accepted-within}
 use Rattle.lanes.specs.Flow.{Laid}
 use Rattle.lanes.specs.Accepted.{streams-used, laid-stream}
 use Rattle.process_row.specs.declared.Shape.{Shape}
-use Rattle.table.specs.Planned.{refusedFor, Drawn, Planned}
+use Rattle.table.specs.Columns.{refusedFor, Drawn, Columns}
 
 pub record Drawable (d : Description) : Type 0 where
   pub bounded : Bounded (d .nest)
@@ -93,11 +93,11 @@ module _ (l : Limits) (s : List ℕ) (room : ℕ) where
       go true f z = (eqb-true _ 0 f, ltb-false room _ (passed 18 _ [] (λ g. omega arith) z .0))
       go false f z = absurd (eqb-false _ 0 f z)
 
--- ---- the plan of the call
+-- ---- the columns of the call
 
-pub planned-drawn : {l : Limits} {s w : List ℕ} {room r : ℕ} {d : Description} {h : Shape} → r ≡ refusedFor l s room → r ≡ 0
-    → d ≡ descriptionOf s → (h .refusal ≡ 0) × Drawn d h w → Planned l s room h w
-planned-drawn {l} {s} {w} {room} {r} {d} {h} e z f g =
+pub columns-drawn : {l : Limits} {s w : List ℕ} {room r : ℕ} {d : Description} {h : Shape} → r ≡ refusedFor l s room → r ≡ 0
+    → d ≡ descriptionOf s → (h .refusal ≡ 0) × Drawn d h w → Columns l s room h w
+columns-drawn {l} {s} {w} {room} {r} {d} {h} e z f g =
     record {
       refused = g .0 ∙ sym z ∙ e;
       enough =
@@ -106,9 +106,9 @@ planned-drawn {l} {s} {w} {room} {r} {d} {h} e z f g =
       drawn = λ k. subst (λ (d : Description). Drawn d h w) f (g .1);
     }
 
-pub planned-declined : {l : Limits} {s w : List ℕ} {room r : ℕ} {h : Shape} → r ≡ refusedFor l s room → (r ≡ 0 → ⊥)
-    → (h .refusal ≡ r) × (h .rows ≡ 0) → Planned l s room h w
-planned-declined e z g =
+pub columns-declined : {l : Limits} {s w : List ℕ} {room r : ℕ} {h : Shape} → r ≡ refusedFor l s room → (r ≡ 0 → ⊥)
+    → (h .refusal ≡ r) × (h .rows ≡ 0) → Columns l s room h w
+columns-declined e z g =
     record {
       refused = g .0 ∙ e;
       enough = omega (arith, g .1);

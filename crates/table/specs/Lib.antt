@@ -1,4 +1,4 @@
--- What a plan's words mean, and that the rows read off them are document 01's.
+-- What the columns' words mean, and that the rows read off them are document 01's.
 pub mod Blocks
-pub mod Planned
+pub mod Columns
 pub mod Drawable

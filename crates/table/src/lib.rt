@@ -3,8 +3,8 @@
 // specs/, by file:
 //
 //   Blocks      the words, block by block: the processes' and each stream's
-//   Planned     what the plan holds; `planned-rows`: the rows read off it are document 01's
-//   Drawable    what a refusal of 0 leaves for the plan; the refusal of the call
+//   Columns     what the columns hold; `columns-rows`: the rows read off them are document 01's
+//   Drawable    what a refusal of 0 leaves for the columns; the refusal of the call
 ghost use mathlib.Core.Path.{_≡_};
 ghost use Prim.Native.Nat.{ℕ, _<_, _≤_};
 ghost use lib.ListN.{length, getD, replicate};
@@ -15,9 +15,9 @@ ghost use Rattle.meaning.specs.Description.{descriptionOf, streamsOf};
 ghost use Rattle.meaning.specs.Calls.{answer, table};
 ghost use Rattle.numbering.specs.Ranges.{Bounded};
 ghost use Rattle.layout.specs.Spans.{Spans, spanWords};
-ghost use Rattle.process_row.specs.Rows.{rowFrom, Readable, planWords};
+ghost use Rattle.process_row.specs.Rows.{rowFrom, Readable, columnWords};
 ghost use Rattle.table.specs.Blocks.{Streamed};
-ghost use Rattle.table.specs.Planned.{Shaped, Drawn, refusedFor, Planned};
+ghost use Rattle.table.specs.Columns.{Shaped, Drawn, refusedFor, Columns};
 ghost use Rattle.table.specs.Drawable.{Drawable};
 use integers::Matrix;
 use integers::V2;
@@ -30,14 +30,14 @@ use meaning::Nest;
 use meaning::Row;
 use numbering::Extent;
 use pipes::BLOCK;
-use process_row::PLAN;
+use process_row::COLUMNS;
 use process_row::Shape;
 
-// ---- the plan
+// ---- the columns
 
 // The words of all streams in use.
 fn fill_streams(d: Description, spans: &[u32], words: &mut [u32])
-    requires { ⌜ (Drawable d) × (Spans (d .nest) (now spans)) × (spanWords ≤ length (now spans)) × (now words ≡ replicate planWords 0) ⌝ }
+    requires { ⌜ (Drawable d) × (Spans (d .nest) (now spans)) × (spanWords ≤ length (now spans)) × (now words ≡ replicate columnWords 0) ⌝ }
     ensures { λ r. ⌜ Streamed (d .nest) (streamsOf d) (length (streamsOf d)) (now (words .exit)) ⌝ }
 {
     let n = d.nest;
@@ -78,9 +78,9 @@ fn shape_of(n: Nest) -> Shape
     }
 }
 
-// The plan of a description; its words come as zeros.
+// The columns of a description; their words come as zeros.
 fn draw(d: Description, spans: &[u32], words: &mut [u32]) -> Shape
-    requires { ⌜ (Drawable d) × (Spans (d .nest) (now spans)) × (spanWords ≤ length (now spans)) × (now words ≡ replicate planWords 0) ⌝ }
+    requires { ⌜ (Drawable d) × (Spans (d .nest) (now spans)) × (spanWords ≤ length (now spans)) × (now words ≡ replicate columnWords 0) ⌝ }
     ensures { λ r. ⌜ (r .refusal ≡ 0) × (Drawn d r (now (words .exit))) ⌝ }
 {
     fill_streams(d, spans, words);
@@ -88,7 +88,7 @@ fn draw(d: Description, spans: &[u32], words: &mut [u32]) -> Shape
     shape_of(d.nest)
 }
 
-// The plan of a declined call: no rows.
+// The shape of a declined call: no rows.
 fn declined(refusal: u32) -> Shape
     ensures { λ r. ⌜ (r .refusal ≡ refusal) × (r .rows ≡ 0) ⌝ }
 {
@@ -138,10 +138,10 @@ fn refusal_for(s: &[u8], limits: Limits, room: usize, spans: &mut [u32; SPANS]) 
     }
 }
 
-// The plan of the call; its words come as zeros.
-fn plan(s: &[u8], board: u32, room: usize, words: &mut [u32; PLAN]) -> Shape
-    requires { ⌜ now words ≡ replicate planWords 0 ⌝ }
-    ensures { λ r. ⌜ Planned (limitsOf board) (now (s .entry)) room r (now (words .exit)) ⌝ }
+// The columns of the call; their words come as zeros.
+fn fill_columns(s: &[u8], board: u32, room: usize, words: &mut [u32; COLUMNS]) -> Shape
+    requires { ⌜ now words ≡ replicate columnWords 0 ⌝ }
+    ensures { λ r. ⌜ Columns (limitsOf board) (now (s .entry)) room r (now (words .exit)) ⌝ }
 {
     let mut spans = [0u32; SPANS];
     let refusal = refusal_for(s, boards::limits_of(board), room, &mut spans);
@@ -174,7 +174,7 @@ fn answer_for(shape: Shape) -> Answer
 // ---- all rows
 
 // The first n rows are filled.
-fn fill_rows<'r, 'a>(rows: &'r mut [Row], shape: Shape, words: &'a [u32; PLAN], n: usize)
+fn fill_rows<'r, 'a>(rows: &'r mut [Row], shape: Shape, words: &'a [u32; COLUMNS], n: usize)
     requires { ⌜ (n ≤ length (now rows)) × ((p : ℕ) → p < n → Readable shape (now words) p) ⌝ }
     ensures { λ _. ⌜ now (rows .exit) ≡ fillBy (rowFrom shape (now (words .entry))) n (now (rows .entry)) ⌝ }
 {
@@ -190,9 +190,9 @@ pub fn table<'s, 'r>(s: &'s [u8], rows: &'r mut [Row], board: u32) -> Answer
     ensures { λ r. ⌜ (r ≡ table (limitsOf board) (now (s .entry)) (now (rows .entry)) .answer)
         × (now (rows .exit) ≡ table (limitsOf board) (now (s .entry)) (now (rows .entry)) .rows) ⌝ }
 {
-    let mut words = [0u32; PLAN];
+    let mut words = [0u32; COLUMNS];
     let room = rows.len();
-    let shape = plan(s, board, room, &mut words);
+    let shape = fill_columns(s, board, room, &mut words);
     let n = row_count(shape);
     fill_rows(rows, shape, &words, n);
     answer_for(shape)

@@ -18,7 +18,7 @@ use Rattle.meaning.specs.Accept.{refusalOf}
 use Rattle.meaning.specs.Answers.{answerNumber}
 use Rattle.meaning.specs.Calls.{answer, rowOf, table}
 use Rattle.geometry.specs.UpTo.{by-gauge}
-use Rattle.table.specs.Planned.{refusedFor}
+use Rattle.table.specs.Columns.{refusedFor}
 use Rattle.table.specs.Drawable.{drawable, refused-18, refused-none, refused-first, none-refused}
 use Rattle.table_rows.specs.Marked.{marked}
 use Rattle.table_words.specs.Words.{laid, rowsWords, wordsOf, words-front}

@@ -50,10 +50,10 @@ data Looking (A : Array) (b : List ℕ) (z : Size) (r : ℕ) : Type 0 where
 
 module _ {A : Array} (W : Wired A) {b : List ℕ} {z : Size} (s : Stands A b z) where
   end-row : (q : ℕ) → q < z .pipes → (q < pipeNumber A) × (endAt b q ≡ endOf A q)
-  end-row q h = let l : q < pipeNumber A = omega (arith, s .size .pipes) in (l, s .planned .ends q l)
+  end-row q h = let l : q < pipeNumber A = omega (arith, s .size .pipes) in (l, s .table .ends q l)
 
   port-row : (p i : ℕ) → p < z .processes → i < z .streams → portAt b p i ≡ rowOf A p i
-  port-row p i h l = s .planned .ports p i (omega (arith, s .size .processes)) (omega (arith, s .size .streams))
+  port-row p i h l = s .table .ports p i (omega (arith, s .size .processes)) (omega (arith, s .size .streams))
 
   looking : (r : ℕ) → r < rankCount z → Looking A b z r
   looking r h = go (ranked z r h)

@@ -1,4 +1,4 @@
--- `process_row::row_at` meets its contract: p is below 1024, so the words of all six streams at it lie within the plan. Assumes nothing.
+-- `process_row::row_at` meets its contract: p is below 1024, so the words of all six streams at it lie within the columns. Assumes nothing.
 use borrow.Author.Needs.{needs}
 use Rattle.process_row.proofs.row_at.Statement.{statement}
 use Rattle.process_row.proofs.row_at.Tie as tie

@@ -56,14 +56,14 @@ use Rattle.meaning.proofs.Answer as E
 use Rattle.meaning.proofs.Answer.Laws as E′
 use Rattle.process_row.specs.declared.Shape.{Shape}
 use Rattle.process_row.specs.Rows.{rowFrom}
-use Rattle.table.specs.Planned.{Planned, planned-ready, planned-answer, planned-rows}
+use Rattle.table.specs.Columns.{Columns, columns-ready, columns-answer, columns-rows}
 use Rattle.process_row.proofs.Shape as D
 use Rattle.process_row.proofs.Shape.Laws as D′
 use Rattle.table.proofs.LocalLent.{lend-local, local-back, share-local, shared-back}
-use Rattle.table.proofs.plan as plan
-use Rattle.table.proofs.plan.Symbol as plan-def
-use Rattle.table.proofs.plan.Symbol.{name as #table·plan}
-use Rattle.table.proofs.plan.Met as plan-thm
+use Rattle.table.proofs.fill_columns as fill-columns
+use Rattle.table.proofs.fill_columns.Symbol as fill-columns-def
+use Rattle.table.proofs.fill_columns.Symbol.{name as #table·fill-columns}
+use Rattle.table.proofs.fill_columns.Met as fill-columns-thm
 use Rattle.table.proofs.row_count as row-count
 use Rattle.table.proofs.row_count.Symbol as row-count-def
 use Rattle.table.proofs.row_count.Symbol.{name as #table·row-count}
@@ -89,8 +89,8 @@ abbrev Words : RattleType
 Words = Array u32 15360
 
 module _ {M : Type 1} (𝓤 : URA M) (H : Heap 𝓤) (A : Atoms 𝓤) (mem″ : Memory → SProp 𝓤) (run : Routine → Fun 𝓤) where
-  abbrev Plan : Contract 𝓤
-  Plan = tripleOf 𝓤 H A plan.signature (plan.spec 𝓤 H A mem″ run)
+  abbrev FillColumns : Contract 𝓤
+  FillColumns = tripleOf 𝓤 H A fill-columns.signature (fill-columns.spec 𝓤 H A mem″ run)
 
   abbrev RowCount : Contract 𝓤
   RowCount = tripleOf 𝓤 H A row-count.signature (row-count.spec 𝓤 H A mem″ run)
@@ -121,7 +121,7 @@ module _ {M : Type 1} (𝓤 : URA M) (H : Heap 𝓤) (A : Atoms 𝓤) (W : Given
   abbrev sᵇ : Val
   sᵇ = sliceVal (y .ptr) (length (y .now))
 
-  -- the plan's words before it is made
+  -- the columns' words before they are filled
   abbrev ws₀ : List ℕ
   ws₀ = replicate 15360 0
 
@@ -147,8 +147,8 @@ module _ {M : Type 1} (𝓤 : URA M) (H : Heap 𝓤) (A : Atoms 𝓤) (W : Given
   abbrev at-words : ℕ → GName → List ℕ → RefT (List ℕ)
   at-words l δ zs = record { ptr = (l, 0); name = δ; now = zs }
 
-  abbrev to-ports : ℕ → ℕ → GName → Plan 𝓤 H A mem″ run .Ghost
-  to-ports l ν δ = (
+  abbrev to-columns : ℕ → ℕ → GName → FillColumns 𝓤 H A mem″ run .Ghost
+  to-columns l ν δ = (
     (
       (ρ, (ν ∷ [], tt)),
       (p, (fullShare, tt)),
@@ -168,10 +168,10 @@ module _ {M : Type 1} (𝓤 : URA M) (H : Heap 𝓤) (A : Atoms 𝓤) (W : Given
     tt,
   )
 
-  goes-ports : (l ν : ℕ) (δ : GName)
+  goes-columns : (l ν : ℕ) (δ : GName)
       → ent 𝓤 (sep 𝓤 (sep 𝓤 (A .lft ρ p) (A .lft (ν ∷ []) fullShare)) (sep 𝓤 (sem 𝓤 H A Bytes) (sem 𝓤 H A (MutRef
-      (named 1) (ν ∷ []) Words .own (at-words l δ ws₀) (vptr l 0 ∷ []))))) (Plan 𝓤 H A mem″ run .pre (to-ports l ν δ))
-  goes-ports l ν δ =
+      (named 1) (ν ∷ []) Words .own (at-words l δ ws₀) (vptr l 0 ∷ []))))) (FillColumns 𝓤 H A mem″ run .pre (to-columns l ν δ))
+  goes-columns l ν δ =
       qed W ((‵ (flft ρ p) ⊛ ‵ (flft (ν ∷ []) fullShare)) ∷ ‵ Bytes ∷ ‵ (MutRef (named 1) (ν ∷ []) Words .own (at-words l δ ws₀)
       (vptr l 0 ∷ [])) ∷ []) ∵ says ! refl $
       split ! $ nothing ! $ move ! (2 ∷ 0 ∷ []) $ join ! $ move ! (1 ∷ 0 ∷ []) $ join ! $ frame ! $ nothing ! $
@@ -219,13 +219,13 @@ module _ {M : Type 1} (𝓤 : URA M) (H : Heap 𝓤) (A : Atoms 𝓤) (W : Given
       tt,
     )
 
-    goes-fill : (l ν : ℕ) (δ : GName) (ws : List ℕ) → Planned (limitsOf board) (y .now) (length ys) h ws → h .rows < 2 ^ 64
+    goes-fill : (l ν : ℕ) (δ : GName) (ws : List ℕ) → Columns (limitsOf board) (y .now) (length ys) h ws → h .rows < 2 ^ 64
         → ent 𝓤
         (sep 𝓤 (sep 𝓤 (A .lft κ q) (A .lft (ν ∷ []) fullShare)) (sep 𝓤 (sem 𝓤 H A Rows) (sem 𝓤 H A (ShrRef (named 1) (ν ∷ []) Words .own
         (at-words l δ ws) (vptr l 0 ∷ []))))) (FillRows 𝓤 H A mem″ run .pre (to-fill l ν δ ws))
     goes-fill l ν δ ws good fits =
         qed W ((‵ (flft κ q) ⊛ ‵ (flft (ν ∷ []) fullShare)) ∷ ‵ Rows ∷ ‵ (ShrRef (named 1) (ν ∷ []) Words .own (at-words l δ ws)
-        (vptr l 0 ∷ [])) ∷ []) ∵ says ! (good .enough, planned-ready good) $
+        (vptr l 0 ∷ [])) ∷ []) ∵ says ! (good .enough, columns-ready good) $
         split ! $ nothing ! $ move ! (2 ∷ 0 ∷ []) $ join ! $ move ! (1 ∷ 0 ∷ []) $ join ! $ frame ! $
         nothing ! $ owned ! usize (Is usize) (uint-makes 𝓤 H A W w64) (h .rows) _ (refl, fits) $ fjoin ! $ move ! (2 ∷ 0 ∷ []) $ fjoin ! $
         owned ! D.the-row (Is D.the-row) ((LL.makes D.the-type D′.the-plain) 𝓤 H A) h _ is $ fjoin ! $
@@ -246,7 +246,8 @@ module _ {M : Type 1} (𝓤 : URA M) (H : Heap 𝓤) (A : Atoms 𝓤) (W : Given
       owned ! u32 (Is u32) (uint-makes 𝓤 H A W w32) board _ (refl, gb) $ fjoin ! $ move ! (2 ∷ 0 ∷ []) $ fjoin ! $
       move ! (2 ∷ 0 ∷ []) $ fjoin ! $ frame ! $ done !
 
-  module _ (C : Calls 𝓤 H) (Λ : Loops 𝓤 H) (fm : FmC 𝓤 H (W .laws) C) (known-ports : Triple 𝓤 (C #table·plan) (Plan 𝓤 H A mem″ run))
+  module _ (C : Calls 𝓤 H) (Λ : Loops 𝓤 H) (fm : FmC 𝓤 H (W .laws) C)
+      (known-columns : Triple 𝓤 (C #table·fill-columns) (FillColumns 𝓤 H A mem″ run))
       (known-count : Triple 𝓤 (C #table·row-count) (RowCount 𝓤 H A mem″ run))
       (known-fill : Triple 𝓤 (C #table·fill-rows) (FillRows 𝓤 H A mem″ run))
       (known-answer : Triple 𝓤 (C #table·answer-for) (AnswerFor 𝓤 H A mem″ run)) where
@@ -283,22 +284,22 @@ module _ {M : Type 1} (𝓤 : URA M) (H : Heap 𝓤) (A : Atoms 𝓤) (W : Given
         await ! tt $ pick ! (λ δ. split ! $
         move ! (5 ∷ []) $ use1 W (‵ Bytes ⊛ ‵ Bytes) (shr-slice-copy 𝓤 H A W (named 0) ρ u8 .twice y (sᵇ ∷ [])) $ split ! $
         move ! (7 ∷ 4 ∷ []) $ join ! $ move ! (0 ∷ 1 ∷ 3 ∷ []) $
-        use3 W (raw (Plan 𝓤 H A mem″ run .pre (to-ports l₄ ν δ))) (goes-ports l₄ ν δ) $
-        calls-at ! fm (Plan 𝓤 H A mem″ run) known-ports (to-ports l₄ ν δ)
+        use3 W (raw (FillColumns 𝓤 H A mem″ run .pre (to-columns l₄ ν δ))) (goes-columns l₄ ν δ) $
+        calls-at ! fm (FillColumns 𝓤 H A mem″ run) known-columns (to-columns l₄ ν δ)
         (and-then ! (load ! (from ! (stop !)) (look ! 26 refl)) (and-then ! (load !
         (from ! (stop !)) (look ! 22 refl)) (and-then ! (load ! (from ! (stop !)) (look ! 19 refl)) (and-then ! (load ! (from ! (stop !))
         (look ! 13 refl)) (no-more !))))) (λ w₁.
         use1 W (later (some (λ (r : Shape). ((‵ (flft ρ p) ⊛ ‵ (flft (ν ∷ []) fullShare) ⊛ ‵ ftrue) ⊛ ‵ (D.the-row .own r (w₁ ∷ []))) ⊛ raw
-        (ensured 𝓤 H A plan.ended (plan.clauses 𝓤 H A mem″ run) (ρ, (ν ∷ [], tt))
+        (ensured 𝓤 H A fill-columns.ended (fill-columns.clauses 𝓤 H A mem″ run) (ρ, (ν ∷ [], tt))
         (y, (board, (length ys, (at-words l₄ δ ws₀, tt)))) tt r)))) (id⊢ 𝓤 _) $
         await ! tt $ pick ! (λ r₁.
         split ! $ move ! (1 ∷ []) $
-        use1 W (some (λ (zs : Unit {0} × (Unit {0} × (Unit {0} × (List ℕ × Unit {0})))). ‵ (lasts plan.ended (ρ, (ν ∷ [], tt)) (
+        use1 W (some (λ (zs : Unit {0} × (Unit {0} × (Unit {0} × (List ℕ × Unit {0})))). ‵ (lasts fill-columns.ended (ρ, (ν ∷ [], tt)) (
           y,
           (board, (length ys, (at-words l₄ δ ws₀, tt))),
-        ) zs) ⊛ raw (fact 𝓤 (Planned (limitsOf board) (y .now) (length ys) r₁ (zs .1 .1 .1 .0))))) (id⊢ 𝓤 _) $ pick ! (λ zs₁.
+        ) zs) ⊛ raw (fact 𝓤 (Columns (limitsOf board) (y .now) (length ys) r₁ (zs .1 .1 .1 .0))))) (id⊢ 𝓤 _) $ pick ! (λ zs₁.
         split ! $ move ! (1 ∷ []) $
-        heard ! (Planned (limitsOf board) (y .now) (length ys) r₁ (zs₁ .1 .1 .1 .0)) (λ good. fsplit ! $ drop ! $ fsplit ! $ drop ! $
+        heard ! (Columns (limitsOf board) (y .now) (length ys) r₁ (zs₁ .1 .1 .1 .0)) (λ good. fsplit ! $ drop ! $ fsplit ! $ drop ! $
         fsplit ! $ drop ! $ fsplit ! $ move ! (1 ∷ []) $ drop ! $
         move ! (1 ∷ []) $ split ! $ split ! $ move ! (1 ∷ []) $ split ! $ move ! (1 ∷ []) $ drop ! $
         -- [ν's token; bytes' token; the shape's; the last words; bytes'; the lender's part; rows'; the token; _12; …]
@@ -391,11 +392,11 @@ module _ {M : Type 1} (𝓤 : URA M) (H : Heap 𝓤) (A : Atoms 𝓤) (W : Given
         free1 ! $ move ! (13 ∷ 14 ∷ []) $ free1 ! $
         move ! (11 ∷ 12 ∷ []) $ free1 ! $ move ! (9 ∷ 10 ∷ []) $ free1 ! $ move ! (7 ∷ 8 ∷ []) $ free1 ! $ move ! (5 ∷ 6 ∷ []) $
         free1 ! $ free0 ! $
-        by ! (exits w₄ r₄ (zs₃ .0) (e₄ ∙ planned-answer ys good, e₃ ∙ planned-rows ys good) l))))))))))))))))))))))))))))))))))))))))
+        by ! (exits w₄ r₄ (zs₃ .0) (e₄ ∙ columns-answer ys good, e₃ ∙ columns-rows ys good) l))))))))))))))))))))))))))))))))))))))))
 
 module _ {M : Type 1} (𝓤 : URA M) (H : Heap 𝓤) (A : Atoms 𝓤) (W : Given 𝓤 H A) (mem″ : Memory → SProp 𝓤)
     (run : Routine → Fun 𝓤) (𝓣 : Tables 𝓤 H)
-    (known-ports : Triple 𝓤 (𝓣 .C #table·plan) (Plan 𝓤 H A mem″ run))
+    (known-columns : Triple 𝓤 (𝓣 .C #table·fill-columns) (FillColumns 𝓤 H A mem″ run))
     (known-count : Triple 𝓤 (𝓣 .C #table·row-count) (RowCount 𝓤 H A mem″ run))
     (known-fill : Triple 𝓤 (𝓣 .C #table·fill-rows) (FillRows 𝓤 H A mem″ run)) (known-answer : Triple 𝓤 (𝓣 .C #table·answer-for)
     (AnswerFor 𝓤 H A mem″ run)) where
@@ -407,7 +408,7 @@ module _ {M : Type 1} (𝓤 : URA M) (H : Heap 𝓤) (A : Atoms 𝓤) (W : Given
       (walk 𝓤 H A W mem″ run (κs .1 .0) (κs .0) (qs .1 .0) (qs .0) (a .1 .0 .ptr .0) (a .1 .0 .ptr .1) (a .1 .0 .name) (a .1 .0 .now)
       (a .0) (a .1 .1 .0)
       (are .1 .0 .0 .1) (are .0 .0 .1) (are .1 .1 .0 .1) (𝓣 .C) (𝓣 .Λ)
-      (fmOf 𝓤 H (W .laws) 𝓣) known-ports known-count known-fill known-answer))
+      (fmOf 𝓤 H (W .laws) 𝓣) known-columns known-count known-fill known-answer))
 
   meets : Meets 𝓤 H A f.signature (WpFn 𝓤 H (𝓣 .C) (𝓣 .Λ) code.function) (f.spec 𝓤 H A mem″ run)
   meets =
@@ -427,7 +428,8 @@ table-spec 𝓤 H 𝓜 𝓖 𝓡 =
     entered 𝓤 H (tripleOf 𝓤 H (𝓖 .A) f.signature (f.spec 𝓤 H (𝓖 .A) (𝓜 .mem) (𝓡 .run)))
     (tables 𝓤 H 𝓜 𝓡 code.env .C) (tables 𝓤 H 𝓜 𝓡 code.env .Λ) #table·table code.function (code.unfolded 𝓤 H 𝓜 𝓡)
     (meets 𝓤 H (𝓖 .A) (givenOf 𝓤 H 𝓜 𝓖) (𝓜 .mem) (𝓡 .run) (tablesOf 𝓤 H 𝓜 (tables 𝓤 H 𝓜 𝓡 code.env))
-    (cited 𝓤 H (Plan 𝓤 H (𝓖 .A) (𝓜 .mem) (𝓡 .run)) 𝓜 𝓡 code.env #table·plan plan-def.routine code.calls-table·plan (plan-thm.met 𝓤 H 𝓜 𝓖 𝓡))
+    (cited 𝓤 H (FillColumns 𝓤 H (𝓖 .A) (𝓜 .mem) (𝓡 .run)) 𝓜 𝓡 code.env #table·fill-columns fill-columns-def.routine
+    code.calls-table·fill-columns (fill-columns-thm.met 𝓤 H 𝓜 𝓖 𝓡))
     (cited 𝓤 H (RowCount 𝓤 H (𝓖 .A) (𝓜 .mem) (𝓡 .run)) 𝓜 𝓡 code.env #table·row-count row-count-def.routine code.calls-table·row-count
     (row-count-thm.met 𝓤 H 𝓜 𝓖 𝓡))
     (cited 𝓤 H (FillRows 𝓤 H (𝓖 .A) (𝓜 .mem) (𝓡 .run)) 𝓜 𝓡 code.env #table·fill-rows fill-rows-def.routine code.calls-table·fill-rows

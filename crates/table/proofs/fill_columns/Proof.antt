@@ -1,15 +1,15 @@
--- `table::plan` meets its contract: what the limits of a board accept the gauge's accept too, so it can be drawn; a declined plan has no
--- rows. Assumes nothing.
+-- `table::fill_columns` meets its contract: what the limits of a board accept the gauge's accept too, so that the columns can be drawn; a
+-- declined call has no rows. Assumes nothing.
 use mathlib.Core.Path.{sym, _∙_, ap}
 use native.Mathlib.Omega.{arith}
 use denote.Ref.{now}
 use Rattle.meaning.specs.declared.Limits.{Limits}
 use Rattle.geometry.specs.UpTo.{by-gauge}
-use Rattle.table.specs.Planned.{refusedFor}
-use Rattle.table.specs.Drawable.{accepted-sized, drawable, none-refused, planned-drawn, planned-declined}
+use Rattle.table.specs.Columns.{refusedFor}
+use Rattle.table.specs.Drawable.{accepted-sized, drawable, none-refused, columns-drawn, columns-declined}
 use borrow.Author.Needs.{needs}
-use Rattle.table.proofs.plan.Statement.{statement}
-use Rattle.table.proofs.plan.Tie as tie
+use Rattle.table.proofs.fill_columns.Statement.{statement}
+use Rattle.table.proofs.fill_columns.Tie as tie
 
 limits-of-requires : tie.Need-limits-of-requires
 limits-of-requires c κs = search needs
@@ -41,7 +41,7 @@ returns c =
     let t = d .before .before in
     let l = t .before .before .before in
     let a = l .before .before .args in
-    planned-drawn (t .before .refusal-for .ensures .0 ∙ ap (λ (l : Limits). refusedFor l (now (a .s)) (a .room)) (l .limits-of .ensures .0))
+    columns-drawn (t .before .refusal-for .ensures .0 ∙ ap (λ (l : Limits). refusedFor l (now (a .s)) (a .room)) (l .limits-of .ensures .0))
     (t .if1 .taken) (d .description .ensures) (c .draw .ensures)
 
 returns-2 : tie.Need-returns-2
@@ -49,11 +49,11 @@ returns-2 c =
     let r = c .before .before in
     let l = r .before .before in
     let a = l .before .before .args in
-    planned-declined (r .refusal-for .ensures .0 ∙ ap (λ (l : Limits). refusedFor l (now (a .s)) (a .room)) (l .limits-of .ensures .0))
+    columns-declined (r .refusal-for .ensures .0 ∙ ap (λ (l : Limits). refusedFor l (now (a .s)) (a .room)) (l .limits-of .ensures .0))
     (c .before .if1 .left) (c .declined .ensures)
 
-pub plan-spec : {M : Type 1} → statement M
-plan-spec =
+pub fill-columns-spec : {M : Type 1} → statement M
+fill-columns-spec =
     tie.close
     (tie.spec
     limits-of-requires

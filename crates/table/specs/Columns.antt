@@ -1,4 +1,4 @@
--- What a plan holds, and that the rows read off it are document 01's. Assumes nothing.
+-- What the columns hold, and that the rows read off them are document 01's. Assumes nothing.
 use mathlib.Core.Path.{_≡_, refl, sym, _∙_, ap, ap₂, subst}
 use mathlib.Core.Bool.{Bool, true, false, cond}
 use mathlib.Core.List.{List, _++_, map}
@@ -44,7 +44,7 @@ pub record Shaped (n : Nest) (h : Shape) : Type 0 where
   pub space : boxed (h .space) ≡ space n
   pub rows : h .rows ≡ length (processes n)
 
--- the plan of a description
+-- the columns of a description
 pub record Drawn (d : Description) (h : Shape) (w : List ℕ) : Type 0 where
   pub shaped : Shaped (d .nest) h
   pub bounded : Bounded (d .nest)
@@ -55,8 +55,8 @@ pub record Drawn (d : Description) (h : Shape) (w : List ℕ) : Type 0 where
   pub copied : (k : ℕ) → k < 3072 → getD w k 0 ≡ getD front k 0
   pub streams : Streamed (d .nest) (streamsOf d) (length (streamsOf d)) w
 
--- the plan of a call: no row where it is declined
-pub record Planned (l : Limits) (s : List ℕ) (room : ℕ) (h : Shape) (w : List ℕ) : Type 0 where
+-- the columns of a call: no row where it is declined
+pub record Columns (l : Limits) (s : List ℕ) (room : ℕ) (h : Shape) (w : List ℕ) : Type 0 where
   pub refused : h .refusal ≡ refusedFor l s room
   pub enough : h .rows ≤ room
   pub none : (h .refusal ≡ 0 → ⊥) → h .rows ≡ 0
@@ -157,22 +157,22 @@ unfolding fillBy
 fill-same f g zero xs e = refl
 fill-same {A} f g (suc n) xs e = λ i. set (fill-same f g n xs (λ k l. e k (omega arith)) i) n (e n (omega arith) i)
 
-module _ {l : Limits} {s : List ℕ} {room : ℕ} {h : Shape} {w : List ℕ} (g : Planned l s room h w) where
-  pub planned-ready : (p : ℕ) → p < h .rows → Readable h w p
-  planned-ready p k = go (eqb (h .refusal) 0) refl
+module _ {l : Limits} {s : List ℕ} {room : ℕ} {h : Shape} {w : List ℕ} (g : Columns l s room h w) where
+  pub columns-ready : (p : ℕ) → p < h .rows → Readable h w p
+  columns-ready p k = go (eqb (h .refusal) 0) refl
     where
       go : (b : Bool) → eqb (h .refusal) 0 ≡ b → Readable h w p
       go true e = drawn-readable (g .drawn (eqb-true (h .refusal) 0 e)) p k
       go false e = absurd (omega (arith, g .none (eqb-false (h .refusal) 0 e)))
 
-module _ {l : Limits} {s : List ℕ} (rows : List Row) {h : Shape} {w : List ℕ} (g : Planned l s (length rows) h w) where
-  pub planned-answer : answer (h .refusal) ≡ table l s rows .answer
+module _ {l : Limits} {s : List ℕ} (rows : List Row) {h : Shape} {w : List ℕ} (g : Columns l s (length rows) h w) where
+  pub columns-answer : answer (h .refusal) ≡ table l s rows .answer
   unfolding table
-  planned-answer = ap answer (g .refused)
+  columns-answer = ap answer (g .refused)
 
-  pub planned-rows : fillBy (rowFrom h w) (h .rows) rows ≡ table l s rows .rows
+  pub columns-rows : fillBy (rowFrom h w) (h .rows) rows ≡ table l s rows .rows
   unfolding table
-  planned-rows = go (eqb (refusedFor l s (length rows)) 0) refl
+  columns-rows = go (eqb (refusedFor l s (length rows)) 0) refl
     where
       ps : List V2
       ps = processes (descriptionOf s .nest)
