@@ -1,8 +1,8 @@
--- `refuse_words::size_refused` meets its contract. Assumes nothing.
+-- `word_ranges::size_refused` meets its contract. Assumes nothing.
 use mathlib.Core.Path.{sym, _∙_}
 use borrow.Author.Needs.{needs}
-use Rattle.refuse_words.proofs.size_refused.Statement.{statement}
-use Rattle.refuse_words.proofs.size_refused.Tie as tie
+use Rattle.word_ranges.proofs.size_refused.Statement.{statement}
+use Rattle.word_ranges.proofs.size_refused.Tie as tie
 
 outside-requires : tie.Need-outside-requires
 outside-requires c κs = search needs

@@ -1,8 +1,8 @@
--- `refuse_words::bound_refused` meets its contract. Assumes nothing.
+-- `word_ranges::bound_refused` meets its contract. Assumes nothing.
 use mathlib.Core.Path.{sym, _∙_}
 use borrow.Author.Needs.{needs}
-use Rattle.refuse_words.proofs.bound_refused.Statement.{statement}
-use Rattle.refuse_words.proofs.bound_refused.Tie as tie
+use Rattle.word_ranges.proofs.bound_refused.Statement.{statement}
+use Rattle.word_ranges.proofs.bound_refused.Tie as tie
 
 above-x-requires : tie.Need-above-x-requires
 above-x-requires c κs = search needs

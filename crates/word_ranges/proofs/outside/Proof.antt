@@ -1,11 +1,11 @@
--- `refuse_words::outside` meets its contract. Assumes nothing.
+-- `word_ranges::outside` meets its contract. Assumes nothing.
 use mathlib.Core.Path.{_≡_, refl}
 use mathlib.Core.Bool.{Bool, true, false, not}
 use Prim.Native.Nat.{ℕ}
 use lib.Dec.{leb, ltb}
 use borrow.Author.Tests.{leb-true, leb-false, lt-ltb, le-ltb, le-leb, lt-leb}
-use Rattle.refuse_words.proofs.outside.Statement.{statement}
-use Rattle.refuse_words.proofs.outside.Tie as tie
+use Rattle.word_ranges.proofs.outside.Statement.{statement}
+use Rattle.word_ranges.proofs.outside.Tie as tie
 
 above : (n b : ℕ) → ltb b n ≡ not (leb n b)
 above n b = go (leb n b) refl

@@ -1,10 +1,10 @@
--- `refuse_words::within` meets its contract, part by part. Assumes nothing.
+-- `word_ranges::within` meets its contract, part by part. Assumes nothing.
 use mathlib.Core.Path.{sym, _∙_}
 use native.Mathlib.Omega.{arith}
 use Rattle.decode.specs.Ranges.{in-bounds, in-directions, in-steps, in-matrices, in-loading, in-lines}
 use borrow.Author.Needs.{needs}
-use Rattle.refuse_words.proofs.within.Statement.{statement}
-use Rattle.refuse_words.proofs.within.Tie as tie
+use Rattle.word_ranges.proofs.within.Statement.{statement}
+use Rattle.word_ranges.proofs.within.Tie as tie
 
 add-direction : tie.Need-add-direction
 add-direction c = search needs

@@ -1,10 +1,10 @@
--- `refuse_words::line_within` meets its contract, word by word. Assumes nothing.
+-- `word_ranges::line_within` meets its contract, word by word. Assumes nothing.
 use mathlib.Core.Path.{sym}
 use native.Mathlib.Omega.{arith}
 use Rattle.decode.specs.Ranges.{in-operations, in-operands, in-loops, in-comparisons, in-guard-bounds}
 use borrow.Author.Needs.{needs}
-use Rattle.refuse_words.proofs.line_within.Statement.{statement}
-use Rattle.refuse_words.proofs.line_within.Tie as tie
+use Rattle.word_ranges.proofs.line_within.Statement.{statement}
+use Rattle.word_ranges.proofs.line_within.Tie as tie
 
 returns : tie.Need-returns
 returns c = sym (in-operations _ _ _ _ (omega arith))
