@@ -80,7 +80,7 @@ fn elements_refused(n: Nest, s: Stream, walk: &[i32]) -> bool
         return true;
     }
     let mut marks = [false; INSTANCES];
-    walk::untouched(map, e, walk, instances, elements, &mut marks)
+    untouched::untouched(map, e, walk, instances, elements, &mut marks)
 }
 
 // The first of the refusals 15 to 17 that applies, 0 if none does.

@@ -1,12 +1,10 @@
 // The walk by process of request 2.4, as words: the instances process by process in row order, along each process's own line from first to
-// last; and refusal 17, the search along it for an element that no instance touches. The words of an instance are its three coordinates.
+// last. The words of an instance are its three coordinates.
 //
 // specs/, by file:
 //
 //   Words     instances as words, and lines of them stored one after the other
 //   Walked    what the words of a walk say: `Walked`; the walk stored process by process
-//   Touched   the search for a number that is not among those passed, with marks
-//   Search    `refusal-is`: the search along the walk is refusal 17; `too-many`: more elements than instances
 ghost use Prim.Native.Nat.{_+_, _*_, _<_};
 ghost use mathlib.Core.Path.{_≡_};
 ghost use lib.ListN.{length};
@@ -14,22 +12,15 @@ ghost use lib.IntN.{pos};
 ghost use Rattle.integers.specs.Vectors.{shift3};
 ghost use Rattle.meaning.specs.Space.{count};
 ghost use Rattle.geometry.specs.Processes.{runAt};
-ghost use Rattle.numbering.specs.Extents.{boxed};
 ghost use Rattle.layout.specs.Spans.{processOf};
 ghost use Rattle.walk.specs.Words.{vectorAt, put, Lined, Running};
 ghost use Rattle.walk.specs.Walked.{Walked, Walking, Lining};
-ghost use Rattle.walk.specs.Touched.{Misses};
-ghost use Rattle.walk.specs.Search.{numberOn, Numberable, Searching};
-use integers::Matrix;
 use integers::V3;
 use meaning::INSTANCES;
 use meaning::Nest;
-use numbering::Extent;
 
 // The words of a walk: three for each instance.
 pub const WALK: usize = 3 * INSTANCES;
-
-// ---- the walk
 
 // Instance k of the words.
 pub fn instance_at(walk: &[i32], k: usize) -> V3
@@ -100,47 +91,4 @@ pub fn fill_walk(n: Nest, processes: u32, spans: &[u32], walk: &mut [i32])
         from = put_line(n, increment, spans, p as usize, from, walk);
         p += 1;
     }
-}
-
-// ---- refusal 17
-
-// The number of the element that instance k of the walk touches.
-fn number_at(m: Matrix, e: Extent, walk: &[i32], k: usize) -> usize
-    requires { ⌜ Numberable m (boxed e) (now walk) k ⌝ }
-    ensures { λ r. ⌜ r ≡ numberOn m (boxed e) (now (walk .entry)) k ⌝ }
-{
-    numbering::row_number(e, vectors::image_of(m, instance_at(walk, k))) as usize
-}
-
-// Whether some element of the box is touched by no instance of the walk. For each element in turn the search goes on along the walk from
-// where it stopped, marking the elements that it passes, until this one is marked or the walk is over.
-pub fn untouched(
-    m: Matrix,
-    e: Extent,
-    walk: &[i32],
-    instances: usize,
-    elements: usize,
-    marks: &mut [bool],
-) -> bool
-    requires { ⌜ Searching m (boxed e) (now walk) instances elements (now marks) ⌝ }
-    ensures { λ r. ⌜ Misses (numberOn m (boxed e) (now (walk .entry))) instances elements r ⌝ }
-{
-    let mut found = false;
-    let mut k: usize = 0;
-    let mut q: usize = 0;
-    'elements: while q < elements {
-        loop {
-            if marks[q] {
-                break;
-            }
-            if k == instances {
-                found = true;
-                break 'elements;
-            }
-            marks[number_at(m, e, walk, k)] = true;
-            k += 1;
-        }
-        q += 1;
-    }
-    found
 }

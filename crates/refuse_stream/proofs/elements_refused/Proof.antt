@@ -4,7 +4,7 @@ use mathlib.Core.Bool.{false}
 use Prim.Native.Nat.{_≤_}
 use native.Mathlib.Omega.{arith}
 use lib.ListN.{getD-replicate}
-use Rattle.walk.specs.Search.{box-sized, size-is, searching-by, refusal-by, too-many}
+use Rattle.untouched.specs.Search.{box-sized, size-is, searching-by, refusal-by, too-many}
 use borrow.Author.Needs.{needs}
 use Rattle.refuse_stream.proofs.elements_refused.Statement.{statement}
 use Rattle.refuse_stream.proofs.elements_refused.Tie as tie

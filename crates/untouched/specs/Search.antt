@@ -31,9 +31,9 @@ use Rattle.geometry.specs.Walk.{walk-length, any-on-walk}
 use Rattle.vectors.specs.Within.{Within, Rows}
 use Rattle.numbering.specs.Ranges.{Bounded, point-small}
 use Rattle.numbering.specs.Extents.{Spanning, box-spanning}
 use Rattle.walk.specs.Words.{vectorAt}
 use Rattle.walk.specs.Walked.{Walked, Along, is-instance}
-use Rattle.walk.specs.Touched.{Touch, Misses, Misses.untouched, Misses.all-touched}
+use Rattle.untouched.specs.Touched.{Touch, Misses, Misses.untouched, Misses.all-touched}
 
 -- the number in a box of what a matrix sends instance i of the words to
 abbrev pub numberOn : Matrix → Box → List ℤ → ℕ → ℕ

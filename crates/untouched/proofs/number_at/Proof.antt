@@ -1,4 +1,4 @@
--- `walk::number_at` meets its contract: the image of the instance lies in the box, so it has a row number there. Assumes nothing.
+-- `untouched::number_at` meets its contract: the image of the instance lies in the box, so it has a row number there. Assumes nothing.
 use mathlib.Core.Path.{sym, _∙_, ap, subst}
 use borrow.Author.Needs.{needs}
 use Rattle.integers.specs.Vectors.{image}
@@ -7,8 +7,8 @@ use Rattle.meaning.specs.Space.{rowIndex}
 use Rattle.meaning.specs.Points.{Inside}
 use Rattle.vectors.specs.Within.{Within, wider}
 use Rattle.numbering.specs.Extents.{boxed}
-use Rattle.walk.proofs.number_at.Statement.{statement}
-use Rattle.walk.proofs.number_at.Tie as tie
+use Rattle.untouched.proofs.number_at.Statement.{statement}
+use Rattle.untouched.proofs.number_at.Tie as tie
 
 instance-at-requires : tie.Need-instance-at-requires
 instance-at-requires c κs = search needs

@@ -1,4 +1,4 @@
--- `walk::untouched` meets its contract: the inner loop goes on where it stopped, with those passed marked. Assumes nothing.
+-- `untouched::untouched` meets its contract: the inner loop goes on where it stopped, with those passed marked. Assumes nothing.
 use mathlib.Core.Path.{_≡_, refl, sym, _∙_, subst}
 use mathlib.Core.Bool.{true, false}
 use Prim.Native.Nat.{ℕ, _+_, _-_, _≤_, _<_}
@@ -6,10 +6,11 @@ use native.Mathlib.Omega.{arith}
 use lib.ListN.{length, set, length-set}
 use borrow.Author.Needs.{needs}
 use Rattle.numbering.specs.Extents.{boxed}
-use Rattle.walk.specs.Touched.{Touch, Misses, Misses.all-touched, Marked, touch-more, none-marked, marked-on, not-marked, touched-on}
-use Rattle.walk.specs.Search.{numberOn}
-use Rattle.walk.proofs.untouched.Statement.{statement}
-use Rattle.walk.proofs.untouched.Tie as tie
+use Rattle.untouched.specs.Touched.{Touch, Misses, Misses.all-touched, Marked, touch-more, none-marked}
+use Rattle.untouched.specs.Touched.{marked-on, not-marked, touched-on}
+use Rattle.untouched.specs.Search.{numberOn}
+use Rattle.untouched.proofs.untouched.Statement.{statement}
+use Rattle.untouched.proofs.untouched.Tie as tie
 
 abbrev Inv-loop : tie.InvT-loop
 Inv-loop m e walk instances elements marks₀ found₀ k₀ q marks found k =

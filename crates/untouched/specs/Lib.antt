@@ -1,0 +1,3 @@
+-- The search along the walk; src/lib.rt has the list.
+pub mod Touched
+pub mod Search
