@@ -1,4 +1,4 @@
--- `refuse_stream::loading_refused` meets its contract: a stream moves exactly if it is not stationary, so the branches are the two cases of
+-- `stream_tests::loading_refused` meets its contract: a stream moves exactly if it is not stationary, so the branches are the two cases of
 -- refusal 16. Assumes nothing.
 use mathlib.Core.Path.{sym, _∙_, ap}
 use mathlib.Core.Bool.{not}
@@ -6,8 +6,8 @@ use borrow.Author.Tests.{not-true, not-false}
 use Rattle.integers.specs.Bounds.{Abs-wider}
 use Rattle.meaning.specs.Streams.{stationary}
 use borrow.Author.Needs.{needs}
-use Rattle.refuse_stream.proofs.loading_refused.Statement.{statement}
-use Rattle.refuse_stream.proofs.loading_refused.Tie as tie
+use Rattle.stream_tests.proofs.loading_refused.Statement.{statement}
+use Rattle.stream_tests.proofs.loading_refused.Tie as tie
 
 moves-requires : tie.Need-moves-requires
 moves-requires c κs = search needs

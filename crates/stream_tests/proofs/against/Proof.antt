@@ -1,4 +1,4 @@
--- `refuse_stream::against` meets its contract: a direction times a component of at most 200 fits a word, and so small a component is 0
+-- `stream_tests::against` meets its contract: a direction times a component of at most 200 fits a word, and so small a component is 0
 -- exactly if its bits are. Assumes nothing.
 use mathlib.Core.Path.{sym, _∙_, ap}
 use lib.IntN.{ℤ, pos}
@@ -6,8 +6,8 @@ use lib.Signed.{ltZ}
 use borrow.Author.Tests.{eq-eqb, ne-eqb}
 use Rattle.integers.specs.Words.{at, box, mul, fits}
 use Rattle.stream_lines.specs.Small.{zero-bits}
-use Rattle.refuse_stream.proofs.against.Statement.{statement}
-use Rattle.refuse_stream.proofs.against.Tie as tie
+use Rattle.stream_tests.proofs.against.Statement.{statement}
+use Rattle.stream_tests.proofs.against.Tie as tie
 
 mul-result : tie.Need-mul-result
 mul-result c =

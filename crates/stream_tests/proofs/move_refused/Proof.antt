@@ -1,11 +1,11 @@
--- `refuse_stream::move_refused` meets its contract. Assumes nothing.
+-- `stream_tests::move_refused` meets its contract. Assumes nothing.
 use mathlib.Core.Path.{_∙_, ap}
 use mathlib.Core.Bool.{not, _&&_}
 use Rattle.integers.specs.declared.V2.{V2}
 use Rattle.meaning.specs.Accept.{small}
 use borrow.Author.Needs.{needs}
-use Rattle.refuse_stream.proofs.move_refused.Statement.{statement}
-use Rattle.refuse_stream.proofs.move_refused.Tie as tie
+use Rattle.stream_tests.proofs.move_refused.Statement.{statement}
+use Rattle.stream_tests.proofs.move_refused.Tie as tie
 
 place-of-line-requires : tie.Need-place-of-line-requires
 place-of-line-requires c κs = search needs

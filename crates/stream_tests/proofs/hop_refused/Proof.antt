@@ -1,11 +1,11 @@
--- `refuse_stream::hop_refused` meets its contract. Assumes nothing.
+-- `stream_tests::hop_refused` meets its contract. Assumes nothing.
 use mathlib.Core.Path.{ap}
 use Prim.Native.Nat.{ℕ}
 use lib.Dec.{ltb}
 use Rattle.stream_lines.specs.Small.{and-goes, and-stops}
 use borrow.Author.Needs.{needs}
-use Rattle.refuse_stream.proofs.hop_refused.Statement.{statement}
-use Rattle.refuse_stream.proofs.hop_refused.Tie as tie
+use Rattle.stream_tests.proofs.hop_refused.Statement.{statement}
+use Rattle.stream_tests.proofs.hop_refused.Tie as tie
 
 moves-requires : tie.Need-moves-requires
 moves-requires c κs = search needs

@@ -1,12 +1,12 @@
--- `refuse_stream::order_refused` meets its contract: a direction is 1 or −1 and a line's component at most 200 in size, as `against` asks;
+-- `stream_tests::order_refused` meets its contract: a direction is 1 or −1 and a line's component at most 200 in size, as `against` asks;
 -- a stream not written is never refused. Assumes nothing.
 use mathlib.Core.Path.{refl, _∙_, ap}
 use Rattle.meaning.specs.Accept.{against}
 use Rattle.stream_lines.specs.InRange.{directions-small}
 use Rattle.stream_lines.specs.Small.{and-goes}
 use borrow.Author.Needs.{needs}
-use Rattle.refuse_stream.proofs.order_refused.Statement.{statement}
-use Rattle.refuse_stream.proofs.order_refused.Tie as tie
+use Rattle.stream_tests.proofs.order_refused.Statement.{statement}
+use Rattle.stream_tests.proofs.order_refused.Tie as tie
 
 line-of-requires : tie.Need-line-of-requires
 line-of-requires c κs = search needs
