@@ -1,116 +1,12 @@
-// The call Plain run: the instances in the written order, each on the elements that it touches.
-//
-// specs/, by file:
-//
-//   Columns     a list in rows of six, filled column by column
-//   Places      the numbers of the elements that each instance touches, as a table holds them; `columns-table`, `runnable`
-//   Run         the run instance by instance; the call's own refusals, and what it answers
+// The call Plain run. In specs/, Call says what it answers and leaves; the loops are run in `written_order`.
 ghost use mathlib.Core.Path.{_≡_};
-ghost use Prim.Native.Nat.{_<_};
-ghost use lib.ListN.{length, getD};
-ghost use Rattle.integers.specs.Vectors.{zero3};
 ghost use Rattle.meaning.specs.Limits.{limitsOf};
-ghost use Rattle.meaning.specs.Loops.{instances};
-ghost use Rattle.meaning.specs.Body.{execute, finalValues};
-ghost use Rattle.meaning.specs.Calls.{lengthOf, plainRun};
-ghost use Rattle.plain.specs.Columns.{column};
-ghost use Rattle.plain.specs.Places.{Fitting, Filling, Table, numberFrom, place, columns};
-ghost use Rattle.plain.specs.Run.{Called};
-use integers::Matrix;
+ghost use Rattle.meaning.specs.Calls.{plainRun};
+ghost use Rattle.written_order.specs.Places.{Fitting};
+ghost use Rattle.plain.specs.Call.{Called};
 use layout::SPANS;
 use meaning::Answer;
 use meaning::Description;
-use meaning::ELEMENTS;
-use meaning::Nest;
-use numbering::Extent;
-
-// ---- the places of the instances
-
-// Column i of the table: the elements of one stream, whose numbers begin at start.
-fn fill_column(n: Nest, m: Matrix, e: Extent, start: u32, i: u32, table: &mut [u32; ELEMENTS])
-    requires { ⌜ Filling n m e start i ⌝ }
-    ensures { λ r. ⌜ now (table .exit) ≡ column i (numberFrom n m start) (length (instances n)) (now (table .entry)) ⌝ }
-{
-    let count = numbering::instance_count(n);
-    let mut k: u32 = 0;
-    while k < count {
-        table[(6 * k + i) as usize] = start + numbering::number_of(n, m, e, k);
-        k += 1;
-    }
-}
-
-// The column of stream i.
-fn fill_stream(d: Description, i: u32, table: &mut [u32; ELEMENTS])
-    requires { ⌜ (Fitting d) × (i < d .sizes .streams) ⌝ }
-    ensures { λ r. ⌜ now (table .exit) ≡ column i (place d i) (length (instances (d .nest))) (now (table .entry)) ⌝ }
-{
-    let n = d.nest;
-    let s = decode::stream(d, i as usize);
-    let map = s.map;
-    let e = numbering::extent_of(n, map);
-    let start = elements::elements_in(d, i);
-    fill_column(n, map, e, start, i, table);
-}
-
-// The columns of all streams: row k then has the elements that instance k touches.
-fn fill_table(d: Description, table: &mut [u32; ELEMENTS])
-    requires { ⌜ Fitting d ⌝ }
-    ensures { λ r. ⌜ now (table .exit) ≡ columns d (d .sizes .streams) (now (table .entry)) ⌝ }
-{
-    let m = d.sizes.streams;
-    let mut i: u32 = 0;
-    while i < m {
-        fill_stream(d, i, table);
-        i += 1;
-    }
-}
-
-// ---- the run
-
-// Instance k.
-fn run_instance(d: Description, k: u32, table: &[u32], store: &mut [u32])
-    requires { ⌜ (Fitting d) × (Table d (now table)) × (k < length (instances (d .nest))) × (length (now store) ≡ lengthOf d) ⌝ }
-    ensures { λ r. ⌜ now (store .exit) ≡ execute d (getD (instances (d .nest)) k zero3) (now (store .entry)) ⌝ }
-{
-    let n = d.nest;
-    let lines = d.lines;
-    let count = d.sizes.lines;
-    let from = 6 * k as usize;
-    let to = from + d.sizes.streams as usize;
-    body::execute(
-        numbering::instance(n, k),
-        lines,
-        count,
-        store,
-        &table[from..to],
-    );
-}
-
-// All instances in the written order.
-fn run_instances(d: Description, table: &[u32], store: &mut [u32])
-    requires { ⌜ (Fitting d) × (Table d (now table)) × (length (now store) ≡ lengthOf d) ⌝ }
-    ensures { λ r. ⌜ now (store .exit) ≡ finalValues d (now (store .entry)) ⌝ }
-{
-    let n = d.nest;
-    let last = numbering::instance_count(n) - 1;
-    let mut k: u32 = 0;
-    while k <= last {
-        run_instance(d, k, table, store);
-        k += 1;
-    }
-}
-
-// The run of a description's loops, on values in element order.
-fn run_loops(d: Description, store: &mut [u32])
-    requires { ⌜ (Fitting d) × (length (now store) ≡ lengthOf d) ⌝ }
-    ensures { λ r. ⌜ now (store .exit) ≡ finalValues d (now (store .entry)) ⌝ }
-{
-    let mut table = [0; ELEMENTS];
-    fill_table(d, &mut table);
-    run_instances(d, &table, store);
-}
-
-// ---- the call
 
 // The call on an accepted description.
 fn run_accepted(d: Description, values: &[u32], output: &mut [u32]) -> Answer
@@ -121,7 +17,7 @@ fn run_accepted(d: Description, values: &[u32], output: &mut [u32]) -> Answer
     let r = declines::of_plain(e, values.len(), output.len());
     if r == 0 {
         words::store(output, 0, values);
-        run_loops(d, output);
+        written_order::run_loops(d, output);
         Answer::Done
     } else {
         Answer::Refused(r)

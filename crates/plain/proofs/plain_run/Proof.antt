@@ -5,8 +5,8 @@ use denote.Ref.{now}
 use borrow.Author.Needs.{needs}
 use Rattle.geometry.specs.UpTo.{by-board}
 use Rattle.stream_lines.specs.Accepted.{accepted-within}
-use Rattle.plain.specs.Places.{Fitting}
-use Rattle.plain.specs.Run.{accepted-fitting, accepted-call, refused-call}
+use Rattle.written_order.specs.Places.{Fitting}
+use Rattle.plain.specs.Call.{accepted-fitting, accepted-call, refused-call}
 use Rattle.plain.proofs.plain_run.Statement.{statement}
 use Rattle.plain.proofs.plain_run.Tie as tie
 

@@ -6,7 +6,7 @@ use lib.ListN.{length}
 use denote.Ref.{now}
 use borrow.Author.Needs.{needs}
 use Rattle.words.specs.Stored.{stored-all}
-use Rattle.plain.specs.Run.{own-is, lengths-are, run-done, run-refused}
+use Rattle.plain.specs.Call.{own-is, lengths-are, run-done, run-refused}
 use Rattle.plain.proofs.run_accepted.Statement.{statement}
 use Rattle.plain.proofs.run_accepted.Tie as tie
 

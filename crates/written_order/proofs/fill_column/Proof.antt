@@ -1,14 +1,14 @@
--- `plain::fill_column` meets its contract: the first k entries of the column are set. Assumes nothing.
+-- `written_order::fill_column` meets its contract: the first k entries of the column are set. Assumes nothing.
 use mathlib.Core.Path.{_≡_, sym, _∙_, ap}
 use Prim.Native.Nat.{ℕ, _≤_, _-_}
 use native.Mathlib.Omega.{arith}
 use lib.ListN.{length}
 use borrow.Author.Needs.{needs}
 use Rattle.meaning.specs.Loops.{instances}
-use Rattle.plain.specs.Columns.{column, column-zero, column-step}
-use Rattle.plain.specs.Places.{numberFrom}
-use Rattle.plain.proofs.fill_column.Statement.{statement}
-use Rattle.plain.proofs.fill_column.Tie as tie
+use Rattle.written_order.specs.Columns.{column, column-zero, column-step}
+use Rattle.written_order.specs.Places.{numberFrom}
+use Rattle.written_order.proofs.fill_column.Statement.{statement}
+use Rattle.written_order.proofs.fill_column.Tie as tie
 
 abbrev Inv-loop : tie.InvT-loop
 Inv-loop n m e start i table₀ count k₀ table k = (k ≤ length (instances n)) × (table ≡ column i (numberFrom n m start) k table₀)

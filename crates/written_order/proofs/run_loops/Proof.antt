@@ -1,12 +1,12 @@
--- `plain::run_loops` meets its contract: the columns of all streams make a table of which row k holds the elements that instance k touches.
+-- `written_order::run_loops` meets its contract: the columns of all streams make a table of which row k holds the elements that instance k touches.
 -- Assumes nothing.
 use mathlib.Core.Path.{_≡_, sym, _∙_, ap, subst}
 use Prim.Native.Nat.{ℕ}
 use lib.ListN.{length, length-map, length-replicate}
 use borrow.Author.Needs.{needs}
-use Rattle.plain.specs.Places.{Table, columns-length, columns-table}
-use Rattle.plain.proofs.run_loops.Statement.{statement}
-use Rattle.plain.proofs.run_loops.Tie as tie
+use Rattle.written_order.specs.Places.{Table, columns-length, columns-table}
+use Rattle.written_order.proofs.run_loops.Statement.{statement}
+use Rattle.written_order.proofs.run_loops.Tie as tie
 
 fill-table-requires : tie.Need-fill-table-requires
 fill-table-requires c κs = search needs

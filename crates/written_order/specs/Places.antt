@@ -29,7 +29,7 @@ use Rattle.numbering.specs.Extents.{boxed, image-inside}
 use Rattle.stream_lines.specs.InRange.{InRange, in-range}
 use Rattle.elements.specs.Counts.{Few, in-use, start-next, start-most}
 use Rattle.body.specs.Fit.{Runnable}
-use Rattle.plain.specs.Columns.{column, column-length, column-other, column-at}
+use Rattle.written_order.specs.Columns.{column, column-length, column-other, column-at}
 
 -- a description whose table of places has room for every instance
 pub record Fitting (d : Description) : Type 0 where

@@ -1,4 +1,4 @@
--- `plain::run_instances` meets its contract: what is left of the instances leads to the final values. Assumes nothing.
+-- `written_order::run_instances` meets its contract: what is left of the instances leads to the final values. Assumes nothing.
 use mathlib.Core.Path.{_≡_, refl, _∙_, ap}
 use Prim.Native.Nat.{_+_, _≤_, _-_}
 use native.Mathlib.Omega.{arith}
@@ -8,9 +8,9 @@ use Rattle.meaning.specs.Loops.{instances}
 use Rattle.meaning.specs.Body.{executeAll, finalValues}
 use Rattle.meaning.specs.Calls.{lengthOf}
 use Rattle.stream_lines.specs.InRange.{nest-bounded}
-use Rattle.plain.specs.Run.{run-next, run-end}
-use Rattle.plain.proofs.run_instances.Statement.{statement}
-use Rattle.plain.proofs.run_instances.Tie as tie
+use Rattle.written_order.specs.Run.{run-next, run-end}
+use Rattle.written_order.proofs.run_instances.Statement.{statement}
+use Rattle.written_order.proofs.run_instances.Tie as tie
 
 abbrev Inv-loop : tie.InvT-loop
 Inv-loop d table store₀ last k₀ store k =

@@ -1,12 +1,12 @@
--- `plain::fill_stream` meets its contract: the elements of stream i begin where those before it end, and all their numbers are below
+-- `written_order::fill_stream` meets its contract: the elements of stream i begin where those before it end, and all their numbers are below
 -- 24,576. Assumes nothing.
 use mathlib.Core.Path.{_≡_}
 use lib.ListN.{length, length-map}
 use borrow.Author.Needs.{needs}
 use Rattle.stream_lines.specs.InRange.{in-range}
-use Rattle.plain.specs.Places.{filling, column-is}
-use Rattle.plain.proofs.fill_stream.Statement.{statement}
-use Rattle.plain.proofs.fill_stream.Tie as tie
+use Rattle.written_order.specs.Places.{filling, column-is}
+use Rattle.written_order.proofs.fill_stream.Statement.{statement}
+use Rattle.written_order.proofs.fill_stream.Tie as tie
 
 stream-requires : tie.Need-stream-requires
 stream-requires c κs = search needs

@@ -1,14 +1,14 @@
--- `plain::run_instance` meets its contract: row k of the table holds the elements that instance k touches, so that its lines run on these.
+-- `written_order::run_instance` meets its contract: row k of the table holds the elements that instance k touches, so that its lines run on these.
 -- Assumes nothing.
 use mathlib.Core.Path.{_≡_, sym, subst₂}
 use lib.ListN.{length, length-map}
 use borrow.Author.Needs.{needs}
 use Rattle.stream_lines.specs.InRange.{nest-bounded}
 use Rattle.body.specs.Fit.{Runnable}
-use Rattle.plain.specs.Places.{lent, runnable}
-use Rattle.plain.specs.Run.{executed}
-use Rattle.plain.proofs.run_instance.Statement.{statement}
-use Rattle.plain.proofs.run_instance.Tie as tie
+use Rattle.written_order.specs.Places.{lent, runnable}
+use Rattle.written_order.specs.Run.{executed}
+use Rattle.written_order.proofs.run_instance.Statement.{statement}
+use Rattle.written_order.proofs.run_instance.Tie as tie
 
 mul-from : tie.Need-mul-from
 mul-from c = search needs

@@ -1,14 +1,14 @@
--- `plain::fill_table` meets its contract: the first i columns are filled. Assumes nothing.
+-- `written_order::fill_table` meets its contract: the first i columns are filled. Assumes nothing.
 use mathlib.Core.Path.{_≡_, refl, sym, _∙_, ap}
 use Prim.Native.Nat.{ℕ, _≤_, _-_}
 use native.Mathlib.Omega.{arith}
 use lib.ListN.{length}
 use borrow.Author.Needs.{needs}
 use Rattle.meaning.specs.Loops.{instances}
-use Rattle.plain.specs.Columns.{column}
-use Rattle.plain.specs.Places.{place, columns, columns-next}
-use Rattle.plain.proofs.fill_table.Statement.{statement}
-use Rattle.plain.proofs.fill_table.Tie as tie
+use Rattle.written_order.specs.Columns.{column}
+use Rattle.written_order.specs.Places.{place, columns, columns-next}
+use Rattle.written_order.proofs.fill_table.Statement.{statement}
+use Rattle.written_order.proofs.fill_table.Tie as tie
 
 abbrev Inv-loop : tie.InvT-loop
 Inv-loop d table₀ m i₀ table i = (i ≤ d .sizes .streams) × (table ≡ columns d i table₀)

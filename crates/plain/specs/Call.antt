@@ -1,53 +1,25 @@
--- The run of the instances one by one, and what the call answers. Assumes nothing.
-use mathlib.Core.Path.{_≡_, refl, sym, _∙_, ap, ap₂, subst}
+-- What the call answers and leaves. Assumes nothing.
+use mathlib.Core.Path.{_≡_, refl, sym, _∙_, ap, subst}
 use mathlib.Core.Bool.{cond}
 use mathlib.Core.List.{List}
-use Prim.Native.Nat.{ℕ, _+_, _*_, _-_, _≤_, _<_}
-use native.Mathlib.Numerals.{add-one}
+use Prim.Native.Nat.{ℕ}
 use lib.Dec.{eqb}
-use lib.ListN.{length, getD, take, drop, drop-of-length-le}
-use lib.Seq.{drop-cons}
+use lib.ListN.{length}
 use borrow.Author.Tests.{ne-eqb}
-use Rattle.integers.specs.Vectors.{zero3}
-use Rattle.integers.specs.declared.V3.{V3}
 use Rattle.meaning.specs.declared.Description.{Description}
 use Rattle.meaning.specs.declared.Answer.{Answer}
 use Rattle.meaning.specs.declared.Answer.the-variants.{Done, Refused}
 use Rattle.meaning.specs.declared.Limits.{Limits}
 use Rattle.meaning.specs.Tests.{Test, refusal}
 use Rattle.meaning.specs.Limits.{gaugeLimits}
-use Rattle.meaning.specs.Loops.{instances}
-use Rattle.meaning.specs.Description.{descriptionOf, linesOf}
-use Rattle.meaning.specs.Body.{execute, executeAll, finalValues}
+use Rattle.meaning.specs.Description.{descriptionOf}
+use Rattle.meaning.specs.Body.{finalValues}
 use Rattle.meaning.specs.Accept.{refusalOf}
 use Rattle.meaning.specs.Calls.{lengthOf, answer, plainRun}
 use Rattle.declines.specs.Tests.{plainLengths, plain-fits}
 use Rattle.stream_lines.specs.Accepted.{accepted-within}
 use Rattle.elements.specs.Few.{accepted-few}
-use Rattle.body.specs.Execute.{executeAt, execute-touched}
-use Rattle.plain.specs.Places.{Fitting, Table, lent}
-
--- ---- instance by instance
-
-module _ (d : Description) (xs : List V3) (k : ℕ) (store : List ℕ) where
-  pub run-next : k < length xs → executeAll d (drop (k + 1) xs) (execute d (getD xs k zero3) store) ≡ executeAll d (drop k xs) store
-  unfolding executeAll
-  run-next h = rw (add-one, drop-cons xs k zero3 h)
-
-  pub run-end : length xs ≤ k → store ≡ executeAll d (drop k xs) store
-  unfolding executeAll
-  run-end h = rw (drop-of-length-le xs h)
-
--- instance k, on its row of the table
-pub executed : (d : Description) (k : ℕ) {x : V3} (table store : List ℕ) {out : List ℕ} → Table d table → k < length (instances (d .nest))
-    → x ≡ getD (instances (d .nest)) k zero3
-    → out ≡ executeAt x (linesOf d) store (take (6 * k + d .sizes .streams - 6 * k) (drop (6 * k) table))
-    → out ≡ execute d (getD (instances (d .nest)) k zero3) store
-executed d k table store h l e o =
-    o ∙ ap₂ (λ (x : V3) (ps : List ℕ). executeAt x (linesOf d) store ps) e (lent d table k h l)
-    ∙ execute-touched d (getD (instances (d .nest)) k zero3) store
-
--- ---- what the call answers
+use Rattle.written_order.specs.Places.{Fitting}
 
 -- the call's own tests, of the lengths of values and of output
 abbrev pub ownTests : Description → ℕ → ℕ → List Test

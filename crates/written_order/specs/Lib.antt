@@ -1,0 +1,4 @@
+-- The instances run in the written order; src/lib.rt has the list.
+pub mod Columns
+pub mod Places
+pub mod Run
