@@ -2,12 +2,11 @@
 use mathlib.Core.Path.{_≡_, refl, sym, _∙_, ap}
 use mathlib.Core.Bool.{Bool, true, false, cond}
 use mathlib.Core.List.{List, [], _∷_}
-use Prim.Native.Nat.{ℕ, zero, suc, _+_, _*_, _-_, _/_, _≤_, _<_, min}
+use Prim.Native.Nat.{ℕ, zero, suc, _+_, _*_, _-_, _/_, _≤_, _<_}
 use native.Mathlib.Omega.{arith}
 use lib.Dec.{eqb}
 use lib.ListN.{length, getD}
 use borrow.Author.Tests.{eq-eqb, ne-eqb}
-use Rattle.integers.specs.Fill.{fillBy}
 use Rattle.meaning.specs.declared.Limits.{Limits}
 use Rattle.meaning.specs.declared.Answer.{Answer}
 use Rattle.meaning.specs.declared.Answer.the-variants.{Done}
@@ -18,6 +17,7 @@ use Rattle.meaning.specs.Calls.{start, step, run, readyCall, window, result}
 use Rattle.meaning.specs.Demand3.{CallStep, CallRun, CallReady, CallWindow, CallResult, Told, leaves, memoryAfter, Demand3}
 use Rattle.answer_words.specs.declared.Words.{Words}
 use Rattle.answer_words.specs.Words.{wordsOf, ofAnswer, ofRan, ofReadiness, noted}
+use Rattle.window_copy.specs.Copied.{copied}
 use Rattle.guarantee.specs.Guarantee.{guarantee}
 
 -- ---- what is lent
@@ -38,10 +38,6 @@ pub same-lent : {M M' : Memory} {ws ws' os os' ps ps' ns ns' : List ℕ} → M �
     → _≡_ {A = Lent} (record { memory = M; words = ws; output = os; part = ps; answers = ns })
     (record { memory = M'; words = ws'; output = os'; part = ps'; answers = ns' })
 same-lent a b c d e = λ i. record { memory = a i; words = b i; output = c i; part = d i; answers = e i }
-
--- values over the first places of a list, as far as there is room
-abbrev pub copied : List ℕ → List ℕ → List ℕ
-copied values to = fillBy (λ i. getD values i 0) (min (length values) (length to)) to
 
 -- ---- a call
 

@@ -5,62 +5,18 @@
 //
 // In specs/, Play says which calls words stand for, what they leave of all that is lent, and that demand 3 holds of it.
 ghost use mathlib.Core.Path.{_≡_};
-ghost use mathlib.Core.List.{[]};
-ghost use Prim.Native.Nat.{_+_, _*_, _/_, _≤_, min};
+ghost use Prim.Native.Nat.{_+_, _*_, _/_, _≤_};
 ghost use lib.ListN.{length};
 ghost use Rattle.meaning.specs.declared.Answer.the-variants.{Done};
 ghost use Rattle.meaning.specs.Limits.{limitsOf};
 ghost use Rattle.meaning.specs.Rules.{memoryOf};
-ghost use Rattle.meaning.specs.Calls.{start, window};
+ghost use Rattle.meaning.specs.Calls.{start};
 ghost use Rattle.meaning.specs.Demand3.{memoryAfter, Demand3};
-ghost use Rattle.answer_words.specs.Words.{wordsOf};
-ghost use Rattle.demand3.specs.Play.{copied, lentOf, madeOf, made, turn, playFrom, played, callsMade};
+ghost use Rattle.demand3.specs.Play.{lentOf, madeOf, made, turn, playFrom, played, callsMade};
 use answer_words::Words;
 use meaning::Answer;
 
 // ---- one call
-
-fn least(a: usize, b: usize) -> usize
-    ensures { λ r. ⌜ r ≡ min a b ⌝ }
-{
-    if a < b { a } else { b }
-}
-
-// The values go over the first places of a list, as far as there is room.
-fn copy(values: &[u32], to: &mut [u32])
-    ensures { λ r. ⌜ now (to .exit) ≡ copied (now (values .entry)) (now (to .entry)) ⌝ }
-{
-    let n = least(values.len(), to.len());
-    let mut i = 0;
-    while i < n {
-        to[i] = values[i];
-        i += 1;
-    }
-}
-
-// The part that Window hands back is copied; its answer in words.
-fn see<'a>(
-    board: u32,
-    s: &[u8],
-    pipe: u32,
-    side: u32,
-    part: &mut [u32],
-    waiting: &'a [u32],
-    received: &'a [u32],
-) -> Words
-    ensures { λ r. ⌜ (now (part .exit) ≡ copied
-        (window (limitsOf board) (now (s .entry)) pipe side (now (waiting .entry)) (now (received .entry)) .part) (now (part .entry)))
-        × (r ≡ wordsOf (window (limitsOf board) (now (s .entry)) pipe side (now (waiting .entry)) (now (received .entry)) .refusal) []) ⌝ }
-{
-    let mut number: u32 = 0;
-    let seen = window::window(board, s, pipe, side, waiting, received, &mut number);
-    copy(seen, part);
-    Words {
-        number: number,
-        first: 0,
-        second: 0,
-    }
-}
 
 // The k-th call is made; its answer in words.
 fn make_call(
@@ -94,7 +50,7 @@ fn make_call(
         )),
         1 => answer_words::of_ran(run::run(board, s, calls[5 * k + 1], waiting, received, state)),
         2 => answer_words::of_readiness(ready::ready(board, s, words, waiting, received, state)),
-        3 => see(
+        3 => window_copy::see(
             board,
             s,
             calls[5 * k + 1],

@@ -1,4 +1,4 @@
--- `demand3::copy` meets its contract: after i turns the first i values are there. Assumes nothing.
+-- `window_copy::copy` meets its contract: after i turns the first i values are there. Assumes nothing.
 use mathlib.Core.Path.{_≡_, refl, sym, _∙_}
 use Prim.Native.Nat.{_-_, _≤_, min}
 use native.Mathlib.Omega.{arith}
@@ -6,8 +6,8 @@ use lib.ListN.{length, getD, length-set}
 use denote.Ref.{now}
 use borrow.Author.Needs.{needs}
 use Rattle.integers.specs.Fill.{fillBy, fill-zero, fill-step, fill-done}
-use Rattle.demand3.proofs.copy.Statement.{statement}
-use Rattle.demand3.proofs.copy.Tie as tie
+use Rattle.window_copy.proofs.copy.Statement.{statement}
+use Rattle.window_copy.proofs.copy.Tie as tie
 
 abbrev Inv-loop : tie.InvT-loop
 Inv-loop values to₀ n i₀ to i = (i ≤ n) × (length to ≡ length to₀) × (to ≡ fillBy (λ i. getD values i 0) i to₀)

@@ -1,13 +1,13 @@
--- `demand3::see` meets its contract: an answer without values is its number and two zeros. Assumes nothing.
+-- `window_copy::see` meets its contract: an answer without values is its number and two zeros. Assumes nothing.
 use mathlib.Core.Path.{_∙_, ap}
 use mathlib.Core.List.{List, []}
 use Prim.Native.Nat.{ℕ}
 use denote.Ref.{now}
 use borrow.Author.Needs.{needs}
 use Rattle.answer_words.specs.Words.{wordsOf}
-use Rattle.demand3.specs.Play.{copied}
-use Rattle.demand3.proofs.see.Statement.{statement}
-use Rattle.demand3.proofs.see.Tie as tie
+use Rattle.window_copy.specs.Copied.{copied}
+use Rattle.window_copy.proofs.see.Statement.{statement}
+use Rattle.window_copy.proofs.see.Tie as tie
 
 window-requires : tie.Need-window-requires
 window-requires c κs = search needs

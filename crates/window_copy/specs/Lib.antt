@@ -1,0 +1,2 @@
+-- Values copied into a list.
+pub mod Copied
