@@ -1,13 +1,13 @@
 -- Where the element that an instance touches waits: in the part of the entry of its process's line, at its index there. Assumes a
 -- description that is not refused.
-use mathlib.Core.Path.{_≡_, refl, sym, _∙_, ap, ap₂, subst}
+use mathlib.Core.Path.{_≡_, sym, _∙_, ap, ap₂, subst}
 use mathlib.Core.List.{List, [], _∷_}
-use Prim.Native.Nat.{ℕ, suc, _+_, _-_, _*_, _≤_, _<_}
+use Prim.Native.Nat.{ℕ, suc, _+_, _-_, _≤_, _<_}
 use native.Mathlib.Omega.{arith}
 use native.Mathlib.Decide.{decLe}
 use lib.Dec.{eqb}
 use lib.ListN.{length, getD}
-use lib.Seq.{getD-take, take-take}
+use lib.Seq.{getD-take}
 use Rattle.integers.specs.Vectors.{zero2, zero3, image}
 use Rattle.integers.specs.declared.V3.{V3}
 use Rattle.integers.specs.declared.V2.{V2}
@@ -41,9 +41,8 @@ use Rattle.addresses.specs.Through.{entryNumber as entryRank, entry-lt, entry-r
 use Rattle.addresses.specs.Ends.{number-lt}
 use Rattle.addresses.specs.Orders.{found-at, touchedPipe, touchedIndex, place-inside, place-on-pipe, touched-lt, touched-waits}
 use Rattle.lanes.specs.Held.{entryNumber}
-use Rattle.elements.specs.Counts.{total-most}
 use Rattle.pipe_parts.specs.Starts.{entering, startAt}
-use Rattle.figures.specs.Shares.{Described, described}
+use Rattle.figures.specs.Shares.{Described, described, start-most}
 use Rattle.element_places.specs.Spread.{spread, spread-length, spread-keeps, spread-puts}
 
 -- ---- of instance k
@@ -171,16 +170,11 @@ module _ (d : Description) (h : Described d) where
       ap (streamStart (d .nest) (streamsOf d)) e
       ∙ total-next (λ s. length (elements (d .nest) s)) (streamsOf d) i noStream (omega (arith, h .in-use))
 
-  start-most : (i : ℕ) → i ≤ d .sizes .streams → streamStart (d .nest) (streamsOf d) i ≤ i * 4096
-  start-most i l =
-      total-most (λ s. length (elements (d .nest) s)) (streamsOf d) i 4096 noStream (omega (arith, h .in-use))
-      (λ j k. h .few .few j (omega (arith, h .in-use)))
-
   -- there is room for the elements of each stream
   pub stream-fits : (i : ℕ) → i < d .sizes .streams → {c : ℕ} → c ≡ 24576
       → streamStart (d .nest) (streamsOf d) i + length (elements (d .nest) (streamAt d i)) ≤ c
   stream-fits i l e =
-      omega (arith, start-most i (omega arith), h .few .few i (omega (arith, h .in-use)), h .few .ranged .sized .most-streams)
+      omega (arith, start-most d h i (omega arith), h .few .few i (omega (arith, h .in-use)), h .few .ranged .sized .most-streams)
 
 pub none-before : (d : Description) (e : ℕ) → e < streamStart (d .nest) (streamsOf d) 0 → ⊥
 unfolding total
@@ -189,17 +183,6 @@ none-before d e l = go (streamsOf d) l
     go : (ss : List Stream) → e < streamStart (d .nest) ss 0 → ⊥
     go [] l = omega arith
     go (t ∷ ss) l = omega arith
-
-pub start-all : (d : Description) (i : ℕ) → i ≡ d .sizes .streams → streamStart (d .nest) (streamsOf d) i ≡ lengthOf d
-start-all d i e =
-    ap (streamStart (d .nest) (streamsOf d)) e
-    ∙ ap (total (λ s. length (elements (d .nest) s))) (take-take (d .sizes .streams) (d .sizes .streams) (d .streams) (omega arith))
-
--- the elements are few
-pub elements-most : {d : Description} → Described d → lengthOf d ≤ 24576
-elements-most {d} h =
-    omega
-    (arith, start-all d (d .sizes .streams) refl, start-most d h (d .sizes .streams) (omega arith), h .few .ranged .sized .most-streams)
 
 -- stream i, as it is read
 pub stream-of : (d : Description) (i : ℕ) {s : Stream} → i < d .sizes .streams → s ≡ getD (d .streams) i noStream → s ≡ streamAt d i

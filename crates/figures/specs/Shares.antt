@@ -17,6 +17,7 @@ use Rattle.meaning.specs.Space.{processes}
 use Rattle.meaning.specs.Streams.{hop, elements}
 use Rattle.meaning.specs.Pipes.{entries}
 use Rattle.meaning.specs.Description.{descriptionOf, streamsOf, noStream}
+use Rattle.meaning.specs.Body.{streamStart}
 use Rattle.meaning.specs.Calls.{lengthOf}
 use Rattle.meaning.specs.Accept.{refusalOf, figures}
 use Rattle.numbering.specs.Ranges.{Bounded}
@@ -121,6 +122,26 @@ described s e =
       in-use = streams-used s;
       streams = λ i h. record { laid = laid-stream s e i h; hop = a .1 .stream i h .hop (omega arith); elements = f .few i h };
     }
+
+-- ---- where a stream's elements begin
+
+pub start-most : (d : Description) → Described d → (i : ℕ) → i ≤ d .sizes .streams → streamStart (d .nest) (streamsOf d) i ≤ i * 4096
+start-most d h i l =
+    total-most (λ s. length (elements (d .nest) s)) (streamsOf d) i 4096 noStream (omega (arith, h .in-use))
+    (λ j k. h .few .few j (omega (arith, h .in-use)))
+
+pub start-all : (d : Description) (i : ℕ) → i ≡ d .sizes .streams → streamStart (d .nest) (streamsOf d) i ≡ lengthOf d
+start-all d i e =
+    ap (streamStart (d .nest) (streamsOf d)) e
+    ∙ ap (total (λ s. length (elements (d .nest) s))) (take-take (d .sizes .streams) (d .sizes .streams) (d .streams) (omega arith))
+
+-- the elements are few
+pub elements-most : {d : Description} → Described d → lengthOf d ≤ 24576
+elements-most {d} h =
+    omega
+    (arith, start-all d (d .sizes .streams) refl, start-most d h (d .sizes .streams) (omega arith), h .few .ranged .sized .most-streams)
+
+-- ---- the figures
 
 same-share : {a b : Share} → a .hop ≡ b .hop → a .pipes ≡ b .pipes → a .steps ≡ b .steps → a ≡ b
 same-share e f g = λ i. record { hop = e i; pipes = f i; steps = g i }

@@ -20,8 +20,7 @@ use Rattle.network.specs.Wiring.{Wired, stop-pipe}
 use Rattle.guarantee.specs.Wired.{wired}
 use Rattle.addresses.specs.Indices.{process-count, stream-count, word-count}
 use Rattle.stream_lines.specs.StateWords.{process-words}
-use Rattle.figures.specs.Shares.{Room, totalsOver, Described, described, totals-room, totals-all}
-use Rattle.element_places.specs.Order.{elements-most}
+use Rattle.figures.specs.Shares.{Room, totalsOver, Described, described, totals-room, totals-all, elements-most}
 use Rattle.ports.specs.Layout.{Regular}
 use Rattle.sound_rows.specs.Rows.{Single}
 use Rattle.port_table.specs.declared.Size.{Size}

@@ -14,7 +14,8 @@ use Rattle.lists.specs.Members.{map-at, numbers-length, numbers-at}
 use Rattle.geometry.specs.Places.{found}
 use Rattle.geometry.specs.PipeOrder.{numbers-all, list-length}
 use Rattle.addresses.specs.Orders.{found-at}
-use Rattle.element_places.specs.Order.{PlacesOf, Placeable, placeOfElement, elements-most}
+use Rattle.figures.specs.Shares.{elements-most}
+use Rattle.element_places.specs.Order.{PlacesOf, Placeable, placeOfElement}
 
 -- the value at the place of element e
 abbrev pub placed : List ℕ → List ℕ → ℕ → ℕ

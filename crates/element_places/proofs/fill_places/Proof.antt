@@ -6,7 +6,8 @@ use native.Mathlib.Omega.{arith}
 use lib.ListN.{length, getD}
 use Rattle.meaning.specs.Description.{streamsOf}
 use Rattle.meaning.specs.Body.{streamStart}
-use Rattle.element_places.specs.Order.{placeOfElement, none-before, next-right, start-all}
+use Rattle.figures.specs.Shares.{start-all}
+use Rattle.element_places.specs.Order.{placeOfElement, none-before, next-right}
 use Rattle.element_places.specs.Fired.{stream-streaming}
 use Rattle.element_places.proofs.fill_places.Statement.{statement}
 use Rattle.element_places.proofs.fill_places.Tie as tie

@@ -1,5 +1,5 @@
--- `written_order::fill_stream` meets its contract: the elements of stream i begin where those before it end, and all their numbers are below
--- 24,576. Assumes nothing.
+-- `written_order::fill_stream` meets its contract: the elements of stream i begin where those before it end, and all their numbers are
+-- below 24,576. Assumes nothing.
 use mathlib.Core.Path.{_≡_}
 use lib.ListN.{length, length-map}
 use borrow.Author.Needs.{needs}

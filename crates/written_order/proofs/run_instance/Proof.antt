@@ -1,5 +1,5 @@
--- `written_order::run_instance` meets its contract: row k of the table holds the elements that instance k touches, so that its lines run on these.
--- Assumes nothing.
+-- `written_order::run_instance` meets its contract: row k of the table holds the elements that instance k touches, so that its lines run on
+-- these. Assumes nothing.
 use mathlib.Core.Path.{_≡_, sym, subst₂}
 use lib.ListN.{length, length-map}
 use borrow.Author.Needs.{needs}

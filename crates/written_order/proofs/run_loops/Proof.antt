@@ -1,5 +1,5 @@
--- `written_order::run_loops` meets its contract: the columns of all streams make a table of which row k holds the elements that instance k touches.
--- Assumes nothing.
+-- `written_order::run_loops` meets its contract: the columns of all streams make a table of which row k holds the elements that instance k
+-- touches. Assumes nothing.
 use mathlib.Core.Path.{_≡_, sym, _∙_, ap, subst}
 use Prim.Native.Nat.{ℕ}
 use lib.ListN.{length, length-map, length-replicate}
