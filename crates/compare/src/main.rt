@@ -294,7 +294,7 @@ fn print_visits(walk: &[i32], coordinates: usize, small: bool)
 fn walk_lines(board: u32, s: &[u8], small: bool) {
     let mut spans = [0u32; SPANS];
     let mut walk = [0i32; WALK];
-    let refusal = refuse::walk_of(board, s, &mut spans, &mut walk);
+    let refusal = walkable::walk_of(board, s, &mut spans, &mut walk);
     print(b"walk");
     print_number(refusal);
     if refusal == 0 {

@@ -69,7 +69,7 @@ fn print_whole(n: Nest, walk: &[i32], loops: u32)
 fn print_walk(board: u32, s: &[u8]) {
     let mut spans = [0u32; SPANS];
     let mut walk = [0i32; WALK];
-    let refusal = refuse::walk_of(board, s, &mut spans, &mut walk);
+    let refusal = walkable::walk_of(board, s, &mut spans, &mut walk);
     if refusal == 0 {
         let n = decode::description(s).nest;
         print_whole(n, &walk, integers::bits_at(s, 0));

@@ -41,7 +41,7 @@ fn refusal_of_words(s: &[u8], z: Sizes) -> u32
     if word_refused(s, z) {
         4
     } else {
-        if word_ranges::bound_refused(decode::nest(s, z)) {
+        if word_ranges::bound_refused(decode_nest::nest(s, z)) {
             5
         } else {
             0

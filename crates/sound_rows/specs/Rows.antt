@@ -19,7 +19,8 @@ use Rattle.ports.specs.Ends.{endOf}
 use Rattle.ports.specs.Layout.{Regular}
 use Rattle.ports.specs.Places.{pipe, place, pipe-on, place-on}
 use Rattle.ports.specs.Rows.{offPort, rowOf}
-use Rattle.take_give.specs.Moves.{takes, fillInto, canTake, gives, fillOutOf, canGive}
+use Rattle.port_tests.specs.Allowed.{takes, gives}
+use Rattle.take_give.specs.Moves.{fillInto, canTake, fillOutOf, canGive}
 use Rattle.fire.specs.Firing.{noPort}
 use Rattle.fire.specs.FiringMeaning.{UsesOf, port-uses, ProcessIs}
 use Rattle.sound_rows.specs.Sound.{linkHolds, handHolds, portHolds, portSound, endSound}

@@ -1,24 +1,13 @@
 -- Take and give as functions of a state's words, as the code carries them out. Assumes nothing.
-use mathlib.Core.Path.{_≡_, refl}
-use mathlib.Core.Bool.{Bool, true, false, cond, _&&_, _||_}
+use mathlib.Core.Path.{_≡_}
+use mathlib.Core.Bool.{Bool, true}
 use mathlib.Core.List.{List}
 use Prim.Native.Nat.{ℕ, _+_, _-_, _≤_, _<_}
 use native.Mathlib.Omega.{arith}
-use lib.Dec.{eqb, leb, ltb}
 use lib.ListN.{set}
-use borrow.Author.Tests.{ltb-true, eqb-true}
 use Rattle.ports.specs.declared.Port.{Port}
-use Rattle.lists.specs.Tests.{both-true}
 use Rattle.ports.specs.Links.{word, fillAt, movedDown}
-
--- ---- take: n elements stand in the link into the port, x were taken and y given
-
-unfoldable pub takes : Bool → ℕ → ℕ → ℕ → Bool
-takes keeps n x y = ltb 0 n && cond keeps (eqb x 0 || eqb x (y + 1)) (eqb x y)
-
--- counted from `at`, the keep is word 3 and the hand word 2
-unfoldable pub takesTo : Bool → ℕ → ℕ
-takesTo keeps x = cond (keeps && eqb x 0) 3 2
+use Rattle.port_tests.specs.Allowed.{takes, takesTo, takes-some, gives, givesFrom, gives-facts}
 
 abbrev pub fillInto : List ℕ → Port → ℕ
 fillInto l k = fillAt l (k .before) (k .at) (k .hop)
@@ -32,20 +21,6 @@ taken l k =
     (set (movedDown l (k .at + 4) (fillInto l k - 1)) (k .at + takesTo (k .keeps) (word l (k .at))) (word l (k .at + 4)))
     (k .at)
     (word l (k .at) + 1)
-
--- ---- give: n elements stand in the link out of the port, x were taken and y given, f instances have fired
-
-unfoldable pub passes : ℕ → ℕ → ℕ → ℕ → ℕ → Bool
-passes soak count x y f = eqb x (y + 1) && (ltb y soak || leb (soak + count) y || ltb y (soak + f))
-
-unfoldable pub releases : ℕ → ℕ → ℕ → ℕ → ℕ → Bool
-releases total count x y f = eqb x (y + 2) || (eqb x (y + 1) && eqb x total && eqb f count)
-
-unfoldable pub gives : Port → ℕ → ℕ → ℕ → ℕ → Bool
-gives k n x y f = ltb n (k .hop) && cond (k .keeps) (releases (k .total) (k .count) x y f) (passes (k .soak) (k .count) x y f)
-
-unfoldable pub givesFrom : Bool → ℕ → ℕ → ℕ
-givesFrom keeps x y = cond (keeps && eqb x (y + 1)) 3 2
 
 abbrev pub fillOutOf : List ℕ → Port → ℕ
 fillOutOf l k = fillAt l (k .at + 1) (k .after) (k .hop)
@@ -66,29 +41,7 @@ given l k =
 
 pub take-facts : (l : List ℕ) (k : Port) → canTake l k ≡ true
     → (0 < fillInto l k) × (fillInto l k ≤ k .hop) × (word l (k .at) < word l (k .before))
-unfolding takes
-take-facts l k h = let z : 0 < fillInto l k = ltb-true _ _ (both-true _ _ h .0) in omega arith
-
-passes-facts : (soak count x y f : ℕ) → passes soak count x y f ≡ true → y < x
-unfolding passes
-passes-facts soak count x y f h = omega (arith, eqb-true x (y + 1) (both-true _ _ h .0))
-
-releases-facts : (total count x y f : ℕ) → releases total count x y f ≡ true → y < x
-unfolding releases
-releases-facts total count x y f = go (eqb x (y + 2)) _ refl refl
-  where
-    go : (a b : Bool) → eqb x (y + 2) ≡ a → (eqb x (y + 1) && eqb x total && eqb f count) ≡ b → (a || b) ≡ true → y < x
-    go true b e d h = omega (arith, eqb-true x (y + 2) e)
-    go false true e d h = omega (arith, eqb-true x (y + 1) (both-true _ _ (both-true _ _ d .0) .0))
-    go false false e d h = absurd (let z : _≡_ {A = ℕ} 0 1 = cc in omega arith)
-
-gives-facts : (k : Port) (n x y f : ℕ) → gives k n x y f ≡ true → (n < k .hop) × (y < x)
-unfolding gives
-gives-facts k n x y f h = let z = both-true _ _ h in (ltb-true _ _ (z .0), go (k .keeps) (z .1))
-  where
-    go : (b : Bool) → cond b (releases (k .total) (k .count) x y f) (passes (k .soak) (k .count) x y f) ≡ true → y < x
-    go true h = releases-facts _ _ x y f h
-    go false h = passes-facts _ _ x y f h
+take-facts l k h = let z : 0 < fillInto l k = takes-some (k .keeps) _ _ _ h in omega arith
 
 pub give-facts : (l : List ℕ) (k : Port) → canGive l k ≡ true → (fillOutOf l k < k .hop) × (word l (k .at + 1) < word l (k .at))
 give-facts l k = gives-facts k _ _ _ _

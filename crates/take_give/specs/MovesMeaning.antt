@@ -18,8 +18,8 @@ use Rattle.ports.specs.Links.{word, filled, movedDown, move-before}
 use Rattle.ports.specs.Ports.{PortIs}
 use Rattle.ports.specs.Layout.{Regular, give-apart}
 use Rattle.ports.specs.LinksMeaning.{Bounded, fill-cut, place-at, move-is, count-up, held, held-past}
-use Rattle.take_give.specs.Moves.{takes, takesTo, fillInto, canTake, taken, passes, releases, gives, givesFrom, fillOutOf, canGive}
-use Rattle.take_give.specs.Moves.{given, give-facts}
+use Rattle.port_tests.specs.Allowed.{takes, takesTo, passes, releases, gives, givesFrom}
+use Rattle.take_give.specs.Moves.{fillInto, canTake, taken, fillOutOf, canGive, given, give-facts}
 
 -- ---- the tests
 

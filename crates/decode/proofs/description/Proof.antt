@@ -12,7 +12,7 @@ sizes-requires : tie.Need-sizes-requires
 sizes-requires c κs = search needs
 
 nest-requires : tie.Need-nest-requires
-nest-requires c κs = subst (λ (z : Sizes). Sized z) (sym (c .sizes .ensures)) (c .before .before .pre)
+nest-requires c κs = subst (λ (z : Sizes). Sized z) (sym (c .sizes .ensures)) (c .before .before .pre) .most-loops
 
 streams-requires : tie.Need-streams-requires
 streams-requires c κs = subst (λ (z : Sizes). Sized z) (sym (c .before .sizes .ensures)) (c .before .before .before .pre)
