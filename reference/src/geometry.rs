@@ -73,8 +73,8 @@ impl Nest {
     /// Works out the nest of a description; declines by 6 to 10.
     pub fn of(description: &Description, limits: &Limits) -> Result<Nest, Refusal> {
         demand(number_of_instances(description) <= limits.instances, 6)?;
-        let instances = instances(description);
         let increment = increment(description)?;
+        let instances = instances(description);
         let processes = processes(description, &instances, limits)?;
         Ok(Nest {
             description: description.clone(),
@@ -207,8 +207,8 @@ impl Process {
 
 // Streams.
 
-/// The streams, lowest first; declines by 11 to 17.
-fn streams(
+/// The streams, lowest first, over the nest's walk; declines by 11 to 17.
+pub fn streams(
     description: &Description,
     walk: &[Point],
     limits: &Limits,

@@ -6,8 +6,10 @@ use crate::calls::Calls;
 use crate::description::{bytes_of, Description, Matrix};
 use crate::designs;
 use crate::divisor::shorten;
-use crate::geometry::Array;
+use crate::geometry::{streams, Nest};
 use crate::random::Random;
+use crate::vectors::Point;
+use crate::walk::walk;
 use crate::Refusal;
 
 /// The most processes of a small array.
@@ -34,6 +36,7 @@ pub fn filled(
     streams: usize,
     map: impl Fn(&mut Random, &Description) -> Matrix,
 ) -> Option<Description> {
+    let walk = walk(&Nest::of(&nest, &Limits::GAUGE).ok()?);
     let mut description = nest;
     description.body = body(random, &description, streams);
     let mut found = Vec::new();
@@ -41,6 +44,7 @@ pub fn filled(
         found.push(stream(
             random,
             &description,
+            &walk,
             description.written(number),
             &map,
         )?);
@@ -85,9 +89,9 @@ pub fn laid_out(
         loading: Vec::new(),
         body: Vec::new(),
     };
-    let array = Array::of(&nest, &Limits::GAUGE);
-    array
-        .is_ok_and(|array| array.processes.len() <= most)
+    let fits = |nest: Nest| nest.processes.len() <= most;
+    Nest::of(&nest, &Limits::GAUGE)
+        .is_ok_and(fits)
         .then_some(nest)
 }
 
@@ -145,18 +149,19 @@ pub fn guard(random: &mut Random, nest: &Description) -> Guard {
 fn stream(
     random: &mut Random,
     nest: &Description,
+    walk: &[Point],
     written: bool,
     map: impl Fn(&mut Random, &Description) -> Matrix,
 ) -> Option<(Matrix, Vec<i32>)> {
     for _ in 0..60 {
         let map = map(random, nest);
         let still = vec![0; nest.loops() - 1];
-        let loading = match tried(nest, &map, &still, written) {
-            Ok(()) => still,
+        let loading = match tried(nest, walk, &map, &still, written) {
+            Ok(()) => return Some((map, still)),
             Err(Refusal(16)) => random.words(still.len(), -1, 1),
             Err(_) => continue,
         };
-        if tried(nest, &map, &loading, written).is_ok() {
+        if tried(nest, walk, &map, &loading, written).is_ok() {
             return Some((map, loading));
         }
     }
@@ -183,14 +188,20 @@ pub fn map_of_place(random: &mut Random, nest: &Description) -> Matrix {
     rows
 }
 
-/// What Accept says of a nest with one stream.
-fn tried(nest: &Description, map: &Matrix, loading: &[i32], written: bool) -> Result<(), Refusal> {
+/// What Accept says of a nest with one stream; the walk is the nest's.
+fn tried(
+    nest: &Description,
+    walk: &[Point],
+    map: &Matrix,
+    loading: &[i32],
+    written: bool,
+) -> Result<(), Refusal> {
     let target = usize::from(!written);
     let mut description = nest.clone();
     description.maps = vec![map.clone()];
     description.loading = vec![loading.to_vec()];
     description.body = vec![Line::always(Operation::Copy, target, 0, 0)];
-    Array::of(&description, &Limits::GAUGE).map(|_| ())
+    streams(&description, walk, &Limits::GAUGE).map(|_| ())
 }
 
 /// A description near the limits of refusals 6 and 10 on a board, on either side.
