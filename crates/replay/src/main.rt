@@ -89,7 +89,7 @@ fn print_readiness(answer: Readiness, words: &[u64]) {
     }
 }
 
-// ---- the calls, each on as much of the lists as is lent
+// ---- the calls
 
 fn accept_line(board: u32, s: &[u8]) -> Lent {
     let answer = accept::accept(board, s);
@@ -133,24 +133,11 @@ fn step_line(
     board: u32,
     s: &[u8],
     c: Call,
-    l: Lent,
     waiting: &[u32],
     received: &mut [u32],
     state: &mut [u32],
 ) {
-    let w = script::part_of(waiting, l.waiting);
-    let r = script::part_of(received, l.received);
-    let n = script::part_of(state, l.state);
-    let answer = step::step(
-        board,
-        s,
-        c.a,
-        c.b,
-        c.c,
-        &waiting[..w],
-        &mut received[..r],
-        &mut state[..n],
-    );
+    let answer = step::step(board, s, c.a, c.b, c.c, waiting, received, state);
     print_answer(b"step", answer);
 }
 
@@ -158,51 +145,30 @@ fn run_line(
     board: u32,
     s: &[u8],
     steps: u32,
-    l: Lent,
     waiting: &[u32],
     received: &mut [u32],
     state: &mut [u32],
 ) {
-    let w = script::part_of(waiting, l.waiting);
-    let r = script::part_of(received, l.received);
-    let n = script::part_of(state, l.state);
-    let answer = run::run(
-        board,
-        s,
-        steps,
-        &waiting[..w],
-        &mut received[..r],
-        &mut state[..n],
-    );
+    let answer = run::run(board, s, steps, waiting, received, state);
     print_ran(answer);
 }
 
 fn ready_call(
     board: u32,
     s: &[u8],
-    l: Lent,
+    length: u32,
     words: &mut [u64],
     waiting: &[u32],
     received: &[u32],
     state: &[u32],
 ) -> Readiness {
-    let w = script::part_of(waiting, l.waiting);
-    let r = script::part_of(received, l.received);
-    let n = script::part_of(state, l.state);
-    let k = script::part_of_masks(words, l.ready);
-    ready::ready(
-        board,
-        s,
-        &mut words[..k],
-        &waiting[..w],
-        &received[..r],
-        &state[..n],
-    )
+    let k = script::part_of_masks(words, length);
+    ready::ready(board, s, &mut words[..k], waiting, received, state)
 }
 
-fn ready_line(board: u32, s: &[u8], l: Lent, waiting: &[u32], received: &[u32], state: &[u32]) {
+fn ready_line(board: u32, s: &[u8], length: u32, waiting: &[u32], received: &[u32], state: &[u32]) {
     let mut words = [7u64; 32];
-    let answer = ready_call(board, s, l, &mut words, waiting, received, state);
+    let answer = ready_call(board, s, length, &mut words, waiting, received, state);
     print_readiness(answer, &words);
 }
 
@@ -211,22 +177,11 @@ fn window_line<'a>(
     s: &[u8],
     pipe: u32,
     side: u32,
-    l: Lent,
     waiting: &'a [u32],
     received: &'a [u32],
 ) {
-    let w = script::part_of(waiting, l.waiting);
-    let r = script::part_of(received, l.received);
     let mut number: u32 = 0;
-    let part = window::window(
-        board,
-        s,
-        pipe,
-        side,
-        &waiting[..w],
-        &received[..r],
-        &mut number,
-    );
+    let part = window::window(board, s, pipe, side, waiting, received, &mut number);
     if number == 0 {
         text::print_words(b"window", part);
     } else {
@@ -237,37 +192,33 @@ fn window_line<'a>(
 fn result_call(
     board: u32,
     s: &[u8],
-    l: Lent,
+    length: u32,
     output: &mut [u32],
     waiting: &[u32],
     received: &[u32],
     state: &[u32],
 ) -> Answer {
-    let w = script::part_of(waiting, l.waiting);
-    let r = script::part_of(received, l.received);
-    let n = script::part_of(state, l.state);
-    let k = script::part_of(output, l.output);
-    result::result(
-        board,
-        s,
-        &mut output[..k],
-        &waiting[..w],
-        &received[..r],
-        &state[..n],
-    )
+    let k = script::part_of(output, length);
+    result::result(board, s, &mut output[..k], waiting, received, state)
 }
 
-fn result_line(board: u32, s: &[u8], l: Lent, waiting: &[u32], received: &[u32], state: &[u32]) {
+fn result_line(
+    board: u32,
+    s: &[u8],
+    length: u32,
+    waiting: &[u32],
+    received: &[u32],
+    state: &[u32],
+) {
     let mut output = [7u32; VALUES];
-    let answer = result_call(board, s, l, &mut output, waiting, received, state);
-    print_list(b"result", answer, &output, l.output);
+    let answer = result_call(board, s, length, &mut output, waiting, received, state);
+    print_list(b"result", answer, &output, length);
 }
 
 // A word of the lent state is written, if there is one.
-fn poke(l: Lent, word: u32, value: u32, state: &mut [u32]) {
-    let n = script::part_of(state, l.state);
+fn poke(word: u32, value: u32, state: &mut [u32]) {
     let k = word as usize;
-    if k < n {
+    if k < state.len() {
         state[k] = value;
     }
 }
@@ -286,17 +237,18 @@ fn ask<'a>(
 ) {
     let number = c.number;
     match number {
-        2 => ready_line(board, s, l, waiting, received, state),
-        3 => window_line(board, s, c.a, c.b, l, waiting, received),
-        4 => result_line(board, s, l, waiting, received, state),
-        5 => print_part(b"state", state, l.state),
-        6 => print_part(b"received", received, l.received),
+        2 => ready_line(board, s, l.ready, waiting, received, state),
+        3 => window_line(board, s, c.a, c.b, waiting, received),
+        4 => result_line(board, s, l.output, waiting, received, state),
+        5 => text::print_words(b"state", state),
+        6 => text::print_words(b"received", received),
         8 => text::print_text(b"lend"),
         _ => {}
     }
 }
 
-fn play_call(
+// A call on the lists that are lent.
+fn call_on(
     board: u32,
     s: &[u8],
     c: Call,
@@ -307,19 +259,43 @@ fn play_call(
 ) {
     let number = c.number;
     if number == 0 {
-        step_line(board, s, c, l, waiting, received, state);
+        step_line(board, s, c, waiting, received, state);
         return;
     }
     if number == 1 {
-        run_line(board, s, c.a, l, waiting, received, state);
+        run_line(board, s, c.a, waiting, received, state);
         return;
     }
     if number == 7 {
-        poke(l, c.a, c.b, state);
+        poke(c.a, c.b, state);
         text::print_text(b"poke");
         return;
     }
     ask(board, s, c, l, waiting, received, state);
+}
+
+// The same on as much of the lists as is lent.
+fn play_call(
+    board: u32,
+    s: &[u8],
+    c: Call,
+    l: Lent,
+    waiting: &[u32],
+    received: &mut [u32],
+    state: &mut [u32],
+) {
+    let w = script::part_of(waiting, l.waiting);
+    let r = script::part_of(received, l.received);
+    let n = script::part_of(state, l.state);
+    call_on(
+        board,
+        s,
+        c,
+        l,
+        &waiting[..w],
+        &mut received[..r],
+        &mut state[..n],
+    );
 }
 
 // The lengths after a call.

@@ -54,7 +54,12 @@ fn fill_nest(n: Nest, spans: &mut [u32; SPANS], walk: &mut [i32; WALK])
 }
 
 // The same of a description, if there is no such refusal, else they stay.
-pub fn walk_within(s: &[u8], limits: Limits, spans: &mut [u32; SPANS], walk: &mut [i32; WALK]) -> u32
+pub fn walk_within(
+    s: &[u8],
+    limits: Limits,
+    spans: &mut [u32; SPANS],
+    walk: &mut [i32; WALK],
+) -> u32
     requires { ⌜ UpTo limits gaugeLimits ⌝ }
     ensures { λ r. ⌜ (r ≡ walkRefusal limits (now (s .entry)))
         × (r ≡ 0 → (Spans (descriptionOf (now (s .entry)) .nest) (now (spans .exit)))
