@@ -1,5 +1,5 @@
-// Refusals 33 and 1 to 10, those in which no stream has a part: what none of them refuses has a walk. Then the words of the processes and of
-// the walk are filled, once for all streams.
+// Refusals 33 and 1 to 10, those in which no stream has a part: what none of them refuses has a walk. Then the words of the processes and
+// of the walk are filled, once for all streams.
 ghost use mathlib.Core.Path.{_≡_};
 ghost use mathlib.Core.List.{[], _∷_};
 ghost use Rattle.meaning.specs.Tests.{_if_, refusal};
