@@ -1,2 +1,3 @@
 -- The words of answers; src/lib.rt has more.
 pub mod Words
+pub mod Kept

@@ -1,12 +1,20 @@
 // How the answers of the calls lie in words: the number by which a call declines, 0 if it does not, and then its values, at most two, 0
 // where there are none.
 //
-// specs/: Words, what the words of an answer are, by `Answers` of meaning.
+// specs/, by file, all by `Answers` of meaning:
+//
+//   Words     what the words of an answer are
+//   Kept      what an answer leaves in lent words
 ghost use mathlib.Core.Path.{_≡_};
+ghost use mathlib.Core.List.{[], _∷_};
 ghost use lib.ListN.{set};
-ghost use Rattle.meaning.specs.Answers.{answerNumber};
+ghost use Rattle.meaning.specs.Answers.{acceptNumber, acceptValues, answerNumber, ranNumber, ranValues, readyNumber, readyValues};
 ghost use Rattle.answer_words.specs.Words.{ofAnswer, ofRan, ofReadiness, noted};
+ghost use Rattle.answer_words.specs.Kept.{orKept};
+use meaning::Acceptance;
 use meaning::Answer;
+use meaning::Divisors;
+use meaning::Figures;
 use meaning::Ran;
 use meaning::Readiness;
 
@@ -91,5 +99,67 @@ pub fn note(list: &mut [u32], k: usize, words: Words)
         put(list, 3 * k, words.number);
         put(list, 3 * k + 1, words.first);
         put(list, 3 * k + 2, words.second);
+    }
+}
+
+// ---- values in lent words, and the number by which a call declines; then they stay
+
+fn put_figures(f: Figures, g: Divisors, figures: &mut [u32; 13])
+    ensures { λ r. ⌜ now (figures .exit) ≡ f .processes ∷ f .instances ∷ f .elements ∷ f .pipes ∷ f .words ∷ f .steps
+        ∷ g .place ∷ g .stream0 ∷ g .stream1 ∷ g .stream2 ∷ g .stream3 ∷ g .stream4 ∷ g .stream5 ∷ [] ⌝ }
+{
+    *figures = [
+        f.processes,
+        f.instances,
+        f.elements,
+        f.pipes,
+        f.words,
+        f.steps,
+        g.place,
+        g.stream0,
+        g.stream1,
+        g.stream2,
+        g.stream3,
+        g.stream4,
+        g.stream5,
+    ];
+}
+
+// Of Accept: the six figures and the divisors of place and of the six streams.
+pub fn put_acceptance(answer: Acceptance, figures: &mut [u32; 13]) -> u32
+    ensures { λ r. ⌜ (r ≡ acceptNumber answer) × (now (figures .exit) ≡ orKept (acceptValues answer) (now (figures .entry))) ⌝ }
+{
+    match answer {
+        Acceptance::Accepted(f, g) => {
+            put_figures(f, g, figures);
+            0
+        }
+        Acceptance::Refused(number) => number,
+    }
+}
+
+// Of Run: the steps done, and 1 if any is ready, 0 if none.
+pub fn put_ran(answer: Ran, words: &mut [u32; 2]) -> u32
+    ensures { λ r. ⌜ (r ≡ ranNumber answer) × (now (words .exit) ≡ orKept (ranValues answer) (now (words .entry))) ⌝ }
+{
+    match answer {
+        Ran::Ran { steps, ready } => {
+            *words = [steps, words::flag(ready)];
+            0
+        }
+        Ran::Refused(number) => number,
+    }
+}
+
+// Of Ready: how many processes can take, fire or give, and the lowest.
+pub fn put_readiness(answer: Readiness, words: &mut [u32; 2]) -> u32
+    ensures { λ r. ⌜ (r ≡ readyNumber answer) × (now (words .exit) ≡ orKept (readyValues answer) (now (words .entry))) ⌝ }
+{
+    match answer {
+        Readiness::Ready { count, lowest } => {
+            *words = [count, lowest];
+            0
+        }
+        Readiness::Refused(number) => number,
     }
 }

@@ -4,9 +4,8 @@
 //
 // specs/, by file:
 //
-//   Kept      what Accept, Run, Ready and Window leave in lent words
+//   Kept      what Window leaves in lent words
 ghost use mathlib.Core.Path.{_≡_};
-ghost use mathlib.Core.List.{[], _∷_};
 ghost use lib.ListN.{length};
 ghost use Rattle.meaning.specs.Limits.{limitsOf};
 ghost use Rattle.meaning.specs.Accept.{accept};
@@ -15,35 +14,10 @@ ghost use Rattle.meaning.specs.Answers.{acceptNumber, acceptValues, answerNumbe
 ghost use Rattle.meaning.specs.Calls.{start, step, run, readyCall, window, result, plainRun};
 ghost use Rattle.table_words.specs.Words.{laid};
 ghost use Rattle.table_words.specs.Lent.{tableNumber, tableWords};
-ghost use Rattle.beqlanosh.specs.Kept.{orKept, windowValues};
-use meaning::Acceptance;
-use meaning::Divisors;
-use meaning::Figures;
-use meaning::Ran;
-use meaning::Readiness;
+ghost use Rattle.answer_words.specs.Kept.{orKept};
+ghost use Rattle.beqlanosh.specs.Kept.{windowValues};
 
 // ---- accept
-
-fn put_figures(f: Figures, g: Divisors, figures: &mut [u32; 13])
-    ensures { λ r. ⌜ now (figures .exit) ≡ f .processes ∷ f .instances ∷ f .elements ∷ f .pipes ∷ f .words ∷ f .steps
-        ∷ g .place ∷ g .stream0 ∷ g .stream1 ∷ g .stream2 ∷ g .stream3 ∷ g .stream4 ∷ g .stream5 ∷ [] ⌝ }
-{
-    *figures = [
-        f.processes,
-        f.instances,
-        f.elements,
-        f.pipes,
-        f.words,
-        f.steps,
-        g.place,
-        g.stream0,
-        g.stream1,
-        g.stream2,
-        g.stream3,
-        g.stream4,
-        g.stream5,
-    ];
-}
 
 // ACCEPT: the six figures and the divisors of place and of the six streams, if it accepts.
 #[no_mangle]
@@ -52,13 +26,7 @@ pub extern "C" fn beqlanosh_accept(board: u32, bytes: &[u8], figures: &mut [u32;
         × (now (figures .exit) ≡ orKept (acceptValues (accept (limitsOf board) (now (bytes .entry)))) (now (figures .entry))) ⌝ }
 {
     let answer = accept::accept(board, bytes);
-    match answer {
-        Acceptance::Accepted(f, g) => {
-            put_figures(f, g, figures);
-            0
-        }
-        Acceptance::Refused(number) => number,
-    }
+    answer_words::put_acceptance(answer, figures)
 }
 
 // ---- table
@@ -154,13 +122,7 @@ pub extern "C" fn beqlanosh_run(
         (memoryOf (now (waiting .entry)) (now (received .entry)) (now (state .entry))) .answer)) (now (answer .entry))) ⌝ }
 {
     let ran = run::run(board, bytes, steps, waiting, received, state);
-    match ran {
-        Ran::Ran { steps: done, ready } => {
-            *answer = [done, words::flag(ready)];
-            0
-        }
-        Ran::Refused(number) => number,
-    }
+    answer_words::put_ran(ran, answer)
 }
 
 // READY: the bits of the processes that can take, fire or give; how many they are, and the lowest.
@@ -183,13 +145,7 @@ pub extern "C" fn beqlanosh_ready(
         (memoryOf (now (waiting .entry)) (now (received .entry)) (now (state .entry))) .answer)) (now (answer .entry))) ⌝ }
 {
     let found = ready::ready(board, bytes, words, waiting, received, state);
-    match found {
-        Readiness::Ready { count, lowest } => {
-            *answer = [count, lowest];
-            0
-        }
-        Readiness::Refused(number) => number,
-    }
+    answer_words::put_readiness(found, answer)
 }
 
 // WINDOW: where the pipe's part of the waiting values or of the received ones begins, and how long it is.

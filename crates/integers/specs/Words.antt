@@ -15,7 +15,7 @@ use mir.Syntax.{w32}
 use mir.Val.{SFits, Fits, toZ, ofZ}
 use mir.ValLaws.{toZ-pos}
 use mir.Facts.{toZ-ofZ}
-use Rattle.integers.specs.Differences.{Abs, Is-add, Is-neg, Is-self, Is-pos, Is-eq, lt-out}
+use Rattle.integers.specs.Differences.{Abs, Is-add, Is-neg, Is-self, Is-pos, Is-eq, lt-out, le-out}
 use Rattle.integers.specs.Bounds.{abs-neg, Abs-neg, Abs-add, Abs-sub, Abs-mul}
 
 pub record Holds (t z : ℤ) (n : ℕ) : Type 0 where
@@ -144,3 +144,17 @@ eqZ→eq (pos m) (pos n) e = ap pos (eqb-true m n e)
 eqZ→eq (pos m) (negsuc n) e = absurd (true≢false (sym e))
 eqZ→eq (negsuc m) (pos n) e = absurd (true≢false (sym e))
 eqZ→eq (negsuc m) (negsuc n) e = ap negsuc (eqb-true m n e)
+
+-- ---- the bits of a number, as the code makes them
+
+pub size-positive : (z : ℤ) → z <ℤ pos 0 → 1 ≤ natAbs z
+size-positive (pos n) k = absurd (omega (arith, lt-out k))
+size-positive (negsuc n) k = omega arith
+
+pub bits-negative : (z : ℤ) → mag z < 2 ^ 31 → z <ℤ pos 0 → 4294967295 - (natAbs z - 1) ≡ ofZ w32 z
+bits-negative (pos n) h k = absurd (omega (arith, lt-out k))
+bits-negative (negsuc n) h k = omega arith
+
+pub bits-other : (z : ℤ) → pos 0 ≤ℤ z → natAbs z ≡ ofZ w32 z
+bits-other (pos n) k = refl
+bits-other (negsuc n) k = absurd (omega (arith, le-out k))

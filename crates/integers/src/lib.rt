@@ -26,7 +26,7 @@ ghost use Prim.Native.Nat.{_<_};
 ghost use lib.IntN.{natAbs};
 ghost use lib.ListN.{getD};
 ghost use mir.Syntax.{w32};
-ghost use mir.Val.{toZ};
+ghost use mir.Val.{toZ, ofZ};
 ghost use Rattle.integers.specs.Bytes.{bitsAt, wordAt};
 
 // Three whole components: an instance of the loops, or the difference of two.
@@ -67,6 +67,18 @@ pub fn signed(u: u32) -> i32
         u as i32
     } else {
         -((0xffff_ffff - u) as i32) - 1
+    }
+}
+
+// The 32 bits of a signed number.
+pub fn bits_of(z: i32) -> u32
+    ensures { λ r. ⌜ r ≡ ofZ w32 z ⌝ }
+{
+    let size = magnitude(z);
+    if z < 0 {
+        0xffff_ffff - (size - 1)
+    } else {
+        size
     }
 }
 

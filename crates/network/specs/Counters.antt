@@ -4,7 +4,7 @@ use Prim.Native.Nat.{ℕ, zero, suc, _+_, _-_, _≤_, _<_, min}
 use native.Mathlib.Omega.{arith}
 use Rattle.network.specs.Cases.{Order, less, atLeast, order, Equal, same, other, equal}
 
--- Stations. A process on a pipe either lets every element through its hand, using some on the way, or keeps the first.
+-- Stops. A process on a pipe either lets every element through its hand, using some on the way, or keeps the first.
 -- A null process lets all through with soak = elems and count = 0.
 pub data Kind : Type 0 where
   through : Kind

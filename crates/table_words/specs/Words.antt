@@ -1,16 +1,15 @@
 -- Values and rows of the table as words, and lists with words laid over them. Assumes nothing.
 use mathlib.Core.Path.{_≡_, refl, sym, _∙_, ap, ap₂}
 use mathlib.Core.List.{List, [], _∷_, _++_, append-assoc, append-nil}
-use Prim.Native.Nat.{ℕ, zero, suc, _+_, _*_, _-_, _^_, _≤_, _<_}
+use Prim.Native.Nat.{ℕ, zero, suc, _+_, _*_, _^_, _≤_, _<_}
 use native.Mathlib.Numerals.{add-one}
 use native.Mathlib.Omega.{arith}
 use lib.ListN.{length, getD, take, drop, length-append}
 use lib.Seq.{paste, take-length, take-suc, take-append-seam, drop-append-add, drop-drop}
-use lib.IntN.{ℤ, pos, negsuc, natAbs}
-use lib.Signed.{mag, _≤ℤ_, _<ℤ_}
+use lib.IntN.{ℤ}
+use lib.Signed.{mag}
 use mir.Syntax.{w32}
 use mir.Val.{toZ, ofZ}
-use Rattle.integers.specs.Differences.{lt-out, le-out}
 use Rattle.integers.specs.Words.{tower}
 use Rattle.integers.specs.Vectors.{zero2, zero3}
 use Rattle.integers.specs.declared.V3.{V3}
@@ -48,19 +47,6 @@ wordsOf rows zero = []
 wordsOf rows (suc p) = wordsOf rows p ++ rowWords (getD rows p noRow)
 
 -- ---- signed numbers
-
--- as the code makes the bits
-pub size-positive : (z : ℤ) → z <ℤ pos 0 → 1 ≤ natAbs z
-size-positive (pos n) k = absurd (omega (arith, lt-out k))
-size-positive (negsuc n) k = omega arith
-
-pub bits-negative : (z : ℤ) → mag z < 2 ^ 31 → z <ℤ pos 0 → 4294967295 - (natAbs z - 1) ≡ ofZ w32 z
-bits-negative (pos n) h k = absurd (omega (arith, lt-out k))
-bits-negative (negsuc n) h k = omega arith
-
-pub bits-other : (z : ℤ) → pos 0 ≤ℤ z → natAbs z ≡ ofZ w32 z
-bits-other (pos n) k = refl
-bits-other (negsuc n) k = absurd (omega (arith, le-out k))
 
 -- of a field that the code holds
 pub bits-held : {r : ℕ} (z : ℤ) → mag z < 2 ^ 31 → r ≡ ofZ w32 (toZ w32 (ofZ w32 z)) → r ≡ ofZ w32 z

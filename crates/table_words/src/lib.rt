@@ -7,8 +7,6 @@
 ghost use mathlib.Core.Path.{_≡_};
 ghost use Prim.Native.Nat.{_*_, _≤_};
 ghost use lib.ListN.{length};
-ghost use mir.Syntax.{w32};
-ghost use mir.Val.{ofZ};
 ghost use Rattle.meaning.specs.Limits.{limitsOf, gaugeLimits};
 ghost use Rattle.meaning.specs.Space.{processes};
 ghost use Rattle.meaning.specs.Description.{descriptionOf};
@@ -16,25 +14,12 @@ ghost use Rattle.meaning.specs.Accept.{refusalOf};
 ghost use Rattle.table_words.specs.Words.{laid, bits3, rowWords, wordsOf};
 ghost use Rattle.table_words.specs.Lent.{tableNumber, tableWords};
 use integers::V3;
+use integers::bits_of;
 use meaning::PROCESSES;
 use meaning::Row;
 
 // The words of a row.
 const ROW_WORDS: usize = 21;
-
-// ---- numbers
-
-// The 32 bits of a signed number.
-fn bits_of(z: i32) -> u32
-    ensures { λ r. ⌜ r ≡ ofZ w32 z ⌝ }
-{
-    let size = integers::magnitude(z);
-    if z < 0 {
-        0xffff_ffff - (size - 1)
-    } else {
-        size
-    }
-}
 
 // ---- rows
 

@@ -1,14 +1,13 @@
--- `table_words::bits_of` meets its contract: the bits of −q are 2^32 − q, and the magnitude of a negative number is at least 1, so nothing
+-- `integers::bits_of` meets its contract: the bits of −q are 2^32 − q, and the magnitude of a negative number is at least 1, so nothing
 -- goes below 0. Assumes nothing.
 use mathlib.Core.Path.{refl, _∙_, ap}
 use Prim.Native.Nat.{ℕ, _-_}
 use native.Mathlib.Omega.{arith}
 use lib.IntN.{natAbs}
 use borrow.Author.Needs.{needs}
-use Rattle.integers.specs.Words.{tower, less-of, not-less-of}
-use Rattle.table_words.specs.Words.{size-positive, bits-negative, bits-other}
-use Rattle.table_words.proofs.bits_of.Statement.{statement}
-use Rattle.table_words.proofs.bits_of.Tie as tie
+use Rattle.integers.specs.Words.{tower, less-of, not-less-of, size-positive, bits-negative, bits-other}
+use Rattle.integers.proofs.bits_of.Statement.{statement}
+use Rattle.integers.proofs.bits_of.Tie as tie
 
 magnitude-requires : tie.Need-magnitude-requires
 magnitude-requires c κs = search needs
