@@ -20,6 +20,9 @@ abbrev pub memoryLengths : ℕ → ℕ → ℕ → ℕ → ℕ → List Test
 memoryLengths elements words waiting received state =
     (20 if not (eqb waiting elements)) ∷ (26 if not (eqb received elements)) ∷ (21 if ltb state words) ∷ []
 
+abbrev pub stateTests : Bool → List Test
+stateTests sound = (22 if not sound) ∷ []
+
 abbrev pub startLengths : ℕ → ℕ → ℕ → ℕ → ℕ → ℕ → List Test
 startLengths elements words values waiting received state =
     (20 if (not (eqb values elements) || not (eqb waiting elements))) ∷ (26 if not (eqb received elements)) ∷ (21 if ltb state words) ∷ []

@@ -2,8 +2,8 @@
 // first number that applies, 0 if none does. Pure functions of lengths and truths; the calls cite them.
 ghost use mathlib.Core.Path.{_≡_};
 ghost use Rattle.meaning.specs.Tests.{refusal};
-ghost use Rattle.declines.specs.Tests.{tableLengths, plainLengths, memoryLengths, startLengths, windowLengths, readyLengths};
-ghost use Rattle.declines.specs.Tests.{resultTests};
+ghost use Rattle.declines.specs.Tests.{tableLengths, plainLengths, memoryLengths, stateTests, startLengths, windowLengths};
+ghost use Rattle.declines.specs.Tests.{readyLengths, resultTests};
 use meaning::Figures;
 
 // Table: 18 where there is no room for all rows.
@@ -37,6 +37,13 @@ pub fn of_memory(f: Figures, waiting: usize, received: usize, state: usize) -> u
         return 26;
     }
     if state < words { 21 } else { 0 }
+}
+
+// The same four, then: 22 for a state that is not sound.
+pub fn of_state(sound: bool) -> u32
+    ensures { λ r. ⌜ r ≡ refusal (stateTests sound) ⌝ }
+{
+    if sound { 0 } else { 22 }
 }
 
 // Start: 20 for the values too, and then as those.

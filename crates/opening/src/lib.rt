@@ -46,7 +46,7 @@ fn sound_refusal(d: Description, z: Size, state: &[u32], spans: &[u32], ports: &
         × (PortsOf (arrayOf d) (now (ports .exit))) ⌝ }
 {
     port_fill::fill_ports(d, spans, ports);
-    if sound::sound(ports, state, z) { 0 } else { 22 }
+    declines::of_state(sound::sound(ports, state, z))
 }
 
 // The refusals of the memory, on an accepted description.

@@ -1,9 +1,10 @@
 -- `opening::sound_refusal` meets its contract: a state is sound by the rows of the port table exactly if it is sound by the array.
 -- Assumes nothing.
-use mathlib.Core.Path.{sym, _∙_, ap}
-use mathlib.Core.Bool.{not}
+use mathlib.Core.Path.{_∙_, ap}
+use mathlib.Core.Bool.{Bool}
 use borrow.Author.Needs.{needs}
-use Rattle.decode.specs.Refusals.{refuses, passes, accepts}
+use Rattle.meaning.specs.Tests.{refusal}
+use Rattle.declines.specs.Tests.{stateTests}
 use Rattle.opening.specs.Opening.{rows-fit-in, sound-by}
 use Rattle.opening.proofs.sound_refusal.Statement.{statement}
 use Rattle.opening.proofs.sound_refusal.Tie as tie
@@ -16,29 +17,18 @@ sound-requires : tie.Need-sound-requires
 sound-requires c κs =
     rows-fit-in (c .before .before .before .before .before .before .before .before .pre .0) (c .before .before .before .fill-ports .ensures)
 
+of-state-requires : tie.Need-of-state-requires
+of-state-requires c κs = search needs
+
 same-length : tie.Need-same-length
 same-length c = search needs
 
 returns : tie.Need-returns
 returns c =
-    let p = c .before .before .before .before .before .fill-ports .ensures in (
-      passes 22 _ (ap not (sym (sound-by (c .before .before .before .before .before .before .before .before .before .before .pre .0) p)
-          ∙ sym (c .before .sound .ensures) ∙ c .if1 .taken)) accepts,
-      p,
-    )
-
-same-length-2 : tie.Need-same-length-2
-same-length-2 c = search needs
-
-returns-2 : tie.Need-returns-2
-returns-2 c =
-    let p = c .before .before .before .before .before .fill-ports .ensures in (
-      refuses 22 _ (ap not (sym (sound-by (c .before .before .before .before .before .before .before .before .before .before .pre .0) p)
-          ∙ sym (c .before .sound .ensures) ∙ c .if1 .left)),
-      p,
-    )
+    let p = c .before .before .before .before .before .fill-ports .ensures in
+    let e = c .before .sound .ensures
+    ∙ sound-by (c .before .before .before .before .before .before .before .before .before .before .pre .0) p in
+    (c .of-state .ensures ∙ ap (λ (b : Bool). refusal (stateTests b)) e, p)
 
 pub sound-refusal-spec : {M : Type 1} → statement M
-sound-refusal-spec =
-    tie.close
-    (tie.spec fill-ports-requires sound-requires same-length returns same-length-2 returns-2)
+sound-refusal-spec = tie.close (tie.spec fill-ports-requires sound-requires of-state-requires same-length returns)
