@@ -298,7 +298,7 @@ fn walk_lines(board: u32, s: &[u8], small: bool) {
     print(b"walk");
     print_number(refusal);
     if refusal == 0 {
-        let n = decode::description(s).nest;
+        let n = walkable::nest_of(s);
         print_visits(&walk, 3 * numbering::instance_count(n) as usize, small);
     } else {
         print(b" 0\n");

@@ -71,8 +71,7 @@ fn print_walk(board: u32, s: &[u8]) {
     let mut walk = [0i32; WALK];
     let refusal = walkable::walk_of(board, s, &mut spans, &mut walk);
     if refusal == 0 {
-        let n = decode::description(s).nest;
-        print_whole(n, &walk, integers::bits_at(s, 0));
+        print_whole(walkable::nest_of(s), &walk, integers::bits_at(s, 0));
     } else {
         text::print_refusal(refusal);
     }

@@ -8,6 +8,8 @@ ghost use Rattle.meaning.specs.Description.{descriptionOf};
 ghost use Rattle.meaning.specs.Accept.{refused33};
 ghost use Rattle.meaning.specs.Calls.{orElse};
 ghost use Rattle.meaning.specs.Walk.{walkRefusal};
+ghost use Rattle.decode.specs.Ranged.{Decoded};
+ghost use Rattle.numbering.specs.Ranges.{Bounded};
 ghost use Rattle.layout.specs.Spans.{Spans};
 ghost use Rattle.walk.specs.Walked.{Along, Walkable};
 use layout::SPANS;
@@ -37,11 +39,19 @@ fn walk_refusal(s: &[u8], limits: Limits) -> u32
     let words = refuse_words::refusal(s);
     let r = first_of(board, words);
     if r == 0 {
-        let n = decode::description(s).nest;
+        let n = nest_of(s);
         refuse_nest::nest_refusal(n, limits)
     } else {
         r
     }
+}
+
+// The loops of bytes that may be decoded.
+pub fn nest_of(s: &[u8]) -> Nest
+    requires { ⌜ Decoded (now s) ⌝ }
+    ensures { λ r. ⌜ (r ≡ descriptionOf (now (s .entry)) .nest) × (Bounded r) ⌝ }
+{
+    decode::description(s).nest
 }
 
 // The words of the processes and of the walk.
@@ -68,7 +78,7 @@ pub fn walk_within(
 {
     let refusal = walk_refusal(s, limits);
     if refusal == 0 {
-        let n = decode::description(s).nest;
+        let n = nest_of(s);
         fill_nest(n, spans, walk);
     }
     refusal

@@ -1,9 +1,7 @@
 -- `compare::walk_lines` is safe and ends. Assumes nothing.
 use mathlib.Core.Path.{sym, _∙_}
-use denote.Ref.{now}
 use native.Mathlib.Omega.{arith}
 use borrow.Author.Needs.{needs}
-use Rattle.stream_lines.specs.InRange.{nest-bounded}
 use Rattle.stream_lines.specs.Accepted.{walk-within}
 use Rattle.compare.proofs.walk_lines.Statement.{statement}
 use Rattle.compare.proofs.walk_lines.Tie as tie
@@ -20,20 +18,15 @@ print-requires c κs = search needs
 print-number-requires : tie.Need-print-number-requires
 print-number-requires c κs = search needs
 
-description-requires : tie.Need-description-requires
-description-requires c κs =
-    walk-within _ _ (sym (c .before .before .before .before .walk-of .ensures .0) ∙ c .if1 .taken) .0 .sized
+nest-of-requires : tie.Need-nest-of-requires
+nest-of-requires c κs = walk-within _ _ (sym (c .before .before .before .before .walk-of .ensures .0) ∙ c .if1 .taken) .0
 
 slice-aggregate-print-visits : tie.Need-slice-aggregate-print-visits
 slice-aggregate-print-visits c =
-    let b = c .before .before .before in sym (b .before .before .before .before .walk-of .ensures .1 (b .if1 .taken) .1 .room)
+    let b = c .before .before in sym (b .before .before .before .before .walk-of .ensures .1 (b .if1 .taken) .1 .room)
 
 instance-count-requires : tie.Need-instance-count-requires
-instance-count-requires c κs =
-    let b = c .before .before .before in
-    let a = b .before .before .before .before in
-    nest-bounded (rw (← c .before .before .description .ensures) at
-    (walk-within _ (now (a .before .before .before .before .args .s)) (sym (a .walk-of .ensures .0) ∙ b .if1 .taken) .0 .ranged .nest))
+instance-count-requires c κs = search needs
 
 cast-print-visits : tie.Need-cast-print-visits
 cast-print-visits c = search needs
@@ -43,9 +36,9 @@ mul-print-visits c = search needs
 
 print-visits-requires : tie.Need-print-visits-requires
 print-visits-requires c κs =
-    let b = c .before .before .before .before in
+    let b = c .before .before .before in
     let h = b .before .before .before .before .walk-of .ensures .1 (b .if1 .taken) .1 in
-    let e = rw (c .before .before .before .description .ensures) at (c .instance-count .ensures .0) in omega (arith, h .few, h .room, e)
+    let e = rw (c .before .before .nest-of .ensures .0) at (c .instance-count .ensures .0) in omega (arith, h .few, h .room, e)
 
 slice-aggregate-print-2 : tie.Need-slice-aggregate-print-2
 slice-aggregate-print-2 c = search needs
@@ -67,7 +60,7 @@ walk-lines-spec =
     slice-aggregate-print
     print-requires
     print-number-requires
-    description-requires
+    nest-of-requires
     slice-aggregate-print-visits
     instance-count-requires
     cast-print-visits
