@@ -31,7 +31,7 @@ use Rattle.geometry.specs.Counts.{counts-total}
 use Rattle.geometry.specs.Passes.{instance-is}
 use Rattle.geometry.specs.Descriptions.{Laid}
 use Rattle.geometry.specs.Arrays.{one-number}
-use Rattle.network.specs.Cases.{Order, less, atLeast, order}
+use Rattle.abstract_network.specs.Cases.{Order, less, atLeast, order}
 
 -- the i-th instance of the written order
 abbrev pub instanceNumber : Description → ℕ → V3

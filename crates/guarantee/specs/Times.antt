@@ -33,7 +33,7 @@ use Rattle.geometry.specs.Clock.{Clock}
 use Rattle.geometry.specs.Descriptions.{Laid}
 use Rattle.geometry.specs.Wiring.{processAt, wired, flowing}
 use Rattle.geometry.specs.Arrays.{streamAt, PipeIs, pipe-is}
-use Rattle.network.specs.Cases.{Order, less, atLeast, order}
+use Rattle.abstract_network.specs.Cases.{Order, less, atLeast, order}
 use Rattle.network.specs.Wiring.{Course, moving, stationary as still}
 use Rattle.lists.specs.Sums.{total-member}
 use Rattle.guarantee.specs.Instances.{counted-lt}

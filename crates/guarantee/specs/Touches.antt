@@ -32,7 +32,7 @@ use Rattle.geometry.specs.Elements.{entryOf, homeOf, indexOf}
 use Rattle.geometry.specs.Descriptions.{Laid}
 use Rattle.geometry.specs.Wiring.{processAt, elementAt, wired, flowing, keeping, meeting}
 use Rattle.geometry.specs.Arrays.{streamAt, PipeIs, pipe-is, pipe-of, one-number}
-use Rattle.network.specs.Turns.{Before, upstream, sooner}
+use Rattle.abstract_network.specs.Turns.{Before, upstream, sooner}
 use Rattle.network.specs.Wiring.{kindOf, netOf, rankAt, usedIndex, UsedAt, stop-pipe, element-pipe, elementAt as elementOn}
 use Rattle.guarantee.specs.Instances.{instanceNumber, instanceCount, owner, firing, within, owner-inside}
 use Rattle.guarantee.specs.Stops.{some-count, accepted, stream-is, stops-length, elements-length, element-is, process-is, stop-inside}

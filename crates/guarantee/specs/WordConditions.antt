@@ -21,7 +21,7 @@ use Rattle.meaning.specs.Description.{matrixWords, leftAt, rightAt, directionAt
 use Rattle.meaning.specs.Description.{wordsOf, lineRange, inRange, nestOf, refused2, refused3, refused4}
 use Rattle.meaning.specs.Conditions.{SizesFit, wordTotal, WordsFit}
 use Rattle.lists.specs.Rows.{every-numbers, numbers-every}
-use Rattle.network.specs.Cases.{Order, less, atLeast, order}
+use Rattle.abstract_network.specs.Cases.{Order, less, atLeast, order}
 use Rattle.network.specs.Decide.{Says, Says.holds, Says.fails, says-as, says-and, says-or, says-le, says-eq, said, says-true}
 use Rattle.guarantee.specs.Refusals.{Refuses, refuses-as, refuses-or, refuses-not, says-eqZ, says-between}
 

@@ -6,8 +6,8 @@ use native.Mathlib.Omega.{arith}
 use Rattle.meaning.specs.Array.{Array, stopsOn, pipeThrough}
 use Rattle.meaning.specs.State.{wordCount}
 use Rattle.meaning.specs.Rules.{Step}
-use Rattle.network.specs.Counters.{put, get, fire}
-use Rattle.network.specs.Counters as Abstract
+use Rattle.abstract_network.specs.Counters.{put, get, fire}
+use Rattle.abstract_network.specs.Counters as Abstract
 use Rattle.network.specs.Layout.{layout}
 use Rattle.network.specs.Wiring.{Wired, stop-pipe, has-port, placeAt}
 use Rattle.network.specs.Slots.{Slot, sent, taken, given, fired, hand, kept, place, Has, slot-word, word-live}

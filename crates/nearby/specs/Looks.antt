@@ -4,7 +4,7 @@ use mathlib.Core.Path.{_≡_, sym, _∙_, ap, subst}
 use mathlib.Core.Logic.{_↔_}
 use Prim.Native.Nat.{ℕ, zero, suc, _<_}
 use native.Mathlib.Omega.{arith}
-use Rattle.network.specs.Counters.{Kind, Hand, empty, first, free, Step, put, get, fire, Counts, Net, Guard, OneMore}
+use Rattle.abstract_network.specs.Counters.{Kind, Hand, empty, first, free, Step, put, get, fire, Counts, Net, Guard, OneMore}
 
 -- the hand does not depend on the firings
 hand-any : {n s t x y f f' : ℕ} {K : Kind} → Hand n s t x y f K → Hand n s t x y f' K

@@ -11,8 +11,8 @@ use borrow.Author.Tests.{lt-ltb, le-ltb}
 use Rattle.meaning.specs.Array.{Array, pipeNumber, stopsOn, pipeThrough, onPipe, placeOn}
 use Rattle.meaning.specs.State.{Word, Firings, Taken, Given, Hand, Keep, Place, Sent, Received, End, index, wordCount}
 use Rattle.meaning.specs.Rules.{processOn, streamOn, putIn, takenOut, sound, Step, Send, Take, Fire, Give, Receive, Memory, ready, apply}
-use Rattle.network.specs.Counters.{put, get, fire, put≢fire, get≢fire}
-use Rattle.network.specs.Counters as Abstract
+use Rattle.abstract_network.specs.Counters.{put, get, fire, put≢fire, get≢fire}
+use Rattle.abstract_network.specs.Counters as Abstract
 use Rattle.network.specs.Layout.{layout}
 use Rattle.network.specs.Wiring.{netOf, Wired, stop-pipe, has-port, port-is, placeAt}
 use Rattle.network.specs.Slots.{Has, wordOf, word-live}

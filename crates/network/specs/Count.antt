@@ -6,14 +6,14 @@ use native.Mathlib.Nat.{le-refl}
 use native.Mathlib.Omega.{arith}
 use Rattle.meaning.specs.Lists.{total, numbers}
 use Rattle.lists.specs.Sums.{sum-same, sum-le, sum-one, sum-tight, sum-const}
-use Rattle.network.specs.Cases.{Order, less, atLeast, order}
-use Rattle.network.specs.Counters.{Step, put, get, fire, Counts, Net, Inv, OneMore, put≢get, put≢fire, get≢fire, get-elements}
-use Rattle.network.specs.Counters.{below-head}
-use Rattle.network.specs.Words.{Words}
-use Rattle.network.specs.Due.{Occurs, ready-occurs}
-use Rattle.network.specs.System.{System}
-use Rattle.network.specs.Good.{moves, fires}
-use Rattle.network.specs.Claims.{Reach, start, more, reach-good, Out, done}
+use Rattle.abstract_network.specs.Cases.{Order, less, atLeast, order}
+use Rattle.abstract_network.specs.Counters.{Step, put, get, fire, Counts, Net, Inv, OneMore, put≢get, put≢fire, get≢fire, get-elements}
+use Rattle.abstract_network.specs.Counters.{below-head}
+use Rattle.abstract_network.specs.Words.{Words}
+use Rattle.abstract_network.specs.Due.{Occurs, ready-occurs}
+use Rattle.abstract_network.specs.System.{System}
+use Rattle.abstract_network.specs.Good.{moves, fires}
+use Rattle.abstract_network.specs.Claims.{Reach, start, more, reach-good, Out, done}
 
 module _ (N : Net) where
   open Net N using (stops, elements, count)

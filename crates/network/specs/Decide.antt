@@ -11,10 +11,10 @@ use Rattle.meaning.specs.Lists.{every, numbers}
 use Rattle.meaning.specs.Array.{Array}
 use Rattle.meaning.specs.Rules.{handEmpty, canUse, canOffer, soundHand}
 use Rattle.lists.specs.Rows.{every-numbers, numbers-every}
-use Rattle.network.specs.Cases.{Order, less, atLeast, order}
-use Rattle.network.specs.Counters.{through, keep, Hand, empty, first, free, Offer, soaked, drained, used, passed, kept, Use, hand}
-use Rattle.network.specs.Counters.{held}
-use Rattle.network.specs.Sound.{Balance, even, ahead, untaken, keeping, given}
+use Rattle.abstract_network.specs.Cases.{Order, less, atLeast, order}
+use Rattle.abstract_network.specs.Counters.{through, keep, Hand, empty, first, free, Offer, soaked, drained, used, passed, kept, Use, hand}
+use Rattle.abstract_network.specs.Counters.{held}
+use Rattle.abstract_network.specs.Sound.{Balance, even, ahead, untaken, keeping, given}
 use Rattle.network.specs.Wiring.{kindOf}
 
 -- b says whether A

@@ -11,9 +11,9 @@ use Rattle.meaning.specs.Array.{Array, Pipe, countAt, pipeNumber, stopsOn, elem
 use Rattle.meaning.specs.State.{Word, Firings, Taken, Given, Hand, Keep, Place, Sent, Received, End, index, wordCount, words, read}
 use Rattle.meaning.specs.Rules.{totalOf, Memory, applyAll}
 use Rattle.meaning.specs.Rules as Rules
-use Rattle.network.specs.Cases.{Order, less, atLeast, order}
-use Rattle.network.specs.Counters.{fire, all-put, all-get}
-use Rattle.network.specs.Claims.{Out, done, finish-link, finish-stop}
+use Rattle.abstract_network.specs.Cases.{Order, less, atLeast, order}
+use Rattle.abstract_network.specs.Counters.{fire, all-put, all-get}
+use Rattle.abstract_network.specs.Claims.{Out, done, finish-link, finish-stop}
 use Rattle.network.specs.Layout.{Live, layout}
 use Rattle.network.specs.WordOrder.{words-read, same-words}
 use Rattle.network.specs.Wiring.{netOf, Wired, no-pipe, shape}

@@ -12,8 +12,8 @@ use Rattle.meaning.specs.Array.{Array, instanceAt, processCount, streamCount, s
 use Rattle.meaning.specs.State.{Word, Firings, Hand, Keep, wordCount, read, write}
 use Rattle.meaning.specs.Rules.{processOn, streamOn, usedWord, usedWords, writeAll, bodyAt, increase, doFire}
 use Rattle.lists.specs.Rows.{length-numbers, same-numbers}
-use Rattle.network.specs.Counters.{fire, OneMore}
-use Rattle.network.specs.Firing.{Firing, hand-used, keep-used, Fires}
+use Rattle.abstract_network.specs.Counters.{fire, OneMore}
+use Rattle.abstract_network.specs.Firing.{Firing, hand-used, keep-used, Fires}
 use Rattle.network.specs.Wiring.{kindOf, netOf, Wired, HasPort, port-is, rankedOf, placeAt, keepsAt}
 use Rattle.network.specs.Programs.{length-body}
 use Rattle.network.specs.Slots.{Slot, fired, hand, kept, place, sort, first, second, counter, Has, wordOf, view, view-is, view-same}

@@ -11,9 +11,9 @@ use borrow.Author.Tests.{lt-ltb, le-ltb, eqb-true, eqb-false}
 use Rattle.meaning.specs.Array.{Array, pipeNumber, pipeAt, stopsOn, stopAt}
 use Rattle.meaning.specs.State.{Taken, Hand, Keep, Received, wordCount, read, write}
 use Rattle.meaning.specs.Rules.{processOn, streamOn, fill, oldest, withoutOldest, increase, doTake, doReceive}
-use Rattle.network.specs.Counters.{Step, put, get, OneMore}
-use Rattle.network.specs.Words.{Taking, to-hand, to-keep, past-keep, Moves}
-use Rattle.network.specs.Sound.{Sound}
+use Rattle.abstract_network.specs.Counters.{Step, put, get, OneMore}
+use Rattle.abstract_network.specs.Words.{Taking, to-hand, to-keep, past-keep, Moves}
+use Rattle.abstract_network.specs.Sound.{Sound}
 use Rattle.network.specs.Wiring.{kindOf, netOf, Wired, stop-pipe, rankedOf}
 use Rattle.network.specs.Slots.{Slot, taken, given, hand, place, sort, first, second, counter, wordOf, view, view-is, countsOf}
 use Rattle.network.specs.Slots.{wordsOf}

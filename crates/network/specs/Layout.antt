@@ -11,7 +11,7 @@ use Rattle.meaning.specs.Array.{Array, Pipe, processCount, streamCount, pipeNum
 use Rattle.meaning.specs.State.{Word, Firings, Taken, Given, Hand, Keep, Place, Sent, Received, End, stride, index, wordCount, read, write}
 use Rattle.lists.specs.Sums.{part-ends}
 use Rattle.integers.specs.Order.{part, parts-apart}
-use Rattle.network.specs.Cases.{Order, less, atLeast, order}
+use Rattle.abstract_network.specs.Cases.{Order, less, atLeast, order}
 
 -- ---- blocks one after the other: block i of a list begins where those before it end
 

@@ -9,8 +9,8 @@ use lib.ListN.{length}
 use Rattle.meaning.specs.Array.{Array, pipeNumber, pipeAt, stopsOn}
 use Rattle.meaning.specs.State.{Word, wordCount, read, write}
 use Rattle.meaning.specs.Rules.{linkPlace, fill, moveDown, withoutOldest, increase}
-use Rattle.network.specs.Cases.{Order, less, atLeast, order, Equal, same, other, equal}
-use Rattle.network.specs.Counters.{Step, put, get, fire, OneMore}
+use Rattle.abstract_network.specs.Cases.{Order, less, atLeast, order, Equal, same, other, equal}
+use Rattle.abstract_network.specs.Counters.{Step, put, get, fire, OneMore}
 use Rattle.network.specs.Layout.{Live, length-write, read-other}
 use Rattle.network.specs.Wiring.{Wired}
 use Rattle.network.specs.Slots.{Slot, sent, taken, given, fired, hand, kept, place, sort, third, counter, Has, wordOf, word-live}

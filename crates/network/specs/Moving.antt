@@ -7,8 +7,8 @@ use native.Mathlib.Omega.{arith}
 use Rattle.meaning.specs.Array.{Array, pipeNumber, stopsOn, stopAt}
 use Rattle.meaning.specs.State.{Hand, Keep}
 use Rattle.meaning.specs.Rules.{processOn, streamOn, fill}
-use Rattle.network.specs.Counters.{Step, put, get, put≢get}
-use Rattle.network.specs.Words.{Taking, Giving, Moves}
+use Rattle.abstract_network.specs.Counters.{Step, put, get, put≢get}
+use Rattle.abstract_network.specs.Words.{Taking, Giving, Moves}
 use Rattle.network.specs.Wiring.{kindOf, netOf, Wired, rankedOf}
 use Rattle.network.specs.Slots.{Slot, sent, taken, given, hand, place, sort, first, second, third, counter, Has, wordOf, view}
 use Rattle.network.specs.Slots.{countsOf, wordsOf}

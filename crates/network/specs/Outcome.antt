@@ -15,14 +15,14 @@ use Rattle.meaning.specs.Array.{Array, Pipe, countAt, processCount, pipeNumber,
 use Rattle.meaning.specs.Rules.{processOn, streamOn, Send, Take, Fire, Give, Receive, Memory, ready, inOrder, anyReady, applyAll}
 use Rattle.meaning.specs.Rules as Rules
 use Rattle.meaning.specs.Demand3.{receives}
-use Rattle.network.specs.Cases.{Order, less, atLeast, order}
+use Rattle.abstract_network.specs.Cases.{Order, less, atLeast, order}
 use Rattle.lists.specs.Sums.{total-numbers}
-use Rattle.network.specs.Counters.{Step, put, get, fire, Counts, Guard}
-use Rattle.network.specs.Sound.{Sound}
-use Rattle.network.specs.Values.{plain}
-use Rattle.network.specs.System.{System}
-use Rattle.network.specs.Claims.{Out, stretch, stretch-rest, not-ready}
-use Rattle.network.specs.Claims as Claims
+use Rattle.abstract_network.specs.Counters.{Step, put, get, fire, Counts, Guard}
+use Rattle.abstract_network.specs.Sound.{Sound}
+use Rattle.abstract_network.specs.Values.{plain}
+use Rattle.abstract_network.specs.System.{System}
+use Rattle.abstract_network.specs.Claims.{Out, stretch, stretch-rest, not-ready}
+use Rattle.abstract_network.specs.Claims as Claims
 use Rattle.network.specs.Count.{stepSum, totals, totals-add, granted-most, out-granted, granted-out}
 use Rattle.network.specs.Wiring.{netOf, elementAt, Wired, stop-pipe, element-pipe, port-is}
 use Rattle.network.specs.Programs.{programOf, systemOf}

@@ -13,7 +13,7 @@ use Rattle.meaning.specs.Array.{Array, Pipe, pipeNumber, noPipe, pipeAt, elemen
 use Rattle.meaning.specs.Body.{gather}
 use Rattle.lists.specs.Sums.{part-ends}
 use Rattle.lists.specs.Members.{each-length}
-use Rattle.network.specs.Cases.{Order, less, atLeast, order}
+use Rattle.abstract_network.specs.Cases.{Order, less, atLeast, order}
 use Rattle.network.specs.Layout.{block-apart}
 use Rattle.network.specs.Wiring.{elementAt, element-pipe}
 use Rattle.network.specs.Slots.{outOf}

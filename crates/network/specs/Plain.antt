@@ -22,8 +22,8 @@ use Rattle.meaning.specs.Body.{finalValues}
 use Rattle.meaning.specs.Array.{Array, arrayOf, instanceAt, streamCount, elementsOn, pipeOrder, listLength}
 use Rattle.meaning.specs.Rules.{streamOn, bodyAt}
 use Rattle.lists.specs.Rows.{length-numbers, getD-first, same-numbers}
-use Rattle.network.specs.Cases.{Order, less, atLeast, order, Equal, same, other, equal}
-use Rattle.network.specs.Values.{Program, exec, plain, exec-hit, exec-miss}
+use Rattle.abstract_network.specs.Cases.{Order, less, atLeast, order, Equal, same, other, equal}
+use Rattle.abstract_network.specs.Values.{Program, exec, plain, exec-hit, exec-miss}
 use Rattle.network.specs.Wiring.{elementAt, Wired, element-pipe}
 use Rattle.network.specs.Programs.{length-body, programOf}
 

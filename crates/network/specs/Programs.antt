@@ -17,11 +17,11 @@ use Rattle.meaning.specs.Lines.{line-leaves, lines-length}
 use Rattle.meaning.specs.Array.{Array, instanceAt, countAt, streamCount, pipeThrough, stopsOn, stopAt}
 use Rattle.meaning.specs.Rules.{processOn, streamOn, bodyAt}
 use Rattle.lists.specs.Rows.{length-numbers, getD-first, same-numbers}
-use Rattle.network.specs.Values.{Program, Body}
-use Rattle.network.specs.Firing.{Own, in-hand, in-keep}
+use Rattle.abstract_network.specs.Values.{Program, Body}
+use Rattle.abstract_network.specs.Firing.{Own, in-hand, in-keep}
 use Rattle.network.specs.Wiring.{kindOf, rankAt, netOf, elementAt, writes, UsedAt, Wired, element-pipe, has-port, rankedOf, linedOf}
 use Rattle.network.specs.Wiring.{laidOf, clockOf}
-use Rattle.network.specs.System.{Spot, Geometry, System}
+use Rattle.abstract_network.specs.System.{Spot, Geometry, System}
 
 -- ---- lines
 

@@ -10,9 +10,9 @@ use borrow.Author.Tests.{eqb-true, eqb-false}
 use Rattle.meaning.specs.Array.{Array, pipeNumber, pipeAt, stopsOn, stopAt, partStart}
 use Rattle.meaning.specs.State.{Word, Taken, Given, Hand, Keep, Sent, wordCount, read, write}
 use Rattle.meaning.specs.Rules.{processOn, streamOn, fill, putValue, increase, doSend, doGive}
-use Rattle.network.specs.Counters.{Offer, passed, kept, put, OneMore}
-use Rattle.network.specs.Words.{Giving, of-hand, of-other, of-keep, Moves}
-use Rattle.network.specs.Sound.{Sound}
+use Rattle.abstract_network.specs.Counters.{Offer, passed, kept, put, OneMore}
+use Rattle.abstract_network.specs.Words.{Giving, of-hand, of-other, of-keep, Moves}
+use Rattle.abstract_network.specs.Sound.{Sound}
 use Rattle.network.specs.Wiring.{kindOf, netOf, Wired, stop-pipe, rankedOf}
 use Rattle.network.specs.Slots.{Slot, sent, taken, given, hand, place, sort, first, second, counter, Has, wordOf, view, view-is}
 use Rattle.network.specs.Slots.{view-same, view-other, countsOf, wordsOf}

@@ -15,8 +15,8 @@ use Rattle.meaning.specs.State.{Received, Firings, Taken, Given, Sent, read}
 use Rattle.meaning.specs.Rules.{processOn, streamOn, putIn, takenOut, fill, hasRoom, readyToTake, readyToUse, readyToFire, readyToGive}
 use Rattle.meaning.specs.Rules.{Send, Take, Fire, Give, Receive, ready}
 use Rattle.meaning.specs.Rules as Rules
-use Rattle.network.specs.Counters.{Use, Step, put, get, fire, Counts, At, Guard}
-use Rattle.network.specs.Sound.{Sound}
+use Rattle.abstract_network.specs.Counters.{Use, Step, put, get, fire, Counts, At, Guard}
+use Rattle.abstract_network.specs.Sound.{Sound}
 use Rattle.network.specs.Wiring.{netOf, Wired, stop-pipe, HasPort, has-port, port-is, placeAt}
 use Rattle.network.specs.Slots.{sent, taken, given, fired, view-is, countsOf}
 use Rattle.network.specs.Decide.{Says, holds, fails, said, says-true, says-and, says-as, says-lt, says-given, says-every, says-hand}

@@ -13,12 +13,12 @@ use Rattle.meaning.specs.State.{index, wordCount}
 use Rattle.meaning.specs.Rules.{Send, Take, Fire, Give, Receive, Memory, ready, apply, applyAll}
 use Rattle.meaning.specs.Rules as Rules
 use Rattle.meaning.specs.Demand3.{isReceive, receives}
-use Rattle.network.specs.Cases.{Order, less, atLeast, order}
-use Rattle.network.specs.Counters.{get, Counts, Guard, OneMore, put≢get, get≢fire}
-use Rattle.network.specs.Words.{Words}
-use Rattle.network.specs.Sound.{Sound, inv-sound}
-use Rattle.network.specs.Good.{Good}
-use Rattle.network.specs.Claims.{Reach, start, more, reach-good}
+use Rattle.abstract_network.specs.Cases.{Order, less, atLeast, order}
+use Rattle.abstract_network.specs.Counters.{get, Counts, Guard, OneMore, put≢get, get≢fire}
+use Rattle.abstract_network.specs.Words.{Words}
+use Rattle.abstract_network.specs.Sound.{Sound, inv-sound}
+use Rattle.abstract_network.specs.Good.{Good}
+use Rattle.abstract_network.specs.Claims.{Reach, start, more, reach-good}
 use Rattle.network.specs.Layout.{layout}
 use Rattle.network.specs.Wiring.{netOf, Wired, has-port, placeAt}
 use Rattle.network.specs.Programs.{systemOf}

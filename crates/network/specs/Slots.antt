@@ -12,9 +12,9 @@ use borrow.Author.Tests.{lt-ltb, le-ltb}
 use Rattle.meaning.specs.Array.{Array, processCount, pipeNumber, pipeAt, stopsOn, elementsOn, partStart, pipeThrough}
 use Rattle.meaning.specs.State.{Word, Firings, Taken, Given, Hand, Keep, Place, Sent, Received, End, wordCount, read, write}
 use Rattle.meaning.specs.Rules.{processOn, streamOn, takenOut, linkPlace}
-use Rattle.network.specs.Cases.{Order, less, atLeast, order}
-use Rattle.network.specs.Counters.{Step, put, get, fire, Counts}
-use Rattle.network.specs.Words.{Words}
+use Rattle.abstract_network.specs.Cases.{Order, less, atLeast, order}
+use Rattle.abstract_network.specs.Counters.{Step, put, get, fire, Counts}
+use Rattle.abstract_network.specs.Words.{Words}
 use Rattle.network.specs.Layout.{Live, read-same, read-other}
 use Rattle.network.specs.Wiring.{Wired, stop-pipe, HasPort, has-port, port-is, placeAt}
 

@@ -14,9 +14,9 @@ use Rattle.meaning.specs.State.{Firings, Taken, Given, Sent, Received, wordCoun
 use Rattle.meaning.specs.Rules.{processOn, streamOn, putIn, takenOut, soundLink, soundStop, soundPipe, soundPort, soundProcess, sound}
 use Rattle.meaning.specs.Rules.{Memory, ready, apply}
 use Rattle.meaning.specs.Rules as Rules
-use Rattle.network.specs.Cases.{Order, less, atLeast, order}
-use Rattle.network.specs.Counters.{put, get, fire}
-use Rattle.network.specs.Sound.{Balance, Sound, sound-step}
+use Rattle.abstract_network.specs.Cases.{Order, less, atLeast, order}
+use Rattle.abstract_network.specs.Counters.{put, get, fire}
+use Rattle.abstract_network.specs.Sound.{Balance, Sound, sound-step}
 use Rattle.network.specs.Wiring.{kindOf, netOf, Wired, stop-pipe, has-port, placeAt}
 use Rattle.network.specs.Slots.{sent, taken, given, fired, Has, slotOf, no-slot, view-none, countsOf}
 use Rattle.network.specs.Decide.{Says, said, says-true, says-and, says-then, says-as, says-le, says-every, says-balance}

@@ -13,10 +13,10 @@ use Rattle.meaning.specs.State.{Firings, Received, wordCount, read}
 use Rattle.meaning.specs.Rules.{streamOn, oldest, bodyAt, Send, Take, Fire, Give, Receive, Memory, apply, applyAll}
 use Rattle.meaning.specs.Rules as Rules
 use Rattle.lists.specs.Rows.{same-numbers}
-use Rattle.network.specs.Counters.{fire, Guard, OneMore, put≢fire, get≢fire}
-use Rattle.network.specs.Sound.{Sound}
-use Rattle.network.specs.System.{word}
-use Rattle.network.specs.Good.{Granted, moves, fires, uses}
+use Rattle.abstract_network.specs.Counters.{fire, Guard, OneMore, put≢fire, get≢fire}
+use Rattle.abstract_network.specs.Sound.{Sound}
+use Rattle.abstract_network.specs.System.{word}
+use Rattle.abstract_network.specs.Good.{Granted, moves, fires, uses}
 use Rattle.network.specs.Wiring.{kindOf, netOf, elementAt, Wired, HasPort, has-port, placeAt, keepsAt}
 use Rattle.network.specs.Programs.{bodyOf, systemOf}
 use Rattle.network.specs.Slots.{sent, taken, view, countsOf, outOf, wordsOf}

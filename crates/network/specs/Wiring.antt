@@ -15,15 +15,15 @@ use Rattle.meaning.specs.Array.{elementsOn, stopAt, isStop, pipeThrough, onPipe
 use Rattle.meaning.specs.Rules.{processOn, streamOn}
 use Rattle.lists.specs.Sums.{total-next}
 use Rattle.lists.specs.Tests.{position-passes, any-position, both-true}
-use Rattle.network.specs.Cases.{Order, less, atLeast, order}
-use Rattle.network.specs.Counters.{Kind, through, keep, Shape, room, some, Net}
-use Rattle.network.specs.Ranks.{Next, level, rise, Ranked, rank-keep}
-use Rattle.network.specs.Firing.{Lined}
-use Rattle.network.specs.Due.{Laid}
-use Rattle.network.specs.Due as Due
-use Rattle.network.specs.Clock.{Rest, null, holds, Move, runs, Timing, none, clock}
-use Rattle.network.specs.Clock as Clock
-use Rattle.network.specs.Turns.{Before}
+use Rattle.abstract_network.specs.Cases.{Order, less, atLeast, order}
+use Rattle.abstract_network.specs.Counters.{Kind, through, keep, Shape, room, some, Net}
+use Rattle.abstract_network.specs.Ranks.{Next, level, rise, Ranked, rank-keep}
+use Rattle.abstract_network.specs.Firing.{Lined}
+use Rattle.abstract_network.specs.Due.{Laid}
+use Rattle.abstract_network.specs.Due as Due
+use Rattle.abstract_network.specs.Clock.{Rest, null, holds, Move, runs, Timing, none, clock}
+use Rattle.abstract_network.specs.Clock as Clock
+use Rattle.abstract_network.specs.Turns.{Before}
 
 -- ---- the network
 

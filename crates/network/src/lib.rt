@@ -1,18 +1,5 @@
-// The network proved: demand 3 for every description whose array is wired as geometry has to show. Theory only; what it says is in specs/.
-//
-// The abstract network, over numbers alone:
-//   Counters    stops, steps, rules and the counter invariant; `inv-step`: every granted step keeps it; `all-put`, `all-get`: all out, all
-//               done
-//   Sound       what is asked of any state; `sound-step`: every granted step keeps it; `inv-sound`: the invariant implies it
-//   Waits, Due, Descent, Clock
-//               what an occurrence waits for is due earlier; `progress`: some step is ready until all is out; `in-time`; the due times
-//   Values      the value invariant; `valued-fire`; Turns: `in-turn`, the order of firings at a written element
-//   Ranks       the order in which elements pass a link; `apart`: every element is in one place
-//   Words, Firing
-//               what the words are by counters and values; `stored-move`, `stored-fire`: every granted step keeps that
-//   System, Good
-//               what geometry knows of a network; the invariant of demand 3, `good-step`
-//   Claims      stretch, ready, finish for every reached state; Count: the granted steps are the sum of the counters
+// The network proved: demand 3 for every description whose array is wired as geometry has to show. The abstract network stands apart, in
+// `abstract_network`. Theory only; what it says is in specs/.
 //
 // The array of a description:
 //   Layout      `layout`: different live words of a state stand at different places below the number of words; reading after writing
@@ -25,7 +12,8 @@
 //               the stores of each rule; `step-more`, `step-granted`: a ready step that is done is a granted step of the abstract network;
 //               `part-is`, `parts-are`: a pipe's part of the received list, and the whole of it
 //   Members, Runs, Outcome
-//               lists of granted steps from a cleared state: `reached-all`, `after`: the claims
+//               lists of granted steps from a cleared state: `reached-all`, `after`: the claims; Count: the granted steps are the sum of
+//               the counters
 //   States      `says-sound`; `sound-kept`: every granted step keeps a sound state sound, reached or not
 //   Kept        `kept`: of lists of granted steps, and that they write to slots only; `written-beyond`: what stands past the words is kept
 //   Finish      `final-word`, `finish-words`: when all values are out, every count is its total and every other word 0, whatever the order
@@ -40,8 +28,6 @@
 //   Beyond      `call-beyond`: no call changes what stands past the words, on any memory
 //   Demand      `after-start`: demand 3 after every list of calls, from `Wired` and `Described`; `guarantee`: for every accepted
 //               description, from what geometry owes
-//
-// Cases is what these use.
 pub fn one() -> usize {
     1
 }

@@ -11,7 +11,7 @@ use Rattle.meaning.specs.declared.Sizes.{Sizes}
 use Rattle.meaning.specs.Description.{sizesOf, lineWords, lineAt, wordsOf, inRange}
 use Rattle.meaning.specs.Accept.{accept}
 use Rattle.meaning.specs.GuardedLines.{OtherGuards}
-use Rattle.network.specs.Cases.{Order, less, atLeast, order}
+use Rattle.abstract_network.specs.Cases.{Order, less, atLeast, order}
 use Rattle.guarantee.specs.WordConditions.{index-word, comparison-word, bound-word}
 use Rattle.requests.specs.OtherWords.{both-true, answered-alike}
 

@@ -31,7 +31,7 @@ use Rattle.meaning.specs.Description.{descriptionOf, streamsOf, written, refuse
 use Rattle.meaning.specs.Accept.{refused33, nestTests, testsFrom, refusalOf, figures, divisors, accept}
 use Rattle.meaning.specs.Conditions.{SizesFit}
 use Rattle.lists.specs.Rows.{same-numbers, same-every}
-use Rattle.network.specs.Cases.{Order, less, atLeast, order}
+use Rattle.abstract_network.specs.Cases.{Order, less, atLeast, order}
 use Rattle.network.specs.Decide.{Says, says-true}
 use Rattle.guarantee.specs.Refusals.{Refuses, Refuses.met, Refuses.broken}
 use Rattle.guarantee.specs.WordConditions.{refuses2}

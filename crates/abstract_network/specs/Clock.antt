@@ -6,10 +6,10 @@ use native.Mathlib.Nat.{le-refl, mul-le-mul-left, mul-le-mul-right}
 use native.Mathlib.Omega.{arith}
 use lib.Dec.{ltb}
 use borrow.Author.Tests.{lt-ltb, le-ltb}
-use Rattle.network.specs.Cases.{Order, less, atLeast, order}
-use Rattle.network.specs.Counters.{Kind, through, keep, Step, put, get, fire, Net}
-use Rattle.network.specs.Waits.{Clocked, is-through, is-keep}
-use Rattle.network.specs.Due.{Occurs, Clock}
+use Rattle.abstract_network.specs.Cases.{Order, less, atLeast, order}
+use Rattle.abstract_network.specs.Counters.{Kind, through, keep, Step, put, get, fire, Net}
+use Rattle.abstract_network.specs.Waits.{Clocked, is-through, is-keep}
+use Rattle.abstract_network.specs.Due.{Occurs, Clock}
 
 -- loading, then recovery, of the j-th element of n at link k
 unfoldable pub base : (T n k j : ℕ) → ℕ

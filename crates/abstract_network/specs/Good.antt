@@ -5,17 +5,17 @@ use mathlib.Core.Logic.{_⊎_, inl, inr}
 use Prim.Native.Nat.{ℕ, suc, _<_}
 use native.Mathlib.Decide.{ℕ-discrete}
 use native.Mathlib.Omega.{arith}
-use Rattle.network.specs.Cases.{Equal, same, other, equal}
-use Rattle.network.specs.Counters.{Kind, through, keep, hand, Step, put, fire, Counts, Net, Guard, Inv, inv-start, inv-step, OneMore}
-use Rattle.network.specs.Counters.{get-elements}
-use Rattle.network.specs.Ranks.{Ranked, rank-zero}
-use Rattle.network.specs.Words.{Hold, passes, keeps, Words, Stored, Moves, stored-move}
-use Rattle.network.specs.Firing.{Own, Owns, Fires, Changed, stored-fire}
-use Rattle.network.specs.Due.{Laid}
-use Rattle.network.specs.Turns.{Fired, in-turn}
-use Rattle.network.specs.Values.{Store, Program, Fired', inputs, exec, exec-hit, exec-miss, Upto, Valued, valued-same, valued-start}
-use Rattle.network.specs.Values.{valued-fire, value-first}
-use Rattle.network.specs.System.{word, word-is, Geometry, System, sent}
+use Rattle.abstract_network.specs.Cases.{Equal, same, other, equal}
+use Rattle.abstract_network.specs.Counters.{Kind, through, keep, hand, Step, put, fire, Counts, Net, Guard, Inv, inv-start, inv-step, OneMore}
+use Rattle.abstract_network.specs.Counters.{get-elements}
+use Rattle.abstract_network.specs.Ranks.{Ranked, rank-zero}
+use Rattle.abstract_network.specs.Words.{Hold, passes, keeps, Words, Stored, Moves, stored-move}
+use Rattle.abstract_network.specs.Firing.{Own, Owns, Fires, Changed, stored-fire}
+use Rattle.abstract_network.specs.Due.{Laid}
+use Rattle.abstract_network.specs.Turns.{Fired, in-turn}
+use Rattle.abstract_network.specs.Values.{Store, Program, Fired', inputs, exec, exec-hit, exec-miss, Upto, Valued, valued-same, valued-start}
+use Rattle.abstract_network.specs.Values.{valued-fire, value-first}
+use Rattle.abstract_network.specs.System.{word, word-is, Geometry, System, sent}
 
 module _ (X : System) where
   open System X using (net, ranked, lined, laid, program, geometry, bodied)

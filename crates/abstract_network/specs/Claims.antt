@@ -3,14 +3,14 @@ use mathlib.Core.Path.{_≡_, _∙_, ap}
 use Prim.Native.Nat.{ℕ, suc, _+_, _-_, _≤_, _<_}
 use native.Mathlib.Nat.{le-refl}
 use native.Mathlib.Omega.{arith}
-use Rattle.network.specs.Cases.{Order, less, atLeast, order}
-use Rattle.network.specs.Counters.{Kind, Step, put, get, fire, Counts, Net, Guard, get-elements, below-head, all-put, all-get}
-use Rattle.network.specs.Words.{Hold, passes, keeps, Words}
-use Rattle.network.specs.Due.{Occurs, Laid, progress, ready-occurs}
-use Rattle.network.specs.Turns.{Fired}
-use Rattle.network.specs.Values.{Program, plain, value-last}
-use Rattle.network.specs.System.{Geometry, System, final}
-use Rattle.network.specs.Good.{Granted, Good, good-start, good-step}
+use Rattle.abstract_network.specs.Cases.{Order, less, atLeast, order}
+use Rattle.abstract_network.specs.Counters.{Kind, Step, put, get, fire, Counts, Net, Guard, get-elements, below-head, all-put, all-get}
+use Rattle.abstract_network.specs.Words.{Hold, passes, keeps, Words}
+use Rattle.abstract_network.specs.Due.{Occurs, Laid, progress, ready-occurs}
+use Rattle.abstract_network.specs.Turns.{Fired}
+use Rattle.abstract_network.specs.Values.{Program, plain, value-last}
+use Rattle.abstract_network.specs.System.{Geometry, System, final}
+use Rattle.abstract_network.specs.Good.{Granted, Good, good-start, good-step}
 
 module _ (X : System) where
   open System X using (net, ranked, laid, clock, program, geometry, bodied)

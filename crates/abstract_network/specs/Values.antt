@@ -8,7 +8,7 @@ use native.Mathlib.Nat.{le-refl}
 use native.Mathlib.Omega.{arith}
 use lib.Dec.{eqb}
 use borrow.Author.Tests.{eq-eqb, ne-eqb}
-use Rattle.network.specs.Cases.{Order, less, atLeast, order, Equal, same, other, equal}
+use Rattle.abstract_network.specs.Cases.{Order, less, atLeast, order, Equal, same, other, equal}
 
 -- a value for each element of each stream
 abbrev pub Store : Type 0

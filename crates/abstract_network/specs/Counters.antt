@@ -2,7 +2,7 @@
 use mathlib.Core.Path.{_≡_, refl, sym, _∙_, ap, ap₂, subst}
 use Prim.Native.Nat.{ℕ, zero, suc, _+_, _-_, _≤_, _<_, min}
 use native.Mathlib.Omega.{arith}
-use Rattle.network.specs.Cases.{Order, less, atLeast, order, Equal, same, other, equal}
+use Rattle.abstract_network.specs.Cases.{Order, less, atLeast, order, Equal, same, other, equal}
 
 -- Stops. A process on a pipe either lets every element through its hand, using some on the way, or keeps the first.
 -- A null process lets all through with soak = elems and count = 0.

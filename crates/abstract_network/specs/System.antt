@@ -6,14 +6,14 @@ use mathlib.Core.Logic.{_⊎_, inl, inr}
 use Prim.Native.Nat.{ℕ, zero, suc, _+_, _-_, _≤_, _<_}
 use native.Mathlib.Nat.{le-refl}
 use native.Mathlib.Omega.{arith}
-use Rattle.network.specs.Counters.{Kind, through, keep, AtStop, passing, fresh, holding, gone, Use, hand, held, put, get, fire}
-use Rattle.network.specs.Counters.{Counts, Net, Inv, along}
-use Rattle.network.specs.Ranks.{wrap, Wrap, low, high, wrapped, Ranked, rank-keep, rank-zero, upstream, above, below}
-use Rattle.network.specs.Words.{Hold, passes, keeps}
-use Rattle.network.specs.Firing.{Own, in-hand, in-keep, Lined}
-use Rattle.network.specs.Due.{Clock, Laid}
-use Rattle.network.specs.Turns.{Before, Fired}
-use Rattle.network.specs.Values.{Program, Body}
+use Rattle.abstract_network.specs.Counters.{Kind, through, keep, AtStop, passing, fresh, holding, gone, Use, hand, held, put, get, fire}
+use Rattle.abstract_network.specs.Counters.{Counts, Net, Inv, along}
+use Rattle.abstract_network.specs.Ranks.{wrap, Wrap, low, high, wrapped, Ranked, rank-keep, rank-zero, upstream, above, below}
+use Rattle.abstract_network.specs.Words.{Hold, passes, keeps}
+use Rattle.abstract_network.specs.Firing.{Own, in-hand, in-keep, Lined}
+use Rattle.abstract_network.specs.Due.{Clock, Laid}
+use Rattle.abstract_network.specs.Turns.{Before, Fired}
+use Rattle.abstract_network.specs.Values.{Program, Body}
 
 -- the word that a process uses
 abbrev pub word : Kind → ℕ → ℕ → ℕ

@@ -3,11 +3,11 @@ use mathlib.Core.Path.{_≡_, refl, sym, _∙_, ap, subst}
 use Prim.Native.Nat.{ℕ, zero, suc, _+_, _-_, _≤_, _<_}
 use native.Mathlib.Nat.{le-refl}
 use native.Mathlib.Omega.{arith}
-use Rattle.network.specs.Cases.{Equal, same, other, equal}
-use Rattle.network.specs.Counters.{Kind, through, keep, AtStop, passing, stop-order, Hand, empty, first, free, Offer, soaked, drained}
-use Rattle.network.specs.Counters.{used, passed, kept, hand, Step, put, get, Counts, Net, Guard, Inv, OneMore, Hit, hit, miss, hit?}
-use Rattle.network.specs.Counters.{put≢get, below-head}
-use Rattle.network.specs.Ranks.{wrap, Wrap, low, high, wrapped, Next, level, rise, Ranked, rank-keep, wrap-end}
+use Rattle.abstract_network.specs.Cases.{Equal, same, other, equal}
+use Rattle.abstract_network.specs.Counters.{Kind, through, keep, AtStop, passing, stop-order, Hand, empty, first, free, Offer, soaked, drained}
+use Rattle.abstract_network.specs.Counters.{used, passed, kept, hand, Step, put, get, Counts, Net, Guard, Inv, OneMore, Hit, hit, miss, hit?}
+use Rattle.abstract_network.specs.Counters.{put≢get, below-head}
+use Rattle.abstract_network.specs.Ranks.{wrap, Wrap, low, high, wrapped, Next, level, rise, Ranked, rank-keep, wrap-end}
 
 -- a stop's hand word hv and keep word kv, the pipe's j-th element having the value B j
 pub data Hold (n r r' x y : ℕ) (B : ℕ → ℕ) (hv kv : ℕ) : Kind → Type 0 where

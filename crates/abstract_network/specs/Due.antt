@@ -4,11 +4,11 @@ use mathlib.Core.Logic.{_⊎_, inl, inr}
 use Prim.Native.Nat.{ℕ, zero, suc, _+_, _-_, _≤_, _<_}
 use native.Mathlib.Nat.{le-refl}
 use native.Mathlib.Omega.{arith}
-use Rattle.network.specs.Cases.{Order, less, atLeast, order}
-use Rattle.network.specs.Descent.{Blocked, descend}
-use Rattle.network.specs.Counters.{Kind, Shape, AtStop, Hand, Offer, soaked, drained, used, passed, kept, Use, Step, put, get, fire}
-use Rattle.network.specs.Counters.{Counts, Net, At, Guard, Inv, get-elements, below-head}
-use Rattle.network.specs.Waits.{Late, Clocked, judge-hand, judge-offer, judge-use}
+use Rattle.abstract_network.specs.Cases.{Order, less, atLeast, order}
+use Rattle.abstract_network.specs.Descent.{Blocked, descend}
+use Rattle.abstract_network.specs.Counters.{Kind, Shape, AtStop, Hand, Offer, soaked, drained, used, passed, kept, Use, Step, put, get, fire}
+use Rattle.abstract_network.specs.Counters.{Counts, Net, At, Guard, Inv, get-elements, below-head}
+use Rattle.abstract_network.specs.Waits.{Late, Clocked, judge-hand, judge-offer, judge-use}
 
 module _ (N : Net) where
   open Net N using (stops, elements, hop, process, kind, soak, count)
