@@ -4,7 +4,8 @@ use Prim.Native.Nat.{ℕ, suc, _+_, _-_, _≤_, _<_}
 use native.Mathlib.Nat.{le-refl}
 use native.Mathlib.Omega.{arith}
 use Rattle.abstract_network.specs.Cases.{Order, less, atLeast, order}
-use Rattle.abstract_network.specs.Counters.{Kind, Step, put, get, fire, Counts, Net, Guard, get-elements, below-head, all-put, all-get}
+use Rattle.abstract_network.specs.Counters.{Kind, Step, put, get, fire, Counts, Net, Guard, get-elements, below-head, all-put}
+use Rattle.abstract_network.specs.Counters.{all-get}
 use Rattle.abstract_network.specs.Words.{Hold, passes, keeps, Words}
 use Rattle.abstract_network.specs.Due.{Occurs, Laid, progress, ready-occurs}
 use Rattle.abstract_network.specs.Turns.{Fired}

@@ -6,7 +6,8 @@ use native.Mathlib.Nat.{le-refl}
 use native.Mathlib.Omega.{arith}
 use Rattle.abstract_network.specs.Cases.{Order, less, atLeast, order}
 use Rattle.abstract_network.specs.Descent.{Blocked, descend}
-use Rattle.abstract_network.specs.Counters.{Kind, Shape, AtStop, Hand, Offer, soaked, drained, used, passed, kept, Use, Step, put, get, fire}
+use Rattle.abstract_network.specs.Counters.{Kind, Shape, AtStop, Hand, Offer, soaked, drained, used, passed, kept, Use, Step, put}
+use Rattle.abstract_network.specs.Counters.{get, fire}
 use Rattle.abstract_network.specs.Counters.{Counts, Net, At, Guard, Inv, get-elements, below-head}
 use Rattle.abstract_network.specs.Waits.{Late, Clocked, judge-hand, judge-offer, judge-use}
 

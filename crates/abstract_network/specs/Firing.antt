@@ -6,9 +6,11 @@ use Prim.Native.Nat.{ℕ, zero, suc, _+_, _-_, _≤_, _<_}
 use native.Mathlib.Nat.{le-refl}
 use native.Mathlib.Omega.{arith}
 use Rattle.abstract_network.specs.Cases.{Order, less, atLeast, order}
-use Rattle.abstract_network.specs.Counters.{Kind, through, keep, AtStop, fresh, holding, gone, stop-order, Use, hand, held, put, get, fire}
+use Rattle.abstract_network.specs.Counters.{Kind, through, keep, AtStop, fresh, holding, gone, stop-order, Use, hand, held, put, get}
+use Rattle.abstract_network.specs.Counters.{fire}
 use Rattle.abstract_network.specs.Counters.{Counts, Net, At, Guard, Inv, OneMore, put≢fire, get≢fire, along, below-head, get-elements}
-use Rattle.abstract_network.specs.Ranks.{wrap, Wrap, low, high, wrapped, Next, level, rise, Ranked, rank-mono, rank-elements, rank-keep}
+use Rattle.abstract_network.specs.Ranks.{wrap, Wrap, low, high, wrapped, Next, level, rise, Ranked, rank-mono, rank-elements}
+use Rattle.abstract_network.specs.Ranks.{rank-keep}
 use Rattle.abstract_network.specs.Ranks.{rank-zero, wrap-end, wrap-lt, upstream, apart}
 use Rattle.abstract_network.specs.Words.{Hold, passes, keeps, Words, Stored}
 

@@ -6,14 +6,16 @@ use Prim.Native.Nat.{ℕ, suc, _<_}
 use native.Mathlib.Decide.{ℕ-discrete}
 use native.Mathlib.Omega.{arith}
 use Rattle.abstract_network.specs.Cases.{Equal, same, other, equal}
-use Rattle.abstract_network.specs.Counters.{Kind, through, keep, hand, Step, put, fire, Counts, Net, Guard, Inv, inv-start, inv-step, OneMore}
+use Rattle.abstract_network.specs.Counters.{Kind, through, keep, hand, Step, put, fire, Counts, Net, Guard, Inv, inv-start, inv-step}
+use Rattle.abstract_network.specs.Counters.{OneMore}
 use Rattle.abstract_network.specs.Counters.{get-elements}
 use Rattle.abstract_network.specs.Ranks.{Ranked, rank-zero}
 use Rattle.abstract_network.specs.Words.{Hold, passes, keeps, Words, Stored, Moves, stored-move}
 use Rattle.abstract_network.specs.Firing.{Own, Owns, Fires, Changed, stored-fire}
 use Rattle.abstract_network.specs.Due.{Laid}
 use Rattle.abstract_network.specs.Turns.{Fired, in-turn}
-use Rattle.abstract_network.specs.Values.{Store, Program, Fired', inputs, exec, exec-hit, exec-miss, Upto, Valued, valued-same, valued-start}
+use Rattle.abstract_network.specs.Values.{Store, Program, Fired', inputs, exec, exec-hit, exec-miss, Upto, Valued, valued-same}
+use Rattle.abstract_network.specs.Values.{valued-start}
 use Rattle.abstract_network.specs.Values.{valued-fire, value-first}
 use Rattle.abstract_network.specs.System.{word, word-is, Geometry, System, sent}
 

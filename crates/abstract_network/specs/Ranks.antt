@@ -9,7 +9,8 @@ use native.Mathlib.Omega.{arith}
 use lib.Dec.{ltb}
 use borrow.Author.Tests.{lt-ltb, le-ltb}
 use Rattle.abstract_network.specs.Cases.{Order, less, atLeast, order}
-use Rattle.abstract_network.specs.Counters.{Kind, through, keep, some, AtStop, passing, fresh, holding, gone, stop-order, held, put, get}
+use Rattle.abstract_network.specs.Counters.{Kind, through, keep, some, AtStop, passing, fresh, holding, gone, stop-order, held, put}
+use Rattle.abstract_network.specs.Counters.{get}
 use Rattle.abstract_network.specs.Counters.{Counts, Net, Inv, along}
 
 -- the place of the g-th in the order of the pipe, g < 2 n

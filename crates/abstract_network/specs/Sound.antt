@@ -3,8 +3,10 @@
 use mathlib.Core.Path.{_≡_, sym, _∙_, subst}
 use Prim.Native.Nat.{ℕ, zero, suc, _+_, _≤_, _<_}
 use native.Mathlib.Omega.{arith}
-use Rattle.abstract_network.specs.Counters.{Kind, through, keep, AtStop, passing, fresh, holding, gone, Hand, empty, first, free, Offer}
-use Rattle.abstract_network.specs.Counters.{soaked, drained, used, passed, kept, Step, put, get, fire, Counts, Net, Guard, Inv, OneMore, Hit}
+use Rattle.abstract_network.specs.Counters.{Kind, through, keep, AtStop, passing, fresh, holding, gone, Hand, empty, first, free}
+use Rattle.abstract_network.specs.Counters.{Offer}
+use Rattle.abstract_network.specs.Counters.{soaked, drained, used, passed, kept, Step, put, get, fire, Counts, Net, Guard, Inv}
+use Rattle.abstract_network.specs.Counters.{OneMore, Hit}
 use Rattle.abstract_network.specs.Counters.{hit, miss, hit?, put≢get, below-head, get-elements}
 use Rattle.abstract_network.specs.Cases.{Order, less, atLeast, order}
 

@@ -6,7 +6,8 @@ use mathlib.Core.Logic.{_⊎_, inl, inr}
 use Prim.Native.Nat.{ℕ, zero, suc, _+_, _-_, _≤_, _<_}
 use native.Mathlib.Nat.{le-refl}
 use native.Mathlib.Omega.{arith}
-use Rattle.abstract_network.specs.Counters.{Kind, through, keep, AtStop, passing, fresh, holding, gone, Use, hand, held, put, get, fire}
+use Rattle.abstract_network.specs.Counters.{Kind, through, keep, AtStop, passing, fresh, holding, gone, Use, hand, held, put, get}
+use Rattle.abstract_network.specs.Counters.{fire}
 use Rattle.abstract_network.specs.Counters.{Counts, Net, Inv, along}
 use Rattle.abstract_network.specs.Ranks.{wrap, Wrap, low, high, wrapped, Ranked, rank-keep, rank-zero, upstream, above, below}
 use Rattle.abstract_network.specs.Words.{Hold, passes, keeps}

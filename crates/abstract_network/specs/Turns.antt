@@ -4,7 +4,8 @@ use mathlib.Core.Path.{_≡_, sym, ap}
 use Prim.Native.Nat.{ℕ, suc, _+_, _-_, _≤_, _<_, min}
 use native.Mathlib.Omega.{arith}
 use Rattle.abstract_network.specs.Cases.{Order, less, atLeast, order}
-use Rattle.abstract_network.specs.Counters.{Kind, through, AtStop, passing, fresh, holding, gone, Use, hand, held, fire, Counts, Net, Guard}
+use Rattle.abstract_network.specs.Counters.{Kind, through, AtStop, passing, fresh, holding, gone, Use, hand, held, fire, Counts, Net}
+use Rattle.abstract_network.specs.Counters.{Guard}
 use Rattle.abstract_network.specs.Counters.{Inv, along}
 use Rattle.abstract_network.specs.Values.{Upto}
 

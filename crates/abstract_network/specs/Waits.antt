@@ -5,7 +5,8 @@ use Prim.Native.Nat.{ℕ, suc, _+_, _-_, _≤_, _<_}
 use native.Mathlib.Nat.{le-refl}
 use native.Mathlib.Omega.{arith}
 use Rattle.abstract_network.specs.Cases.{Order, less, atLeast, order}
-use Rattle.abstract_network.specs.Counters.{Kind, through, keep, Shape, room, some, AtStop, passing, fresh, holding, gone, Hand, empty, first}
+use Rattle.abstract_network.specs.Counters.{Kind, through, keep, Shape, room, some, AtStop, passing, fresh, holding, gone, Hand}
+use Rattle.abstract_network.specs.Counters.{empty, first}
 use Rattle.abstract_network.specs.Counters.{free, Offer, soaked, drained, used, passed, kept, Use, hand, held}
 
 -- an occurrence of a step with due times D, done x times of n, that is not done and is due before d

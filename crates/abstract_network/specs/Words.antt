@@ -4,8 +4,10 @@ use Prim.Native.Nat.{ℕ, zero, suc, _+_, _-_, _≤_, _<_}
 use native.Mathlib.Nat.{le-refl}
 use native.Mathlib.Omega.{arith}
 use Rattle.abstract_network.specs.Cases.{Equal, same, other, equal}
-use Rattle.abstract_network.specs.Counters.{Kind, through, keep, AtStop, passing, stop-order, Hand, empty, first, free, Offer, soaked, drained}
-use Rattle.abstract_network.specs.Counters.{used, passed, kept, hand, Step, put, get, Counts, Net, Guard, Inv, OneMore, Hit, hit, miss, hit?}
+use Rattle.abstract_network.specs.Counters.{Kind, through, keep, AtStop, passing, stop-order, Hand, empty, first, free, Offer, soaked}
+use Rattle.abstract_network.specs.Counters.{drained}
+use Rattle.abstract_network.specs.Counters.{used, passed, kept, hand, Step, put, get, Counts, Net, Guard, Inv, OneMore, Hit, hit}
+use Rattle.abstract_network.specs.Counters.{miss, hit?}
 use Rattle.abstract_network.specs.Counters.{put≢get, below-head}
 use Rattle.abstract_network.specs.Ranks.{wrap, Wrap, low, high, wrapped, Next, level, rise, Ranked, rank-keep, wrap-end}
 
