@@ -19,7 +19,8 @@ use Rattle.meaning.specs.Rules.{Memory}
 use Rattle.meaning.specs.Tests.{_if_}
 use Rattle.meaning.specs.Calls.{A, d, canMove, memoryTests, refusedBy, readyCall}
 use Rattle.bits.specs.Numbers.{below, below-true, below-false}
-use Rattle.bits.specs.Words.{wordOf, wordsOf, cleared, marked, onesOf, lowestFrom, words-never, words-length, including}
+use Rattle.bits.specs.Tested.{wordOf}
+use Rattle.bits.specs.Words.{wordsOf, cleared, marked, onesOf, lowestFrom, words-never, words-length, including}
 use Rattle.bits.specs.Words.{including-same, including-other, words-marked, words-count, words-lowest}
 
 -- the words after the first k processes

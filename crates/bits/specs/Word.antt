@@ -1,17 +1,18 @@
--- A word as the list of its bits, lowest first: setting a bit, counting the set ones and finding the lowest. Assumes nothing.
+-- A word as the list of its bits, lowest first: a bit set, turned over or asked for, the set ones counted and the lowest found. Assumes
+-- nothing.
 use mathlib.Core.Path.{_≡_, refl, sym, _∙_, ap, ap₂}
-use mathlib.Core.Bool.{Bool, true, false, cond}
+use mathlib.Core.Bool.{Bool, true, false, cond, not}
 use mathlib.Core.List.{List, [], _∷_, map}
-use Prim.Native.Nat.{ℕ, zero, suc, _+_, _*_, _%_, _^_, _<_}
-use native.Mathlib.Nat.{zero-mul, one-mul, add-zero, add-suc, pow-suc}
+use Prim.Native.Nat.{ℕ, zero, suc, _+_, _*_, _/_, _%_, _^_, _<_}
+use native.Mathlib.Nat.{zero-mul, one-mul, add-zero, add-suc, pow-suc, zero-div, div-one}
 use native.Mathlib.Numerals.{add-one}
 use native.Mathlib.Omega.{arith}
 use lib.Arith.{digits-div, digits-mod}
-use lib.Bits.{bitOr, or-block, or-zero-r}
+use lib.Bits.{bitOr, bitXor, or-block, or-zero-r, xor-block, xor-zero-r}
 use lib.Count.{ones, ones-cat, trailingZeros, under}
 use lib.Dec.{lit<}
-use lib.ListN.{length, set}
-use lib.Pow.{shl-exact}
+use lib.ListN.{length, getD, set}
+use lib.Pow.{shl-exact, shr-shr}
 use Rattle.meaning.specs.Lists.{filter, position, total, numbersFrom}
 use Rattle.bits.specs.Numbers.{howMany, firstTrue}
 
@@ -42,25 +43,53 @@ value-sum f s j (suc n) =
     sums true v p = omega arith
     sums false v p = omega arith
 
--- ---- setting
+-- ---- changing
 
 -- `1u64 << b`
 pub one-shifted : (b : ℕ) → b < 64 → (1 * 2 ^ b) % 2 ^ 64 ≡ 2 ^ b
 one-shifted b h = shl-exact {a = 1} 1 b 64 (lit< tt) (omega arith) ∙ one-mul (2 ^ b)
 
+-- bit b joined with 1 by an operation that works bit by bit, where `new` says what it makes of a bit
+module _ (op : ℕ → ℕ → ℕ) (new : Bool → Bool)
+    (block : (k a b r s : ℕ) → r < 2 ^ k → s < 2 ^ k → op (a * 2 ^ k + r) (b * 2 ^ k + s) ≡ op a b * 2 ^ k + op r s)
+    (none : (a : ℕ) → op a 0 ≡ a) (one : (d : Bool) → op (digit d) 1 ≡ digit (new d)) where
+  value-with : (l : List Bool) (b : ℕ) → b < length l → op (value l) (2 ^ b) ≡ value (set l b (new (getD l b false)))
+  unfolding value
+  value-with [] b h = absurd (omega arith)
+  value-with (d ∷ l) zero h =
+      block 1 (value l) 0 (digit d) 1 (digit-lt d) (lit< tt) ∙ ap₂ (λ (v r : ℕ). v * 2 + r) (none (value l)) (one d)
+  value-with (d ∷ l) (suc b) h =
+      ap (op (value l * 2 + digit d)) (pow-suc 2 b ∙ sym (add-zero (2 ^ b * 2)))
+      ∙ block 1 (value l) (2 ^ b) (digit d) 0 (digit-lt d) (lit< tt)
+      ∙ ap₂ (λ (v r : ℕ). v * 2 + r) (value-with l b (omega arith)) (none (digit d))
+
 pub value-set : (l : List Bool) (b : ℕ) → b < length l → bitOr (value l) (2 ^ b) ≡ value (set l b true)
-unfolding value
-value-set [] b h = absurd (omega arith)
-value-set (d ∷ l) zero h =
-    or-block 1 (value l) 0 (digit d) 1 (digit-lt d) (lit< tt) ∙ ap₂ (λ (v r : ℕ). v * 2 + r) (or-zero-r (value l)) (one d)
+value-set = value-with bitOr (λ d. true) or-block or-zero-r one
   where
     one : (d : Bool) → bitOr (digit d) 1 ≡ 1
     one true = refl
     one false = refl
-value-set (d ∷ l) (suc b) h =
-    ap (bitOr (value l * 2 + digit d)) (pow-suc 2 b ∙ sym (add-zero (2 ^ b * 2)))
-    ∙ or-block 1 (value l) (2 ^ b) (digit d) 0 (digit-lt d) (lit< tt)
-    ∙ ap₂ (λ (v r : ℕ). v * 2 + r) (value-set l b (omega arith)) (or-zero-r (digit d))
+
+-- turned over
+pub value-flip : (l : List Bool) (b : ℕ) → b < length l → bitXor (value l) (2 ^ b) ≡ value (set l b (not (getD l b false)))
+value-flip = value-with bitXor not xor-block xor-zero-r one
+  where
+    one : (d : Bool) → bitXor (digit d) 1 ≡ digit (not d)
+    one true = refl
+    one false = refl
+
+-- ---- asking
+
+-- `w >> b` modulo 2
+pub value-bit : (l : List Bool) (b : ℕ) → value l / 2 ^ b % 2 ≡ digit (getD l b false)
+unfolding value
+value-bit [] b = ap (λ (v : ℕ). v % 2) (zero-div (2 ^ b))
+value-bit (d ∷ l) zero = ap (λ (v : ℕ). v % 2) (div-one (value l * 2 + digit d)) ∙ digits-mod (value l) (digit-lt d)
+value-bit (d ∷ l) (suc b) =
+    let w = value l * 2 + digit d in
+    let e : suc b ≡ 1 + b = omega arith in
+    ap (λ (k : ℕ). w / 2 ^ k % 2) e ∙ ap (λ (v : ℕ). v % 2) (sym (shr-shr w 1 b))
+    ∙ ap (λ (v : ℕ). v / 2 ^ b % 2) (digits-div (value l) (digit-lt d)) ∙ value-bit l b
 
 -- ---- counting
 

@@ -1,10 +1,10 @@
--- The sixteen words of a test of process numbers: word k has bit b set exactly if the test passes 64 k + b. Assumes nothing.
+-- The sixteen words of a test of process numbers. Assumes nothing.
 use mathlib.Core.Path.{_≡_, refl, sym, _∙_, ap, ap₂}
 use mathlib.Core.Bool.{Bool, true, false, cond, _||_}
 use mathlib.Core.List.{List, [], _∷_, _++_, map}
 use mathlib.Core.Logic.{_⊎_, inl, inr}
 use Prim.Native.Nat.{ℕ, zero, suc, _+_, _*_, _-_, _/_, _%_, _^_, _≤_, _<_}
-use native.Mathlib.Nat.{zero-add, add-zero, mul-one, mod-lt, zero-lt-suc, div-add-mod, div-lt-iff-lt-mul, eq-zero-or-pos, eq-or-lt-of-le}
+use native.Mathlib.Nat.{zero-add, add-zero, zero-lt-suc, div-lt-iff-lt-mul, eq-zero-or-pos, eq-or-lt-of-le}
 use native.Mathlib.Omega.{arith}
 use lib.Bits.{bitOr}
 use lib.Count.{ones, trailingZeros}
@@ -13,14 +13,11 @@ use lib.ListN.{length, getD, drop, set, replicate, List·getD-append}
 use lib.Seq.{set-append-left}
 use borrow.Author.Tests.{eq-eqb, ne-eqb}
 use Rattle.meaning.specs.Lists.{filter, position, total, numbersFrom, numbers}
-use Rattle.lists.specs.Rows.{length-numbers, getD-numbers, numbers-add, same-numbers}
+use Rattle.lists.specs.Rows.{length-numbers, getD-numbers, numbers-add}
 use Rattle.bits.specs.Numbers.{howMany, firstTrue, below, count-map, position-map, numbers-set, below-outcomes, many-append}
 use Rattle.bits.specs.Numbers.{many-false, first-le, first-in, first-past, first-false}
-use Rattle.bits.specs.Word.{value, value-sum, value-set, value-ones, value-trailing, value-zero, value-some}
-
--- process 64 k + b is bit b of word k
-unfoldable pub wordOf : (ℕ → Bool) → ℕ → ℕ
-wordOf f k = total (λ b. cond (f (64 * k + b)) (2 ^ b) 0) (numbers 64)
+use Rattle.bits.specs.Word.{value-ones}
+use Rattle.bits.specs.Tested.{wordOf, bitsOf, word-is, word-set, word-other, length-bits, word-first, word-zero, word-some}
 
 abbrev pub wordsOf : (ℕ → Bool) → List ℕ
 wordsOf f = map (wordOf f) (numbers 16)
@@ -44,16 +41,7 @@ unfoldable pub lowestFrom : ℕ → ℕ → List ℕ → ℕ
 lowestFrom none k [] = none
 lowestFrom none k (w ∷ words) = cond (eqb w 0) (lowestFrom none (suc k) words) (64 * k + trailingZeros 64 w)
 
--- ---- the bits of a word are the outcomes of its 64 processes
-
-abbrev bitsOf : (ℕ → Bool) → ℕ → List Bool
-bitsOf f k = map f (numbersFrom (64 * k) 64)
-
-word-is : (f : ℕ → Bool) (k : ℕ) → wordOf f k ≡ value (bitsOf f k)
-unfolding wordOf
-word-is f k =
-    value-sum f (64 * k) 0 64 ∙ mul-one (value (map f (numbersFrom (64 * k + 0) 64)))
-    ∙ ap (λ (i : ℕ). value (map f (numbersFrom i 64))) (add-zero (64 * k))
+-- ---- all of them
 
 pub words-never : wordsOf (λ p. false) ≡ replicate 16 0
 unfolding wordOf total numbersFrom
@@ -83,36 +71,12 @@ pub including-other : (f : ℕ → Bool) (p q : ℕ) → (q ≡ p → ⊥) → i
 including-other f p q n = ap (λ (b : Bool). f q || b) (ne-eqb q p n) ∙ or-false (f q)
 
 module _ (f : ℕ → Bool) (p : ℕ) where
-  place : 64 * (p / 64) + p % 64 ≡ p
-  place = div-add-mod p 64
-
-  low : p % 64 < 64
-  low = mod-lt p (zero-lt-suc 63)
-
-  -- p's word
-  word-marked : bitOr (wordOf f (p / 64)) (2 ^ (p % 64)) ≡ wordOf (including f p) (p / 64)
-  word-marked =
-      let k = p / 64 in
-      let b = p % 64 in
-      let l = bitsOf f k in
-      ap (λ (w : ℕ). bitOr w (2 ^ b)) (word-is f k) ∙ value-set l b (rw length-numbers low)
-      ∙ ap value (ap (set l b) (sym (including-same f p (64 * k + b) place))
-      ∙ numbers-set f (including f p) (64 * k) 64 b low (λ x n. including-other f p x (λ e. n (e ∙ sym place))))
-      ∙ sym (word-is (including f p) k)
-
-  -- every other word
-  word-other : (k : ℕ) → (k ≡ 0 + p / 64 → ⊥) → wordOf (including f p) k ≡ wordOf f k
-  word-other k n =
-      word-is (including f p) k
-      ∙ ap value (same-numbers (including f p) f (64 * k) 64 (λ j l h. including-other f p j (λ e. n (omega (arith, place, low)))))
-      ∙ sym (word-is f k)
-
   pub words-marked : (rest : List ℕ) → p < 1024 → marked (wordsOf f ++ rest) p ≡ wordsOf (including f p) ++ rest
   words-marked rest h =
       ap (λ (w : ℕ). set (wordsOf f ++ rest) k (bitOr w (2 ^ (p % 64)))) read
-      ∙ ap (set (wordsOf f ++ rest) k) (word-marked ∙ ap (wordOf (including f p)) (sym (zero-add k)))
+      ∙ ap (set (wordsOf f ++ rest) k) (marked-word ∙ ap (wordOf (including f p)) (sym (zero-add k)))
       ∙ set-append-left (wordsOf f) rest k (wordOf (including f p) (0 + k)) fits
-      ∙ ap (λ (l : List ℕ). l ++ rest) (numbers-set (wordOf f) (wordOf (including f p)) 0 16 k at word-other)
+      ∙ ap (λ (l : List ℕ). l ++ rest) (numbers-set (wordOf f) (wordOf (including f p)) 0 16 k at other)
     where
       k : ℕ
       k = p / 64
@@ -122,6 +86,12 @@ module _ (f : ℕ → Bool) (p : ℕ) where
 
       fits : k < length (wordsOf f)
       fits = rw words-length at
+
+      marked-word : bitOr (wordOf f k) (2 ^ (p % 64)) ≡ wordOf (including f p) k
+      marked-word = word-set f (including f p) p (including-other f p) (including-same f p p refl)
+
+      other : (j : ℕ) → (j ≡ 0 + k → ⊥) → wordOf (including f p) j ≡ wordOf f j
+      other j n = word-other f (including f p) p (including-other f p) j (λ e. n (e ∙ sym (zero-add k)))
 
       read : getD (wordsOf f ++ rest) k 0 ≡ wordOf f k
       read = List·getD-append (wordsOf f) rest 0 k fits ∙ getD-numbers (wordOf f) 0 0 16 k at ∙ ap (wordOf f) (zero-add k)
@@ -159,20 +129,10 @@ unfolding lowestFrom
 lowest-here none k w words n = rw (ne-eqb w 0 n)
 
 module _ (f : ℕ → Bool) (k : ℕ) where
-  length-bits : length (bitsOf f k) ≡ 64
-  length-bits = length-numbers f (64 * k) 64
-
-  word-first : trailingZeros 64 (wordOf f k) ≡ firstTrue (bitsOf f k)
-  word-first = ap (trailingZeros 64) (word-is f k) ∙ ap (λ (n : ℕ). trailingZeros n (value (bitsOf f k))) (sym length-bits)
-      ∙ value-trailing (bitsOf f k)
-
   first-further : (m : ℕ) → wordOf f k ≡ 0 → firstTrue (bitsFrom f k (suc m)) ≡ 64 + firstTrue (bitsFrom f (suc k) m)
   first-further m e =
-      ap firstTrue (bits-step f k m) ∙ first-past (bitsOf f k) (bitsFrom f (suc k) m) (value-zero (bitsOf f k) (sym (word-is f k) ∙ e))
-      ∙ ap (λ (n : ℕ). n + firstTrue (bitsFrom f (suc k) m)) length-bits
-
-  first-there : (wordOf f k ≡ 0 → ⊥) → firstTrue (bitsOf f k) < length (bitsOf f k)
-  first-there n = value-some (bitsOf f k) (λ e. n (word-is f k ∙ e))
+      ap firstTrue (bits-step f k m) ∙ first-past (bitsOf f k) (bitsFrom f (suc k) m) (word-zero f k e)
+      ∙ ap (λ (n : ℕ). n + firstTrue (bitsFrom f (suc k) m)) (length-bits f k)
 
 -- r is `first` places past `at` if those are fewer than n, and none if they are n
 record Lowest (first n at none r : ℕ) : Type 0 where
@@ -194,7 +154,7 @@ lowest-from none f k (suc m) = go (eq-zero-or-pos (wordOf f k)) (lowest-from non
         record { some = λ h. q ∙ rest .some (omega (arith, p)) ∙ omega (arith, p); nowhere = λ h. q ∙ rest .nowhere (omega (arith, p)) }
     go (inr l) rest =
         let n : wordOf f k ≡ 0 → ⊥ = λ e. omega arith in
-        let b = first-there f k n in
+        let b = word-some f k n in
         let p = ap firstTrue (bits-step f k m) ∙ first-in (bitsOf f k) (bitsFrom f (suc k) m) b in
         record {
           some = λ h. lowest-here none k (wordOf f k) (wordsFrom f (suc k) m) n ∙ ap (λ (t : ℕ). 64 * k + t) (word-first f k ∙ sym p);

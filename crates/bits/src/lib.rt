@@ -3,7 +3,8 @@
 // A caller clears the words, marks each process that can move, in ascending order, and asks how many and the lowest:
 //
 //   Numbers           tests of consecutive numbers, as the list of their outcomes
-//   Word              a word as the list of its bits: set, counted, and the lowest found
+//   Word              a word as the list of its bits: one set, turned over or asked for, the set ones counted, the lowest found
+//   Tested            a word of a test, whose bits are the outcomes of 64 numbers
 //   Words             the sixteen words of a test; what clear, mark, count and lowest do to words
 //   Ready             the caller's loop, markedTo, with the laws for its invariant; its words, count and lowest are those of the call
 ghost use mathlib.Core.Path.{_≡_};
