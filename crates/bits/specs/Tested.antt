@@ -3,7 +3,7 @@ use mathlib.Core.Path.{_≡_, refl, sym, _∙_, ap}
 use mathlib.Core.Bool.{Bool, true, false, cond, not}
 use mathlib.Core.List.{List, map}
 use Prim.Native.Nat.{ℕ, _+_, _*_, _/_, _%_, _^_, _≤_, _<_}
-use native.Mathlib.Nat.{add-zero, mul-one, mod-lt, zero-lt-suc, div-add-mod}
+use native.Mathlib.Nat.{add-zero, mul-one, mod-lt, zero-lt-suc, div-add-mod, zero-div}
 use native.Mathlib.Omega.{arith}
 use lib.Bits.{bitOr, bitXor}
 use lib.Count.{trailingZeros}
@@ -11,7 +11,7 @@ use lib.ListN.{length, getD, set}
 use Rattle.meaning.specs.Lists.{total, numbersFrom, numbers}
 use Rattle.lists.specs.Rows.{length-numbers, getD-numbers, same-numbers}
 use Rattle.bits.specs.Numbers.{firstTrue, numbers-set}
-use Rattle.bits.specs.Word.{value, value-sum, value-set, value-flip, value-bit, value-trailing, value-zero, value-some}
+use Rattle.bits.specs.Word.{digit, value, value-sum, value-set, value-flip, value-bit, value-trailing, value-zero, value-some}
 
 unfoldable pub wordOf : (ℕ → Bool) → ℕ → ℕ
 wordOf f k = total (λ b. cond (f (64 * k + b)) (2 ^ b) 0) (numbers 64)
@@ -51,10 +51,18 @@ module _ (f : ℕ → Bool) (p : ℕ) where
   in-word = rw length-numbers (low p)
 
   -- asked for
-  pub word-bit : wordOf f (p / 64) / 2 ^ (p % 64) % 2 ≡ cond (f p) 1 0
+  pub word-bit : wordOf f (p / 64) / 2 ^ (p % 64) % 2 ≡ digit (f p)
   word-bit =
       ap (λ (w : ℕ). w / 2 ^ (p % 64) % 2) (word-is f (p / 64)) ∙ value-bit (bitsOf f (p / 64)) (p % 64)
-      ∙ ap (λ (d : Bool). cond d 1 0) bit-is
+      ∙ ap digit bit-is
+
+  -- none is set in 0
+  pub word-clear : wordOf f (p / 64) ≡ 0 → f p ≡ false
+  word-clear e = clear (f p) (sym word-bit ∙ ap (λ (w : ℕ). w / 2 ^ (p % 64) % 2) e ∙ ap (λ (w : ℕ). w % 2) (zero-div (2 ^ (p % 64))))
+    where
+      clear : (d : Bool) → digit d ≡ 0 → d ≡ false
+      clear true t = absurd (omega arith)
+      clear false t = refl
 
 -- changed: f becomes g, which differs at p alone
 module _ (f g : ℕ → Bool) (p : ℕ) (other : (q : ℕ) → (q ≡ p → ⊥) → g q ≡ f q) where

@@ -17,7 +17,7 @@ use Rattle.meaning.specs.Lists.{filter, position, total, numbersFrom}
 use Rattle.bits.specs.Numbers.{howMany, firstTrue}
 
 -- what a bit counts at the lowest place
-abbrev digit : Bool → ℕ
+abbrev pub digit : Bool → ℕ
 digit b = cond b 1 0
 
 -- the number with these bits

@@ -1,41 +1,40 @@
--- A set of numbers, as a test, in the words of a list: a flag for each number below 32,768, and two levels of words that say where flags
--- are set.
+-- A set of numbers, as a test, in the words of a list: a bit for each number below 32,768, and two levels of words that say which words are
+-- not 0.
 use mathlib.Core.Path.{_≡_}
-use mathlib.Core.Bool.{Bool, cond, not}
+use mathlib.Core.Bool.{Bool, cond, not, _||_}
 use mathlib.Core.List.{List}
-use Prim.Native.Nat.{ℕ, _+_, _*_, _/_, _<_}
+use Prim.Native.Nat.{ℕ, _+_, _/_, _%_, _^_, _<_}
+use lib.Bits.{bitXor}
 use lib.Dec.{eqb}
 use lib.ListN.{length, getD, set}
-use Rattle.meaning.specs.Lists.{any, numbers}
+use Rattle.bits.specs.Numbers.{below}
+use Rattle.bits.specs.Tested.{wordOf}
 
--- the numbers that may be members, their blocks of 32, and the words of the flags and of the two levels above them
+-- the numbers that may be members, and the words of their bits and of the two levels above them
 abbrev pub members : ℕ
 members = 32768
 
-abbrev pub blocks : ℕ
-blocks = 1024
-
 abbrev pub flagWords : ℕ
-flagWords = members + blocks + 32
+flagWords = 512 + 8 + 1
 
--- a truth as a word
-abbrev pub flag : Bool → ℕ
-flag b = cond b 1 0
+-- word k of a set is not 0
+abbrev pub used : (ℕ → Bool) → ℕ → Bool
+used f k = not (eqb (wordOf f k) 0)
 
--- block k of 32 numbers has a member
-unfoldable pub mid : (ℕ → Bool) → ℕ → Bool
-mid f k = any (λ b. f (32 * k + b)) (numbers 32)
+-- word k of those is not 0; there are eight
+abbrev pub tops : (ℕ → Bool) → ℕ → Bool
+tops f = below 8 (used (used f))
 
--- one of the 32 blocks from block 32 k on has a member
-unfoldable pub top : (ℕ → Bool) → ℕ → Bool
-top f k = any (λ b. mid f (32 * k + b)) (numbers 32)
+-- the n words from word `from` on are the first words of a set
+pub record Level (f : ℕ → Bool) (l : List ℕ) (from n : ℕ) : Type 0 where
+  pub each : (k : ℕ) → k < n → getD l (from + k) 0 ≡ wordOf f k
 
 -- the words of a set
 pub record Kept (f : ℕ → Bool) (l : List ℕ) : Type 0 where
-  pub words : length l ≡ 33824
-  pub low : (r : ℕ) → r < 32768 → getD l r 0 ≡ flag (f r)
-  pub middle : (k : ℕ) → k < 1024 → getD l (32768 + k) 0 ≡ flag (mid f k)
-  pub high : (k : ℕ) → k < 32 → getD l (33792 + k) 0 ≡ flag (top f k)
+  pub words : length l ≡ flagWords
+  pub low : Level f l 0 512
+  pub middle : Level (used f) l 512 8
+  pub high : Level (tops f) l 520 1
 
 -- the set in which r is a member exactly if b
 abbrev pub put : (ℕ → Bool) → ℕ → Bool → ℕ → Bool
@@ -43,24 +42,13 @@ put f r b = λ x. cond (eqb x r) b (f x)
 
 -- ---- what the functions read and write
 
--- word `from` + i is not 0
-abbrev pub on : List ℕ → ℕ → ℕ → Bool
-on l from i = not (eqb (getD l (from + i) 0) 0)
+-- the word of number r among the words from `from` on, with the bit of r turned over
+abbrev pub wordFlipped : List ℕ → ℕ → ℕ → ℕ
+wordFlipped l from r = bitXor (getD l (from + r / 64) 0) (2 ^ (r % 64))
 
--- the word above the 32 words from `from` on, one of which has become b
-abbrev pub above : List ℕ → ℕ → Bool → ℕ
-above l from b = cond b 1 (flag (any (on l from) (numbers 32)))
+abbrev pub flipped : List ℕ → ℕ → ℕ → List ℕ
+flipped l from r = set l (from + r / 64) (wordFlipped l from r)
 
--- that word is written as word i
-abbrev pub summed : List ℕ → ℕ → ℕ → Bool → List ℕ
-summed l i from b = set l i (above l from b)
-
--- the words above block k are written unless the lower one stays
-unfoldable pub putAbove : List ℕ → ℕ → Bool → List ℕ
-putAbove l k b =
-    cond (eqb (getD l (32768 + k) 0) (above l (32 * k) b)) l
-    (summed (summed l (32768 + k) (32 * k) b) (33792 + k / 32) (32768 + 32 * (k / 32)) b)
-
--- the flag of r is written too
-abbrev pub putAll : List ℕ → ℕ → Bool → List ℕ
-putAll l r b = putAbove (set l r (flag b)) (r / 32) b
+-- that word was 0, or has become 0
+abbrev pub turns : List ℕ → ℕ → ℕ → Bool
+turns l from r = eqb (getD l (from + r / 64) 0) 0 || eqb (wordFlipped l from r) 0

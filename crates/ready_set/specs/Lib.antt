@@ -1,4 +1,5 @@
--- Flags of numbers below 32,768; src/lib.rt has the guide.
+-- Bits of numbers below 32,768; src/lib.rt has the guide.
 pub mod Flags
-pub mod Blocks
+pub mod Firsts
 pub mod Keeping
+pub mod Lowest

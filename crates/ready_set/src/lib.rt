@@ -1,92 +1,94 @@
-// A set of numbers below 32,768 as flags in one lent list of 33,824 words, each 1 or 0, with two levels of summary: the lowest member is
-// found in three short scans. Word r is the flag of r, word 32,768 + k whether the block of the 32 flags from 32 k on has a member, and
-// word 33,792 + k whether the 32 words from 32,768 + 32 k on have one that is set.
+// A set of numbers below 32,768 as bits in one lent list of 521 words, with two levels of summary: the lowest member is found in three
+// words. Number r is bit r modulo 64 of word r divided by 64. Bit b of word 512 + j is set exactly if word 64 j + b is not 0, and bit j of
+// word 520, the top one, exactly if word 512 + j is not 0.
 //
 // specs/, by file:
 //
 //   Flags     the list of a set; the set with one number put in or taken out
-//   Blocks    tests of consecutive numbers: whether one passes and which is the first, in blocks of 32 too
-//   Keeping   the list after a number is put, and the lowest member found
+//   Firsts    the first number that passes a test
+//   Keeping   the list after a number is put
+//   Lowest    the lowest member found
 ghost use mathlib.Core.Path.{_≡_};
-ghost use mathlib.Core.Bool.{Bool};
-ghost use Prim.Native.Nat.{ℕ, _+_, _<_, _≤_};
-ghost use lib.ListN.{length};
-ghost use Rattle.meaning.specs.Lists.{any, position, numbers};
-ghost use Rattle.ready_set.specs.Flags.{Kept, put, on, above, putAbove, flagWords, members, blocks};
+ghost use mathlib.Core.Bool.{Bool, not};
+ghost use Prim.Native.Nat.{ℕ, _+_, _/_, _<_, _≤_};
+ghost use lib.Count.{trailingZeros};
+ghost use lib.ListN.{length, getD};
+ghost use Rattle.meaning.specs.Lists.{position, numbers};
+ghost use Rattle.ready_set.specs.Flags.{Kept, put, flipped, turns, flagWords, members};
 
-// The numbers that may be members, where the words above the blocks of blocks begin, and all words.
+// The numbers that may be members, the words of their bits, the words above those, where the top word stands, and all words.
 pub const MEMBERS: usize = 32768;
 
-const UPPER: usize = MEMBERS + MEMBERS / 32;
+const LOW: usize = MEMBERS / 64;
 
-pub const FLAGS: usize = UPPER + MEMBERS / 32 / 32;
+const MIDDLE: usize = LOW / 64;
 
-// The first of the 32 words from `from` on that is not 0, counted from 0; 32 if there is none.
-fn first_in(l: &[u32], from: usize) -> usize
-    requires { ⌜ from + 32 ≤ length (now l) ⌝ }
-    ensures { λ r. ⌜ (r ≡ position (on (now (l .entry)) from) (numbers 32)) × (r ≤ 32) ⌝ }
+const TOP: usize = LOW + MIDDLE;
+
+pub const FLAGS: usize = TOP + 1;
+
+// Whether number r is in the set.
+fn has(l: &[u64], r: usize) -> bool
+    requires { ⌜ (length (now l) ≡ flagWords) × (r < members) ⌝ }
+    ensures { λ t. ⌜ ((f : ℕ → Bool) → Kept f (now (l .entry)) → t ≡ f r) ⌝ }
 {
-    let mut i = 0;
-    while i < 32 {
-        if l[from + i] != 0 {
-            return i;
+    (l[r / 64] >> (r % 64)) % 2 == 1
+}
+
+// The bit of number r in the words from `from` on is turned over; whether its word was 0 or has become 0.
+fn flip(l: &mut [u64], from: usize, r: usize) -> bool
+    requires { ⌜ from + r / 64 < length (now l) ⌝ }
+    ensures { λ t. ⌜ (now (l .exit) ≡ flipped (now (l .entry)) from r) × (t ≡ turns (now (l .entry)) from r) ⌝ }
+{
+    let k = from + r / 64;
+    let old = l[k];
+    let new = old ^ (1u64 << (r % 64));
+    l[k] = new;
+    old == 0 || new == 0
+}
+
+// Number r is put into the set if it was not in it, and taken out of it otherwise.
+fn turn(l: &mut [u64], r: usize)
+    requires { ⌜ (length (now l) ≡ flagWords) × (r < members) ⌝ }
+    ensures { λ _. ⌜ (length (now (l .exit)) ≡ flagWords)
+        × ((f : ℕ → Bool) → Kept f (now (l .entry)) → Kept (put f r (not (f r))) (now (l .exit))) ⌝ }
+{
+    if flip(l, 0, r) {
+        let k = r / 64;
+        if flip(l, LOW, k) {
+            flip(l, TOP, k / 64);
         }
-        i += 1;
-    }
-    32
-}
-
-// Whether one of those words is not 0.
-fn any_in(l: &[u32], from: usize) -> bool
-    requires { ⌜ from + 32 ≤ length (now l) ⌝ }
-    ensures { λ r. ⌜ r ≡ any (on (now (l .entry)) from) (numbers 32) ⌝ }
-{
-    first_in(l, from) < 32
-}
-
-// The word above those words, one of which has become b.
-fn above(l: &[u32], from: usize, b: bool) -> u32
-    requires { ⌜ from + 32 ≤ length (now l) ⌝ }
-    ensures { λ r. ⌜ r ≡ above (now (l .entry)) from b ⌝ }
-{
-    if b { 1 } else { words::flag(any_in(l, from)) }
-}
-
-// The words above block k, in which a flag has become b; the upper one stays if the lower does.
-fn put_above(l: &mut [u32], k: usize, b: bool)
-    requires { ⌜ (length (now l) ≡ flagWords) × (k < blocks) ⌝ }
-    ensures { λ _. ⌜ now (l .exit) ≡ putAbove (now (l .entry)) k b ⌝ }
-{
-    let w = above(l, 32 * k, b);
-    if l[MEMBERS + k] != w {
-        let j = k / 32;
-        l[MEMBERS + k] = w;
-        l[UPPER + j] = above(l, MEMBERS + 32 * j, b);
     }
 }
 
 // Number r is put into the set if b is true, and taken out of it otherwise.
-pub fn put(l: &mut [u32], r: usize, b: bool)
+pub fn put(l: &mut [u64], r: usize, b: bool)
     requires { ⌜ (length (now l) ≡ flagWords) × (r < members) ⌝ }
     ensures { λ _. ⌜ (length (now (l .exit)) ≡ flagWords)
         × ((f : ℕ → Bool) → Kept f (now (l .entry)) → Kept (put f r b) (now (l .exit))) ⌝ }
 {
-    let w = words::flag(b);
-    if l[r] != w {
-        l[r] = w;
-        put_above(l, r / 32, b);
+    if has(l, r) != b {
+        turn(l, r);
     }
 }
 
+// The lowest set bit of word k, 64 if it is 0.
+fn lowest_bit(l: &[u64], k: usize) -> usize
+    requires { ⌜ k < length (now l) ⌝ }
+    ensures { λ b. ⌜ (b ≡ trailingZeros 64 (getD (now (l .entry)) k 0)) × (b ≤ 64) ⌝ }
+{
+    u64::trailing_zeros(l[k]) as usize
+}
+
 // The lowest number in the set, 32,768 if it is empty.
-pub fn lowest(l: &[u32]) -> usize
+pub fn lowest(l: &[u64]) -> usize
     requires { ⌜ length (now l) ≡ flagWords ⌝ }
     ensures { λ r. ⌜ ((f : ℕ → Bool) → Kept f (now (l .entry)) → r ≡ position f (numbers members)) ⌝ }
 {
-    let j = first_in(l, UPPER);
-    if j == 32 {
+    let j = lowest_bit(l, TOP);
+    if MIDDLE <= j {
         return MEMBERS;
     }
-    let k = 32 * j + first_in(l, MEMBERS + 32 * j);
-    32 * k + first_in(l, 32 * k)
+    let k = 64 * j + lowest_bit(l, LOW + j);
+    64 * k + lowest_bit(l, k)
 }

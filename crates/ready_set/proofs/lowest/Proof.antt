@@ -1,30 +1,27 @@
--- `ready_set::lowest` meets its contract: the first of the upper words leads to the first of its block, and that to the first flag.
+-- `ready_set::lowest` meets its contract: the lowest bit of the top word leads to a word below it, and its lowest bit to that of a member.
 -- Assumes nothing.
-use mathlib.Core.Path.{sym, _∙_, ap}
+use mathlib.Core.Path.{_∙_, ap}
 use Prim.Native.Nat.{ℕ, _+_, _*_}
 use native.Mathlib.Omega.{arith}
 use borrow.Author.Needs.{needs}
-use Rattle.ready_set.specs.Keeping.{lowest-none, lowest-some}
+use Rattle.ready_set.specs.Lowest.{lowest-none, lowest-some}
 use Rattle.ready_set.proofs.lowest.Statement.{statement}
 use Rattle.ready_set.proofs.lowest.Tie as tie
 
-first-in-requires : tie.Need-first-in-requires
-first-in-requires c κs = search needs
+lowest-bit-requires : tie.Need-lowest-bit-requires
+lowest-bit-requires c κs = search needs
 
 returns : tie.Need-returns
-returns c = λ f kept. lowest-none f (c .before .before .before .args .l .now) kept (sym (c .before .first-in .ensures .0) ∙ c .if1 .taken)
+returns c = λ f kept. lowest-none f (c .before .before .before .args .l .now) kept (omega (arith, c .before .lowest-bit .ensures .0, c .if1 .taken))
 
 mul-k : tie.Need-mul-k
 mul-k c = search needs
 
-mul-first-in : tie.Need-mul-first-in
-mul-first-in c = search needs
+add-lowest-bit : tie.Need-add-lowest-bit
+add-lowest-bit c = search needs
 
-add-first-in : tie.Need-add-first-in
-add-first-in c = search needs
-
-first-in-requires-2 : tie.Need-first-in-requires-2
-first-in-requires-2 c κs = search needs
+lowest-bit-requires-2 : tie.Need-lowest-bit-requires-2
+lowest-bit-requires-2 c κs = search needs
 
 add-k : tie.Need-add-k
 add-k c = search needs
@@ -32,11 +29,8 @@ add-k c = search needs
 mul-result : tie.Need-mul-result
 mul-result c = search needs
 
-mul-first-in-2 : tie.Need-mul-first-in-2
-mul-first-in-2 c = search needs
-
-first-in-requires-3 : tie.Need-first-in-requires-3
-first-in-requires-3 c κs = search needs
+lowest-bit-requires-3 : tie.Need-lowest-bit-requires-3
+lowest-bit-requires-3 c κs = search needs
 
 add-result : tie.Need-add-result
 add-result c = search needs
@@ -44,26 +38,24 @@ add-result c = search needs
 returns-2 : tie.Need-returns-2
 returns-2 c =
     let l = c .before .before .before .before .before .args .l .now in
-    let j = c .before .before .before .first-in .result in
-    let k = 32 * j + c .before .first-in2 .result in
-    let e = c .before .before .before .first-in .ensures .0 in
+    let t = c .before .before .before .lowest-bit in
+    let m = c .before .lowest-bit2 in
+    let k = 64 * t .result + m .result in
     λ f kept.
-    ap (λ (p : ℕ). 32 * k + p) (c .first-in3 .ensures .0)
-    ∙ lowest-some f l kept j e (omega arith) k (ap (λ (p : ℕ). 32 * j + p) (c .before .first-in2 .ensures .0))
+    ap (λ (b : ℕ). 64 * k + b) (c .lowest-bit3 .ensures .0)
+    ∙ lowest-some f l kept (t .result) (t .ensures .0) (omega arith) k (ap (λ (b : ℕ). 64 * t .result + b) (m .ensures .0))
 
 pub lowest-spec : {M : Type 1} → statement M
 lowest-spec =
     tie.close
     (tie.spec
-    first-in-requires
+    lowest-bit-requires
     returns
     mul-k
-    mul-first-in
-    add-first-in
-    first-in-requires-2
+    add-lowest-bit
+    lowest-bit-requires-2
     add-k
     mul-result
-    mul-first-in-2
-    first-in-requires-3
+    lowest-bit-requires-3
     add-result
     returns-2)

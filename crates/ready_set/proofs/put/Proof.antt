@@ -1,61 +1,55 @@
--- `ready_set::put` meets its contract: a flag that is as it is to be has the words above it so too. Assumes nothing.
-use mathlib.Core.Path.{_∙_, ap}
-use Prim.Native.Nat.{ℕ, _/_}
-use lib.ListN.{set, length-set}
+-- `ready_set::put` meets its contract: a number that is not as it is to be is turned over. Assumes nothing.
+use mathlib.Core.Path.{_≡_, refl, sym, _∙_, ap, subst}
+use mathlib.Core.Bool.{Bool, true, false, not, Bool·beq}
 use borrow.Author.Needs.{needs}
-use Rattle.ready_set.specs.Flags.{flag, putAbove}
-use Rattle.ready_set.specs.Keeping.{above-length, put-all-kept, put-none}
+use Rattle.ready_set.specs.Flags.{Kept, put}
+use Rattle.ready_set.specs.Keeping.{put-kept}
 use Rattle.ready_set.proofs.put.Statement.{statement}
 use Rattle.ready_set.proofs.put.Tie as tie
 
-flag-requires : tie.Need-flag-requires
-flag-requires c κs = search needs
+differ : (a b : Bool) → not (Bool·beq a b) ≡ true → not a ≡ b
+differ true false t = refl
+differ false true t = refl
+differ true true t = t
+differ false false t = sym t
 
-mul-if1 : tie.Need-mul-if1
-mul-if1 c = search needs
+agree : (a b : Bool) → not (Bool·beq a b) ≡ false → a ≡ b
+agree true true t = refl
+agree false false t = refl
+agree true false t = t
+agree false true t = sym t
 
-slice-read-if1 : tie.Need-slice-read-if1
-slice-read-if1 c = search needs
+has-requires : tie.Need-has-requires
+has-requires c κs = search needs
 
-mul-l : tie.Need-mul-l
-mul-l c = search needs
-
-slice-write-l : tie.Need-slice-write-l
-slice-write-l c = search needs
-
-put-above-requires : tie.Need-put-above-requires
-put-above-requires c κs = search needs
+turn-requires : tie.Need-turn-requires
+turn-requires c κs = search needs
 
 same-length : tie.Need-same-length
-same-length c = rw (c .before .before .put-above .ensures, above-length) (simp length-set)
+same-length c = search needs
 
 returns : tie.Need-returns
 returns c =
-    let s = c .before .before .before .before .before .before .before .before in
-    let l = s .args .l .now in
-    let r = s .args .r in
-    let b = s .args .b in
-    let w = c .before .before .before .before .before .before .flag in
-    let e = c .before .before .put-above .ensures ∙ ap (λ (w : ℕ). putAbove (set l r w) (r / 32) b) (w .ensures) in
-    rw e (above-length (set l r (flag b)) (r / 32) b ∙ length-set l r (flag b) ∙ s .pre .0, λ f kept. put-all-kept f l r b (s .pre .1) kept)
+    let t = c .before .before .turn in
+    let i = c .before .before .before .before in
+    let h = i .before .has in
+    let a = i .before .before .before .before .args in (
+      t .ensures .0,
+      λ f kept.
+          subst (λ (b : Bool). Kept (put f (a .r) b) (t .last .0))
+          (ap not (sym (h .ensures f kept)) ∙ differ (h .result) (a .b) (i .if1 .taken)) (t .ensures .1 f kept),
+    )
+
+same-length-2 : tie.Need-same-length-2
+same-length-2 c = search needs
 
 returns-2 : tie.Need-returns-2
 returns-2 c =
+    let h = c .before .has in
     let s = c .before .before .before .before in (
       s .pre .0,
-      λ f kept. put-none f (s .args .l .now) (s .args .r) (s .args .b) (s .pre .1) (c .if1 .left ∙ c .before .before .flag .ensures) kept,
+      λ f kept. put-kept f (s .args .l .now) (s .args .r) (s .args .b) (sym (h .ensures f kept) ∙ agree (h .result) (s .args .b) (c .if1 .left)) kept,
     )
 
 pub put-spec : {M : Type 1} → statement M
-put-spec =
-    tie.close
-    (tie.spec
-    flag-requires
-    mul-if1
-    slice-read-if1
-    mul-l
-    slice-write-l
-    put-above-requires
-    same-length
-    returns
-    returns-2)
+put-spec = tie.close (tie.spec has-requires turn-requires same-length returns same-length-2 returns-2)
