@@ -55,10 +55,10 @@ kept-agree f g l e h =
     once = used-same f g 512 e
 
 -- no number is in the set
-pub kept-none : Kept (λ r. false) (replicate 521 0)
+pub kept-none : Kept (λ r. false) (replicate flagWords 0)
 kept-none =
     record {
-      words = length-replicate {A = ℕ} 521 0;
+      words = length-replicate {A = ℕ} flagWords 0;
       low = zeros 0 512 (λ r. false) (omega arith) (λ x. refl);
       middle = zeros 512 8 (used (λ r. false)) (omega arith) once;
       high = zeros 520 1 (tops (λ r. false)) (omega arith) (λ x. never 8 x (used-none (used (λ r. false)) once x));
@@ -77,11 +77,11 @@ kept-none =
         go true = refl
         go false = refl
 
-    zeros : (from n : ℕ) (f : ℕ → Bool) → from + n ≤ 521 → ((x : ℕ) → f x ≡ false) → Level f (replicate 521 0) from n
+    zeros : (from n : ℕ) (f : ℕ → Bool) → from + n ≤ flagWords → ((x : ℕ) → f x ≡ false) → Level f (replicate flagWords 0) from n
     zeros from n f h e =
         record {
           each = λ k m.
-              getD-replicate 521 (from + k) 0 0 (omega arith) ∙ sym (word-never k) ∙ word-same (λ x. false) f k (λ x l u. sym (e x));
+              getD-replicate flagWords (from + k) 0 0 (omega arith) ∙ sym (word-never k) ∙ word-same (λ x. false) f k (λ x l u. sym (e x));
         }
 
 -- ---- one number asked for

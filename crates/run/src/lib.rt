@@ -33,9 +33,9 @@ fn run_opened(
         (memoryOf (now (waiting .entry)) (now (received .exit)) (now (state .exit))) ⌝ }
 {
     let g = step_rules::program_of(decode::description(s));
-    let mut wakeups = [0u32; STATE_WORDS + 1];
+    let mut wakeups = [0u16; STATE_WORDS + 1];
     wakeups::fill_wakeups(ports, z, &mut wakeups);
-    let mut flags = [0u32; FLAGS];
+    let mut flags = [0u64; FLAGS];
     wakeups::fill_flags(ports, state, z, &mut flags);
     let done = run_steps::run_steps(
         s,

@@ -15,6 +15,7 @@ use Rattle.network.specs.Calls.{apply-append}
 use Rattle.network.specs.Ready.{There}
 use Rattle.port_table.specs.declared.Size.{Size}
 use Rattle.ready_set.specs.Flags.{Kept}
+use Rattle.ready_set.specs.Firsts.{position-hit}
 use Rattle.step_rules.specs.declared.Program.{Program}
 use Rattle.step_rules.specs.Steps.{programOf}
 use Rattle.step_rules.specs.Fits.{Programmed, Inside}
@@ -25,7 +26,7 @@ use Rattle.step_order.specs.Order.{lowest-some, lowest-none, any-ready}
 use Rattle.wakeups.specs.Wakeups.{canAt, flagAt, WakeupsOf}
 use Rattle.opening.specs.Opening.{Grounds, grounds, Opened}
 use Rattle.opening.specs.Opened.{stands, fits}
-use Rattle.run_steps.specs.Positions.{position-hit, bounded-some, bounded-none}
+use Rattle.run_steps.specs.Positions.{bounded-some, bounded-none}
 use Rattle.run_steps.specs.Going.{there-named, state-length, opened-step}
 
 -- what the loop starts with

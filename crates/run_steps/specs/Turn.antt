@@ -17,7 +17,7 @@ use Rattle.port_table.specs.declared.Size.{Size}
 use Rattle.port_table.specs.PortsOf.{RowsFit, PartsFit}
 use Rattle.vectors.specs.Within.{Within}
 use Rattle.layout.specs.Spans.{Spans}
-use Rattle.ready_set.specs.Flags.{Kept}
+use Rattle.ready_set.specs.Flags.{flagWords, Kept}
 use Rattle.ready_set.specs.Keeping.{kept-none}
 use Rattle.step_rules.specs.declared.Program.{Program}
 use Rattle.step_rules.specs.Steps.{programOf, canBy, actBy}
@@ -55,7 +55,7 @@ module _ {s : List ℕ} {M : Memory} {b : List ℕ} {z : Size} (o : Opened s M b
         refl,
       )
 
-  pub flags-ask : (RowsFit (length (M .state)) b z) × (Sized z) × (Kept (λ r. false) (replicate {A = ℕ} 33824 0))
+  pub flags-ask : (RowsFit (length (M .state)) b z) × (Sized z) × (Kept (λ r. false) (replicate {A = ℕ} flagWords 0))
   flags-ask = (fits (grounds s (o .accepted)) (o .stood), table-asks .1, kept-none)
 
   -- the loop starts
@@ -115,7 +115,7 @@ module _ {s : List ℕ} {g : Program} {b spans wakeups : List ℕ} {z : Size} {M
 
     -- what the flags ask
     pub renews : (RowsFit (length (M' .state)) b z) × (RowsFit stateWordsMost b z) × (Sized z) × (WakeupsOf b z wakeups) × (r < rankCount z)
-        × (length flags ≡ 33824)
+        × (length flags ≡ flagWords)
     renews = (fits ground (next .stood), rows-in-table next, rank-in .0, st .wakeups-of, rank-in .1, h .ready .kept .words)
 
     nearby : Local b z wakeups (M .state) (M' .state) r

@@ -3,7 +3,7 @@
 //
 // specs/, by file:
 //
-//   Positions   the first number that passes a test
+//   Positions   the first number that passes a test with a bound besides
 //   Going       a memory stays in order from step to step
 //   Runs        the steps that the loop does are those of Run
 //   Turn        one turn of the loop
@@ -19,13 +19,13 @@ pub fn run_steps(
     g: Program,
     ports: &[u32],
     spans: &[u32],
-    wakeups: &[u32],
+    wakeups: &[u16],
     z: Size,
     steps: u32,
     waiting: &[u32],
     received: &mut [u32],
     state: &mut [u32],
-    flags: &mut [u32],
+    flags: &mut [u64],
 ) -> u32
     requires { ⌜ Started (now s) g (now ports) (now spans) (now wakeups) z
         (memoryOf (now waiting) (now received) (now state)) (now flags) ⌝ }

@@ -9,7 +9,7 @@ use lib.Dec.{eqb}
 use lib.ListN.{length}
 use borrow.Author.Tests.{eqb-true, eqb-false}
 use Rattle.port_table.specs.declared.Size.{Size}
-use Rattle.ready_set.specs.Flags.{Kept, put}
+use Rattle.ready_set.specs.Flags.{flagWords, Kept, put}
 use Rattle.ready_set.specs.Keeping.{put-same, put-other, kept-agree}
 use Rattle.nearby.specs.Nearby.{Own}
 use Rattle.step_order.specs.Ranks.{rankCount, stepAt, takeRank, fireRank, giveRank}
@@ -34,7 +34,7 @@ pub record Between (new f g : ℕ → Bool) (S : ℕ → Type 0) : Type 0 where
 
 -- a set that is kept in l is so in l', but for numbers tested anew
 pub record Renewed (new : ℕ → Bool) (S : ℕ → Type 0) (l l' : List ℕ) : Type 0 where
-  pub words : length l' ≡ 33824
+  pub words : length l' ≡ flagWords
   pub keeps : (f : ℕ → Bool) → Kept f l → (g : ℕ → Bool) × (Kept g l') × (Between new f g S)
 
 -- ---- the numbers of one more test
@@ -56,10 +56,10 @@ give-next z p i r x e (j, h, d) = go (below-next i j h)
 module _ {new : ℕ → Bool} where
   -- ---- nothing, one number, more
 
-  pub renewed-none : {S : ℕ → Type 0} {l : List ℕ} → length l ≡ 33824 → ((x : ℕ) → S x → ⊥) → Renewed new S l l
+  pub renewed-none : {S : ℕ → Type 0} {l : List ℕ} → length l ≡ flagWords → ((x : ℕ) → S x → ⊥) → Renewed new S l l
   renewed-none e n = record { words = e; keeps = λ f k. (f, k, record { each = λ x. inl refl; these = λ x s. absurd (n x s) }) }
 
-  pub renewed-one : (r : ℕ) (b : Bool) {l l' : List ℕ} → b ≡ new r → (length l' ≡ 33824) × ((f : ℕ → Bool) → Kept f l → Kept (put f r b) l')
+  pub renewed-one : (r : ℕ) (b : Bool) {l l' : List ℕ} → b ≡ new r → (length l' ≡ flagWords) × ((f : ℕ → Bool) → Kept f l → Kept (put f r b) l')
       → Renewed new (OneRank r) l l'
   renewed-one r b {l} {l'} e h = record { words = h .0; keeps = λ f k. (put f r b, h .1 f k, between f) }
     where

@@ -62,7 +62,7 @@ fn foreign_of(ports: &[u32], z: Size, r: usize) -> usize
 }
 
 // Of each word, one more than the rank of the step that looks at it.
-pub fn fill_wakeups(ports: &[u32], z: Size, wakeups: &mut [u32])
+pub fn fill_wakeups(ports: &[u32], z: Size, wakeups: &mut [u16])
     requires { ⌜ (RowsFit stateWordsMost (now ports) z) × (Sized z) × (Apart (now ports) z)
         × (now wakeups ≡ replicate (1 + stateWordsMost) 0) ⌝ }
     ensures { λ _. ⌜ WakeupsOf (now (ports .entry)) z (now (wakeups .exit)) ⌝ }
@@ -71,7 +71,7 @@ pub fn fill_wakeups(ports: &[u32], z: Size, wakeups: &mut [u32])
     let mut r = 0;
     while r < n {
         let at = foreign_of(ports, z, r);
-        wakeups[at] = (r + 1) as u32;
+        wakeups[at] = (r + 1) as u16;
         r += 1;
     }
 }
@@ -124,7 +124,7 @@ fn retest_named(
     kind: u32,
     number: usize,
     stream: usize,
-    flags: &mut [u32],
+    flags: &mut [u64],
 )
     requires { ⌜ (RowsFit (length (now state)) (now ports) z) × (Sized z) × (r < rankCount z) × (nameAt z r ≡ named kind number stream)
         × (length (now flags) ≡ flagWords) ⌝ }
@@ -135,7 +135,7 @@ fn retest_named(
 }
 
 // That of rank r.
-fn retest(ports: &[u32], state: &[u32], z: Size, r: usize, flags: &mut [u32])
+fn retest(ports: &[u32], state: &[u32], z: Size, r: usize, flags: &mut [u64])
     requires { ⌜ (RowsFit (length (now state)) (now ports) z) × (Sized z) × (r < rankCount z) × (length (now flags) ≡ flagWords) ⌝ }
     ensures { λ _. ⌜ Renewed (flagAt (now (ports .entry)) (now (state .entry)) z) (OneRank r) (now (flags .entry)) (now (flags .exit)) ⌝ }
 {
@@ -144,7 +144,7 @@ fn retest(ports: &[u32], state: &[u32], z: Size, r: usize, flags: &mut [u32])
 }
 
 // Those of all steps.
-pub fn fill_flags(ports: &[u32], state: &[u32], z: Size, flags: &mut [u32])
+pub fn fill_flags(ports: &[u32], state: &[u32], z: Size, flags: &mut [u64])
     requires { ⌜ (RowsFit (length (now state)) (now ports) z) × (Sized z) × (Kept (λ r. false) (now flags)) ⌝ }
     ensures { λ _. ⌜ Kept (flagAt (now (ports .entry)) (now (state .entry)) z) (now (flags .exit)) ⌝ }
 {
@@ -157,7 +157,7 @@ pub fn fill_flags(ports: &[u32], state: &[u32], z: Size, flags: &mut [u32])
 }
 
 // Those of the gives of process p.
-fn retest_gives(ports: &[u32], state: &[u32], z: Size, p: usize, flags: &mut [u32])
+fn retest_gives(ports: &[u32], state: &[u32], z: Size, p: usize, flags: &mut [u64])
     requires { ⌜ (RowsFit (length (now state)) (now ports) z) × (Sized z) × (p < z .processes) × (length (now flags) ≡ flagWords) ⌝ }
     ensures { λ _. ⌜ Renewed (flagAt (now (ports .entry)) (now (state .entry)) z) (GiveRank z p (z .streams)) (now (flags .entry))
         (now (flags .exit)) ⌝ }
@@ -171,7 +171,7 @@ fn retest_gives(ports: &[u32], state: &[u32], z: Size, p: usize, flags: &mut [u3
 }
 
 // Those of the steps at a port, and of the fire of its process.
-fn retest_port(ports: &[u32], state: &[u32], z: Size, p: usize, i: usize, flags: &mut [u32])
+fn retest_port(ports: &[u32], state: &[u32], z: Size, p: usize, i: usize, flags: &mut [u64])
     requires { ⌜ (RowsFit (length (now state)) (now ports) z) × (Sized z) × (p < z .processes) × (i < z .streams)
         × (length (now flags) ≡ flagWords) ⌝ }
     ensures { λ _. ⌜ Renewed (flagAt (now (ports .entry)) (now (state .entry)) z) (PortRank z p i) (now (flags .entry))
@@ -201,7 +201,7 @@ fn retest_port(ports: &[u32], state: &[u32], z: Size, p: usize, i: usize, flags:
 }
 
 // Those of the steps of the process or pipe of rank r.
-fn retest_own(ports: &[u32], state: &[u32], z: Size, r: usize, flags: &mut [u32])
+fn retest_own(ports: &[u32], state: &[u32], z: Size, r: usize, flags: &mut [u64])
     requires { ⌜ (RowsFit (length (now state)) (now ports) z) × (Sized z) × (r < rankCount z) × (length (now flags) ≡ flagWords) ⌝ }
     ensures { λ _. ⌜ Renewed (flagAt (now (ports .entry)) (now (state .entry)) z) (OwnRank z r) (now (flags .entry)) (now (flags .exit)) ⌝ }
 {
@@ -218,7 +218,7 @@ fn retest_own(ports: &[u32], state: &[u32], z: Size, r: usize, flags: &mut [u32]
 }
 
 // The flags after the step of rank r was done.
-pub fn refresh(ports: &[u32], wakeups: &[u32], state: &[u32], z: Size, r: usize, flags: &mut [u32])
+pub fn refresh(ports: &[u32], wakeups: &[u16], state: &[u32], z: Size, r: usize, flags: &mut [u64])
     requires { ⌜ (RowsFit (length (now state)) (now ports) z) × (RowsFit stateWordsMost (now ports) z) × (Sized z)
         × (WakeupsOf (now ports) z (now wakeups))
         × (r < rankCount z) × (length (now flags) ≡ flagWords) ⌝ }
