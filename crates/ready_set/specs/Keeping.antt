@@ -97,7 +97,7 @@ kept-bit f l r h kept =
 
 -- ---- one number turned over
 
--- g is f but at p
+-- g is f, turned over at p
 record Turned (f g : ℕ → Bool) (p : ℕ) : Type 0 where
   here : g p ≡ not (f p)
   other : (x : ℕ) → (x ≡ p → ⊥) → g x ≡ f x
@@ -217,7 +217,7 @@ module _ (f : ℕ → Bool) (l : List ℕ) (r : ℕ) (kept : Kept f l) (h : r < 
   high₂ : Level (tops f) l₂ 520 1
   high₂ = level-apart (512 + j) (wordFlipped l₁ 512 k) (λ x m e. omega arith) high₁
 
-  -- the word of r stays 0 or not
+  -- the word of r has members before and after
   pub kept-low : turns l 0 r ≡ false → Kept g l₁
   kept-low t =
       record {
@@ -237,7 +237,7 @@ module _ (f : ℕ → Bool) (l : List ℕ) (r : ℕ) (kept : Kept f l) (h : r < 
     middle₂ : Level (used g) l₂ 512 8
     middle₂ = level-flip once (omega arith) middle₁ (omega (arith, length₁))
 
-    -- the one above it does
+    -- it has not, and the word above has
     pub kept-middle : turns l₁ 512 k ≡ false → Kept g l₂
     kept-middle s =
         record {
@@ -247,7 +247,7 @@ module _ (f : ℕ → Bool) (l : List ℕ) (r : ℕ) (kept : Kept f l) (h : r < 
           high = level-same (λ x m. ap (λ (b : Bool). ltb x 8 && b) (sym (used-stays once (omega arith) middle₁ s x))) high₂;
         }
 
-    -- all change
+    -- neither has
     pub kept-high : turns l₁ 512 k ≡ true → Kept g l₃
     kept-high s =
         record {

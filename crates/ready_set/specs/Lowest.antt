@@ -43,7 +43,9 @@ module _ (f : ℕ → Bool) (k : ℕ) where
   bits-clear b h = before-from f 64 (64 * k) b (omega (arith, bit-is))
 
   bit-in : used f k ≡ true → bit < 64
-  bit-in e = omega (arith, word-first f k, word-some f k (λ (z : wordOf f k ≡ 0). true≢false (sym e ∙ ap not (eq-eqb (wordOf f k) 0 z))), length-bits f k)
+  bit-in e =
+      let h = word-some f k (λ (z : wordOf f k ≡ 0). true≢false (sym e ∙ ap not (eq-eqb (wordOf f k) 0 z))) in
+      omega (arith, word-first f k, h, length-bits f k)
 
   -- in the first word that is not 0 it is the first member
   first-in : First (used f) k → First f (64 * k + bit)
@@ -61,7 +63,8 @@ module _ (f : ℕ → Bool) (l : List ℕ) (kept : Kept f l) where
   top-is = ap (trailingZeros 64) (kept .high .each 0 (omega arith))
 
   top-clear : (x : ℕ) → x < 8 → x < trailingZeros 64 (getD l 520 0) → used (used f) x ≡ false
-  top-clear x m h = sym (below-true 8 (used (used f)) x m) ∙ ap (tops f) (sym (zero-add x)) ∙ bits-clear (tops f) 0 x (omega (arith, top-is))
+  top-clear x m h =
+      sym (below-true 8 (used (used f)) x m) ∙ ap (tops f) (sym (zero-add x)) ∙ bits-clear (tops f) 0 x (omega (arith, top-is))
 
   pub lowest-none : 8 ≤ trailingZeros 64 (getD l 520 0) → 32768 ≡ position f (numbers 32768)
   lowest-none h =

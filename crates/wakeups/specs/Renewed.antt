@@ -59,8 +59,8 @@ module _ {new : ℕ → Bool} where
   pub renewed-none : {S : ℕ → Type 0} {l : List ℕ} → length l ≡ flagWords → ((x : ℕ) → S x → ⊥) → Renewed new S l l
   renewed-none e n = record { words = e; keeps = λ f k. (f, k, record { each = λ x. inl refl; these = λ x s. absurd (n x s) }) }
 
-  pub renewed-one : (r : ℕ) (b : Bool) {l l' : List ℕ} → b ≡ new r → (length l' ≡ flagWords) × ((f : ℕ → Bool) → Kept f l → Kept (put f r b) l')
-      → Renewed new (OneRank r) l l'
+  pub renewed-one : (r : ℕ) (b : Bool) {l l' : List ℕ} → b ≡ new r
+      → (length l' ≡ flagWords) × ((f : ℕ → Bool) → Kept f l → Kept (put f r b) l') → Renewed new (OneRank r) l l'
   renewed-one r b {l} {l'} e h = record { words = h .0; keeps = λ f k. (put f r b, h .1 f k, between f) }
     where
       between : (f : ℕ → Bool) → Between new f (put f r b) (OneRank r)

@@ -12,7 +12,10 @@ lowest-bit-requires : tie.Need-lowest-bit-requires
 lowest-bit-requires c κs = search needs
 
 returns : tie.Need-returns
-returns c = λ f kept. lowest-none f (c .before .before .before .args .l .now) kept (omega (arith, c .before .lowest-bit .ensures .0, c .if1 .taken))
+returns c =
+    let l = c .before .before .before .args .l .now in
+    let h = c .before .lowest-bit .ensures .0 in
+    λ f kept. lowest-none f l kept (omega (arith, h, c .if1 .taken))
 
 mul-k : tie.Need-mul-k
 mul-k c = search needs

@@ -46,10 +46,9 @@ same-length-2 c = search needs
 returns-2 : tie.Need-returns-2
 returns-2 c =
     let h = c .before .has in
-    let s = c .before .before .before .before in (
-      s .pre .0,
-      λ f kept. put-kept f (s .args .l .now) (s .args .r) (s .args .b) (sym (h .ensures f kept) ∙ agree (h .result) (s .args .b) (c .if1 .left)) kept,
-    )
+    let s = c .before .before .before .before in
+    let e = agree (h .result) (s .args .b) (c .if1 .left) in
+    (s .pre .0, λ f kept. put-kept f (s .args .l .now) (s .args .r) (s .args .b) (sym (h .ensures f kept) ∙ e) kept)
 
 pub put-spec : {M : Type 1} → statement M
 put-spec = tie.close (tie.spec has-requires turn-requires same-length returns same-length-2 returns-2)
