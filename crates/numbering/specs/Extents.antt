@@ -1,4 +1,4 @@
--- The box around the images of all instances, as a loop that widens it finds it, and its bounds. Assumes nothing.
+-- The bounds of the box around the images of all instances. Assumes nothing.
 use mathlib.Core.Path.{_≡_, refl, sym, _∙_, ap₂, subst}
 use mathlib.Core.List.{List, [], _∷_, map}
 use Prim.Native.Nat.{ℕ, suc, _+_, _≤_, _<_}
@@ -38,25 +38,6 @@ pub record Numbered (n : Nest) (m : Matrix) (k : ℕ) : Type 0 where
   pub bounded : Bounded n
   pub rows : Rows 4 m
   pub lt : k < length (instances n)
-
--- ---- widening, image by image
-
-pub around-start : (m : Matrix) (xs : List V3) → 0 < length xs
-    → widenAll (record { lo = image m (getD xs 0 zero3); hi = image m (getD xs 0 zero3) }) (map (image m) (drop 1 xs))
-    ≡ around (map (image m) xs)
-unfolding around
-around-start m [] h = absurd (omega arith)
-around-start m (x ∷ l) h = refl
-
-module _ (m : Matrix) (xs : List V3) where
-  pub around-step : (k : ℕ) (b : Box) → k < length xs
-      → widenAll (widen b (image m (getD xs k zero3))) (map (image m) (drop (k + 1) xs)) ≡ widenAll b (map (image m) (drop k xs))
-  unfolding widenAll
-  around-step k b h = let e : k + 1 ≡ suc k = omega arith in rw (e, drop-cons xs k zero3 h)
-
-  pub around-done : (k : ℕ) (b : Box) → length xs ≤ k → widenAll b (map (image m) (drop k xs)) ≡ b
-  unfolding widenAll
-  around-done k b h = rw (drop-of-length-le xs h)
 
 -- ---- its bounds
 

@@ -5,21 +5,23 @@
 //
 //   Ranges      what the range tests leave of a nest and of one loop, and the numbers that then fit
 //   Turns       an instance by how often each loop has turned; `instances-length`, `instance-is`
-//   Extents     the box around the images, widened image by image; `box-spanning`
+//   Corners     a row is least and greatest at corners of the bounds: `box-corners`
+//   Extents     the bounds of the box around the images: `box-spanning`
 //   Numbers     the table of row numbers
 ghost use mathlib.Core.Path.{_≡_};
 ghost use mathlib.Core.List.{_++_};
 ghost use Prim.Native.Nat.{_≤_, _<_};
 ghost use lib.IntN.{pos, _-ℤ_};
 ghost use lib.ListN.{length, getD, drop};
-ghost use Rattle.integers.specs.Differences.{up};
-ghost use Rattle.integers.specs.Vectors.{zero3, image};
+ghost use Rattle.integers.specs.Differences.{Abs, up};
+ghost use Rattle.integers.specs.Vectors.{zero3, dot, image};
 ghost use Rattle.meaning.specs.Loops.{instances};
-ghost use Rattle.meaning.specs.Space.{points, rowIndex, minZ, maxZ, widen, boxOf};
+ghost use Rattle.meaning.specs.Space.{points, rowIndex, boxOf};
 ghost use Rattle.meaning.specs.Points.{Inside};
 ghost use Rattle.vectors.specs.Within.{Within, Rows};
 ghost use Rattle.numbering.specs.Ranges.{Bounded, Ranged, Apart, turns, values, outerOf, middleOf, innerOf};
 ghost use Rattle.numbering.specs.Turns.{Turned, turnsOf};
+ghost use Rattle.numbering.specs.Corners.{endOf, cornerOf};
 ghost use Rattle.numbering.specs.Extents.{Spanning, Numbered, boxed};
 ghost use Rattle.numbering.specs.Numbers.{Fillable, numbersOf};
 use integers::Matrix;
@@ -178,34 +180,32 @@ fn image_at(n: Nest, m: Matrix, k: u32) -> V2
     vectors::image_of(m, instance(n, k))
 }
 
-fn smaller(a: i32, b: i32) -> i32
-    ensures { λ r. ⌜ r ≡ minZ a b ⌝ }
+// The end of a loop's bounds at which so many times it is least; with the ends exchanged, greatest.
+fn end_of(weight: i32, from: i32, to: i32) -> i32
+    requires { ⌜ (Abs from 64) × (Abs to 64) ⌝ }
+    ensures { λ r. ⌜ (r ≡ endOf weight from to) × (Abs r 64) ⌝ }
 {
-    if b < a { b } else { a }
+    if weight < 0 { to } else { from }
 }
 
-fn greater(a: i32, b: i32) -> i32
-    ensures { λ r. ⌜ r ≡ maxZ a b ⌝ }
+// The corner of the bounds at which a row is least.
+fn corner(row: V3, from: V3, to: V3) -> V3
+    requires { ⌜ (Within 4 row) × (Within 64 from) × (Within 64 to) ⌝ }
+    ensures { λ r. ⌜ (r ≡ cornerOf row from to) × (Within 64 r) ⌝ }
 {
-    if a < b { b } else { a }
-}
-
-// Widened so that it holds p.
-fn widened(e: Extent, p: V2) -> Extent
-    ensures { λ r. ⌜ boxed r ≡ widen (boxed e) p ⌝ }
-{
-    let lo = e.lo;
-    let hi = e.hi;
-    Extent {
-        lo: V2 {
-            a: smaller(lo.a, p.a),
-            b: smaller(lo.b, p.b),
-        },
-        hi: V2 {
-            a: greater(hi.a, p.a),
-            b: greater(hi.b, p.b),
-        },
+    V3 {
+        x: end_of(row.x, from.x, to.x),
+        y: end_of(row.y, from.y, to.y),
+        z: end_of(row.z, from.z, to.z),
     }
+}
+
+// The least value of a row over the bounds; with the bounds exchanged, the greatest.
+fn outermost(row: V3, from: V3, to: V3) -> i32
+    requires { ⌜ (Within 4 row) × (Within 64 from) × (Within 64 to) ⌝ }
+    ensures { λ r. ⌜ r ≡ dot row (cornerOf row from to) ⌝ }
+{
+    vectors::dot_of(row, corner(row, from, to))
 }
 
 // The smallest box around the images of all instances: the process space for place, a stream's box for its index map.
@@ -213,15 +213,20 @@ pub fn extent_of(n: Nest, m: Matrix) -> Extent
     requires { ⌜ (Bounded n) × (Rows 4 m) ⌝ }
     ensures { λ r. ⌜ (boxed r ≡ boxOf n m) × (Spanning (boxed r)) ⌝ }
 {
-    let count = instance_count(n);
-    let p = image_at(n, m, 0);
-    let mut e = Extent { lo: p, hi: p };
-    let mut k: u32 = 1;
-    while k < count {
-        e = widened(e, image_at(n, m, k));
-        k += 1;
+    let left = n.left;
+    let right = n.right;
+    let top = m.top;
+    let low = m.low;
+    Extent {
+        lo: V2 {
+            a: outermost(top, left, right),
+            b: outermost(low, left, right),
+        },
+        hi: V2 {
+            a: outermost(top, right, left),
+            b: outermost(low, right, left),
+        },
     }
-    e
 }
 
 // The number of a box's points.

@@ -1,0 +1,256 @@
+//! The nest: loops with their layout, and the streams on it. Refusals 6 to 17.
+
+use super::description::{Description, Limits, Matrix, Point, Vector};
+
+pub fn dot(a: Vector, b: Vector) -> i32 {
+    a[0] * b[0] + a[1] * b[1] + a[2] * b[2]
+}
+
+fn times(matrix: &Matrix, vector: Vector) -> Point {
+    matrix.map(|row| dot(row, vector))
+}
+
+/// Declines by the number if the condition holds.
+fn decline(condition: bool, number: u32) -> Result<(), u32> {
+    if condition {
+        Err(number)
+    } else {
+        Ok(())
+    }
+}
+
+/// The smallest box around the values of a matrix on the instances.
+#[derive(Clone, Copy)]
+pub struct Extent {
+    pub low: Point,
+    pub sides: Point,
+}
+
+impl Extent {
+    /// A row is least where each index has the bound that the sign of its word asks for.
+    fn of(matrix: &Matrix, left: Vector, right: Vector) -> Extent {
+        let mut extent = Extent {
+            low: [0; 2],
+            sides: [1; 2],
+        };
+        for (axis, row) in matrix.iter().enumerate() {
+            for (number, &word) in row.iter().enumerate() {
+                let least = if word >= 0 { left } else { right };
+                extent.low[axis] += word * least[number];
+                extent.sides[axis] += word.abs() * (right[number] - left[number]);
+            }
+        }
+        extent
+    }
+
+    pub fn size(&self) -> i32 {
+        self.sides[0] * self.sides[1]
+    }
+
+    /// How the points that a matrix sends instances to are numbered in row order.
+    fn numbering(&self, matrix: &Matrix) -> Numbering {
+        let [rows, columns] = matrix;
+        Numbering {
+            base: -(self.low[0] * self.sides[1] + self.low[1]),
+            strides: [0, 1, 2].map(|number| rows[number] * self.sides[1] + columns[number]),
+        }
+    }
+
+    /// How often a vector can be added to a point before it leaves the box.
+    pub fn room(&self, point: Point, vector: Point) -> i32 {
+        let axis = |axis: usize| {
+            let before = point[axis] - self.low[axis];
+            match vector[axis] {
+                0 => i32::MAX,
+                word if word > 0 => (self.sides[axis] - 1 - before) / word,
+                word => before / -word,
+            }
+        };
+        axis(0).min(axis(1))
+    }
+}
+
+/// The number of an instance's point: a base and a stride for each index.
+#[derive(Clone, Copy)]
+pub struct Numbering {
+    pub base: i32,
+    pub strides: Vector,
+}
+
+impl Numbering {
+    pub fn of(&self, instance: Vector) -> usize {
+        (self.base + dot(self.strides, instance)) as usize
+    }
+}
+
+/// The shortest vector that a matrix sends to zero, turned so that its step is positive, and its divisor.
+struct Shortest {
+    vector: Vector,
+    divisor: u32,
+}
+
+impl Shortest {
+    /// Declines by the first number if the rank is too low, by the second if the step is 0.
+    fn of([a, b]: &Matrix, step: Vector, rank: u32, still: u32) -> Result<Shortest, u32> {
+        let cross = [
+            a[1] * b[2] - a[2] * b[1],
+            a[2] * b[0] - a[0] * b[2],
+            a[0] * b[1] - a[1] * b[0],
+        ];
+        let divisor = cross.into_iter().fold(0, common_divisor);
+        decline(divisor == 0, rank)?;
+        let sum = dot(step, cross);
+        decline(sum == 0, still)?;
+        let turned = if sum > 0 { divisor } else { -divisor };
+        Ok(Shortest {
+            vector: cross.map(|word| word / turned),
+            divisor: divisor as u32,
+        })
+    }
+}
+
+fn common_divisor(a: i32, b: i32) -> i32 {
+    if b == 0 {
+        a.abs()
+    } else {
+        common_divisor(b, a % b)
+    }
+}
+
+/// What follows from a stream's index map and loading vector.
+pub struct Stream {
+    pub map: Matrix,
+    pub divisor: u32,
+    pub moving: bool,
+    /// Document 01's move, or the loading vector.
+    pub travel: Point,
+    pub hop: u32,
+    /// Its box.
+    pub extent: Extent,
+    /// Numbers in its box.
+    pub numbering: Numbering,
+    /// The number of its first element in element order.
+    pub start: usize,
+}
+
+/// A description that is accepted, with everything that its processes and streams have in common.
+pub struct Nest {
+    pub description: Description,
+    pub instances: usize,
+    pub increment: Vector,
+    /// The divisor of place.
+    pub divisor: u32,
+    /// The process space.
+    pub space: Extent,
+    /// Numbers of processes.
+    pub numbering: Numbering,
+    pub streams: Vec<Stream>,
+    /// E.
+    pub elements: usize,
+}
+
+impl Nest {
+    /// Declines by 33, then by 1 to 17.
+    pub fn of(board: u32, bytes: &[u8]) -> Result<Nest, u32> {
+        let limits = Limits::of(board)?;
+        let description = Description::read(bytes)?;
+        let (left, right) = (description.left, description.right);
+        let instances: i32 = (0..3).map(|number| right[number] - left[number] + 1).product();
+        decline(instances > limits.instances, 6)?;
+        let increment = Shortest::of(&description.place, description.step, 7, 8)?;
+        let space = Extent::of(&description.place, left, right);
+        decline(space.size() > limits.processes, 10)?;
+        let mut nest = Nest {
+            instances: instances as usize,
+            increment: increment.vector,
+            divisor: increment.divisor,
+            space,
+            numbering: space.numbering(&description.place),
+            streams: Vec::with_capacity(description.streams),
+            elements: 0,
+            description,
+        };
+        let mut touched = Vec::new();
+        for number in 0..nest.description.streams {
+            let stream = nest.stream(number, &limits, &mut touched)?;
+            nest.elements += stream.extent.size() as usize;
+            nest.streams.push(stream);
+        }
+        Ok(nest)
+    }
+
+    /// Declines by 11 to 17.
+    fn stream(&self, number: usize, limits: &Limits, touched: &mut Vec<bool>) -> Result<Stream, u32> {
+        let description = &self.description;
+        let map = description.maps[number];
+        let line = Shortest::of(&map, description.step, 11, 12)?;
+        let travel = times(&description.place, line.vector);
+        decline(travel.iter().any(|word| word.abs() > 1), 13)?;
+        let moving = travel != [0, 0];
+        let hop = dot(description.step, line.vector);
+        decline(moving && hop > limits.hop, 14)?;
+        decline(description.body.writes(number) && self.against(line.vector), 15)?;
+        let loading = description.loading[number];
+        decline(moving == (loading != [0, 0]), 16)?;
+        let extent = Extent::of(&map, description.left, description.right);
+        let numbering = extent.numbering(&map);
+        decline(!self.touches_all(extent.size() as usize, &numbering, touched), 17)?;
+        Ok(Stream {
+            map,
+            divisor: line.divisor,
+            moving,
+            travel: if moving { travel } else { loading },
+            hop: if moving { hop as u32 } else { 1 },
+            extent,
+            numbering,
+            start: self.elements,
+        })
+    }
+
+    /// The first non-zero component of a line has the other sign than that loop's direction.
+    fn against(&self, line: Vector) -> bool {
+        let mut components = line.iter().zip(self.description.directions);
+        let first = components.find(|(&word, _)| word != 0);
+        first.is_some_and(|(word, direction)| word * direction < 0)
+    }
+
+    /// Whether the instances touch every element of a box; it cannot be if there are fewer of them.
+    fn touches_all(&self, size: usize, numbering: &Numbering, touched: &mut Vec<bool>) -> bool {
+        if size > self.instances {
+            return false;
+        }
+        touched.clear();
+        touched.resize(size, false);
+        self.each_number(numbering, |number| touched[number] = true);
+        touched.iter().all(|&touched| touched)
+    }
+
+    /// The numbers of the points of all instances, counted on by the strides.
+    fn each_number(&self, numbering: &Numbering, mut visit: impl FnMut(usize)) {
+        let (left, right) = (self.description.left, self.description.right);
+        let strides = numbering.strides.map(|stride| stride as usize);
+        let mut outer = numbering.of(left);
+        for _ in left[0]..=right[0] {
+            let mut middle = outer;
+            for _ in left[1]..=right[1] {
+                let mut number = middle;
+                for _ in left[2]..=right[2] {
+                    visit(number);
+                    number = number.wrapping_add(strides[2]);
+                }
+                middle = middle.wrapping_add(strides[1]);
+            }
+            outer = outer.wrapping_add(strides[0]);
+        }
+    }
+
+    /// Index map times increment: from the element of an instance to that of its process's next.
+    pub fn pass(&self, stream: &Stream) -> Point {
+        times(&stream.map, self.increment)
+    }
+
+    /// The element that an instance touches.
+    pub fn element(&self, stream: &Stream, instance: Vector) -> Point {
+        times(&stream.map, instance)
+    }
+}
