@@ -1,4 +1,4 @@
-//! Whether the library answers what the second implementation answers, and leaves the same in every lent list.
+//! Whether the library and the quick program answer what the second implementation answers, and leave the same in every lent list.
 
 use reference::board::{BENCH, GAUGE};
 use reference::calls::{Accepted, Calls, Row};
@@ -10,7 +10,7 @@ use reference::random_divisor;
 use reference::random_stride;
 use reference::Refusal;
 
-use crate::library::{self, FIGURES, ROW_WORDS};
+use crate::sides::{FIGURES, ROW_WORDS, SIDES};
 
 /// Every word of a list before a call.
 pub const MARK: u32 = 7;
@@ -56,7 +56,7 @@ pub fn descriptions(seed: u64) -> Vec<Vec<u8>> {
     descriptions
 }
 
-/// Holds every call on a description against the second implementation, on both boards and on a word that names none.
+/// Holds the calls on a description, of both programs, against the second implementation, on both boards and on a word that names none.
 pub fn check(number: usize, description: &[u8]) {
     for board in [GAUGE, BENCH, OTHERS[number % OTHERS.len()]] {
         Told::new(board, description).check(number as u32);
@@ -101,10 +101,13 @@ impl Told<'_> {
     }
 
     fn check_accept(&self, expected: Result<Accepted, Refusal>) {
-        let mut figures = [MARK; FIGURES];
-        let number = library::accept(self.board, self.description, &mut figures);
         let left = expected.map_or([MARK; FIGURES], |accepted| figures_of(&accepted));
-        assert_eq!((number, figures), (number_of(expected), left));
+        for side in SIDES {
+            let mut figures = [MARK; FIGURES];
+            let number = (side.accept)(self.board, self.description, &mut figures);
+            let name = side.name;
+            assert_eq!((number, figures), (number_of(expected), left), "{name}");
+        }
     }
 
     fn check_table(&self, length: usize) {
@@ -119,9 +122,12 @@ impl Told<'_> {
                 words.copy_from_slice(&row_words(row));
             }
         }
-        let mut words = vec![MARK; length];
-        let number = library::table(self.board, self.description, &mut words);
-        assert_eq!((number, words), (number_of(expected), left));
+        for side in SIDES {
+            let mut words = vec![MARK; length];
+            let number = (side.table)(self.board, self.description, &mut words);
+            assert_eq!(number, number_of(expected), "{}", side.name);
+            assert!(words == left, "{}", side.name);
+        }
     }
 
     /// Start on lists of the right lengths, and of one or two wrong ones.
@@ -147,20 +153,25 @@ impl Told<'_> {
         let mut left = marked.clone();
         let [waiting, received, state] = &mut left;
         let expected = self.calls.start(&values, waiting, received, state);
-        let mut lists = marked;
-        let [waiting, received, state] = &mut lists;
-        let lent: [&mut [u32]; 3] = [waiting, received, state];
-        let number = library::start(self.board, self.description, &values, lent);
-        assert_eq!(number, number_of(expected));
-        assert!(lists == left);
+        for side in SIDES {
+            let mut lists = marked.clone();
+            let [waiting, received, state] = &mut lists;
+            let lent: [&mut [u32]; 3] = [waiting, received, state];
+            let number = (side.start)(self.board, self.description, &values, lent);
+            assert_eq!(number, number_of(expected), "{}", side.name);
+            assert!(lists == left, "{}", side.name);
+        }
     }
 
     fn check_plain_run(&self, values: &[u32], length: usize) {
         let mut left = vec![MARK; length];
         let expected = self.calls.plain_run(values, &mut left);
-        let mut output = vec![MARK; length];
-        let number = library::plain_run(self.board, self.description, values, &mut output);
-        assert_eq!((number, output), (number_of(expected), left));
+        for side in SIDES {
+            let mut output = vec![MARK; length];
+            let number = (side.plain_run)(self.board, self.description, values, &mut output);
+            assert_eq!(number, number_of(expected), "{}", side.name);
+            assert!(output == left, "{}", side.name);
+        }
     }
 }
 

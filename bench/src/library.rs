@@ -2,11 +2,7 @@
 
 use reference::calls::Lent;
 
-/// The words of a row of the table.
-pub const ROW_WORDS: usize = 21;
-
-/// The values that Accept answers: six figures, the divisor of place and those of six streams.
-pub const FIGURES: usize = 13;
+use crate::sides::FIGURES;
 
 // A slice is a pointer and a length, one after the other.
 extern "C" {

@@ -1,18 +1,49 @@
-//! Holds the proved library against the second implementation, then prints how long each call takes. The first word of the command line is
-//! the seed of the random descriptions and scripts.
+//! Holds the proved library and a quick plain Rust program against the second implementation, then prints how long each call takes, how
+//! that grows, and how much stack it takes. A word on the command line asks for one of these alone, or is the seed of the random
+//! descriptions and scripts.
 
 mod answers;
-mod design;
+mod arrays;
+mod growth;
+mod instructions;
 mod library;
+mod measure;
+mod quick;
 mod scripts;
+mod sides;
+mod stack;
 mod times;
+mod work;
 
-use reference::board::{BENCH, GAUGE};
+/// The seed if none is given.
+const SEED: u64 = 4;
 
 fn main() {
-    let seed = std::env::args()
-        .nth(1)
-        .map_or(4, |word| word.parse().expect("the seed is a number"));
+    let words: Vec<String> = std::env::args().skip(1).collect();
+    let words: Vec<&str> = words.iter().map(String::as_str).collect();
+    match words[..] {
+        [] => all(SEED),
+        ["answers"] => answers(SEED),
+        ["times"] => times::print(),
+        ["growth"] => growth::print(),
+        ["stack"] => stack::print(),
+        ["instructions"] => instructions::print(),
+        [stack::CHILD, array, call, bytes] => stack::child(array, call, bytes),
+        [instructions::CHILD, side, array, call] => instructions::child(side, array, call),
+        [word] => all(word.parse().expect("the word is a section or a seed")),
+        _ => panic!("there is one word at most: a section or a seed"),
+    }
+}
+
+/// Everything but the instructions.
+fn all(seed: u64) {
+    answers(seed);
+    times::print();
+    growth::print();
+    stack::print();
+}
+
+fn answers(seed: u64) {
     let descriptions = answers::descriptions(seed);
     for (number, description) in descriptions.iter().enumerate() {
         answers::check(number, description);
@@ -23,12 +54,4 @@ fn main() {
     );
     let (scripts, calls) = scripts::check(seed);
     println!("{scripts} scripts, {calls} calls: same answers");
-    println!("least times: array, call, library, reference, ratio");
-    for (name, design) in times::arrays() {
-        times::print(GAUGE, name, &design);
-    }
-    let (name, design) = times::largest_on_the_bench();
-    println!("on the bench");
-    times::print(BENCH, name, &design);
-    times::print_beside_the_gauge(name, &design);
 }

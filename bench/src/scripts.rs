@@ -1,5 +1,5 @@
-//! Plays random scripts, call by call, on the library and on the second implementation. Some of a script's calls are told another board
-//! than its own.
+//! Plays random scripts, call by call, on the library, on the quick program and on the second implementation. Some of a script's calls are
+//! told another board than its own.
 
 use reference::board::{BENCH, GAUGE};
 use reference::calls::{Lent, READY_WORDS};
@@ -9,7 +9,7 @@ use reference::random_script;
 use reference::replay::{Call, Script};
 
 use crate::answers::{number_of, Told, MARK};
-use crate::library;
+use crate::sides::{Side, SIDES};
 
 /// How many scripts are played.
 const SCRIPTS: usize = 2500;
@@ -68,7 +68,7 @@ fn play(script: &Script, random: &mut Random) -> usize {
 }
 
 impl Lists<'_> {
-    /// Whether a call is held against the other implementation; none if it ends the script.
+    /// Whether a call is held against the second implementation; none if it ends the script.
     fn call(&mut self, [number, a, b, c]: Call) -> Option<bool> {
         match number {
             0 => self.step([a, b, c]),
@@ -86,33 +86,30 @@ impl Lists<'_> {
 
     fn start(&mut self, values: &[u32]) {
         let [w, r, s, ..] = self.lengths;
-        let mut waiting = self.waiting[..w].to_vec();
-        let mut received = self.received[..r].to_vec();
-        let mut state = self.state[..s].to_vec();
+        let before = [&self.waiting[..w], &self.received[..r], &self.state[..s]];
+        let before = before.map(<[u32]>::to_vec);
+        let mut left = before.clone();
+        let [waiting, received, state] = &mut left;
         let told = &self.told[self.now];
-        let expected = told
-            .calls
-            .start(values, &mut waiting, &mut received, &mut state);
-        let number = library::start(
-            told.board,
-            told.description,
-            values,
-            [
-                &mut self.waiting[..w],
-                &mut self.received[..r],
-                &mut self.state[..s],
-            ],
-        );
-        assert_eq!(number, number_of(expected));
-        assert!(self.waiting[..w] == waiting);
-        assert!(self.received[..r] == received && self.state[..s] == state);
+        let expected = told.calls.start(values, waiting, received, state);
+        for side in SIDES {
+            let mut lists = before.clone();
+            let [waiting, received, state] = &mut lists;
+            let lent: [&mut [u32]; 3] = [waiting, received, state];
+            let number = (side.start)(told.board, told.description, values, lent);
+            assert_eq!(number, number_of(expected), "{}", side.name);
+            assert!(lists == left, "{}", side.name);
+        }
+        self.waiting[..w].copy_from_slice(&left[0]);
+        self.received[..r].copy_from_slice(&left[1]);
+        self.state[..s].copy_from_slice(&left[2]);
     }
 
     fn step(&mut self, words: [u32; 3]) {
         let [kind, number, stream] = words;
         self.moved(
             |told, lent| (number_of(told.calls.step(lent, kind, number, stream)), ()),
-            |told, lent| (library::step(told.board, told.description, words, lent), ()),
+            |side, told, lent| ((side.step)(told.board, told.description, words, lent), ()),
         );
     }
 
@@ -123,84 +120,75 @@ impl Lists<'_> {
                 let answer = ran.map_or([MARK; 2], |ran| [ran.done as u32, u32::from(ran.ready)]);
                 (number_of(ran), answer)
             },
-            |told, lent| {
+            |side, told, lent| {
                 let mut answer = [MARK; 2];
-                let number = library::run(told.board, told.description, steps, lent, &mut answer);
+                let number = (side.run)(told.board, told.description, steps, lent, &mut answer);
                 (number, answer)
             },
         );
     }
 
-    /// Holds two calls that may change received and state against each other.
+    /// Holds two calls that may change received and state against each other, the second of both programs.
     fn moved<T: PartialEq + std::fmt::Debug>(
         &mut self,
         theirs: impl FnOnce(&Told, Lent) -> T,
-        ours: impl FnOnce(&Told, Lent) -> T,
+        ours: impl Fn(&Side, &Told, Lent) -> T,
     ) {
         let [w, r, s, ..] = self.lengths;
-        let mut received = self.received[..r].to_vec();
-        let mut state = self.state[..s].to_vec();
         let waiting = &self.waiting[..w];
         let told = &self.told[self.now];
-        let expected = theirs(
-            told,
-            Lent {
-                waiting,
-                received: &mut received,
-                state: &mut state,
-            },
-        );
-        let answer = ours(
-            told,
-            Lent {
-                waiting,
-                received: &mut self.received[..r],
-                state: &mut self.state[..s],
-            },
-        );
-        assert_eq!(answer, expected);
-        assert!(self.received[..r] == received && self.state[..s] == state);
+        let mut left = [self.received[..r].to_vec(), self.state[..s].to_vec()];
+        let expected = theirs(told, lent(waiting, &mut left));
+        for side in SIDES {
+            let mut lists = [self.received[..r].to_vec(), self.state[..s].to_vec()];
+            let answer = ours(side, told, lent(waiting, &mut lists));
+            assert_eq!(answer, expected, "{}", side.name);
+            assert!(lists == left, "{}", side.name);
+        }
+        self.received[..r].copy_from_slice(&left[0]);
+        self.state[..s].copy_from_slice(&left[1]);
     }
 
     fn ready(&mut self) {
         let [w, r, s, ready, _] = self.lengths;
         let memory = [&self.waiting[..w], &self.received[..r], &self.state[..s]];
         let [waiting, received, state] = memory;
-        let mut words = self.ready[..ready].to_vec();
+        let mut left = self.ready[..ready].to_vec();
         let told = &self.told[self.now];
-        let expected = told.calls.ready(waiting, received, state, &mut words);
-        let left = expected.map_or([MARK; 2], |ready| [ready.count as u32, ready.lowest as u32]);
-        let mut answer = [MARK; 2];
-        let lent = &mut self.ready[..ready];
-        let number = library::ready(told.board, told.description, lent, memory, &mut answer);
-        assert_eq!((number, answer), (number_of(expected), left));
-        assert!(self.ready[..ready] == words);
+        let expected = told.calls.ready(waiting, received, state, &mut left);
+        let counts = expected.map_or([MARK; 2], |ready| [ready.count as u32, ready.lowest as u32]);
+        for side in SIDES {
+            let mut words = self.ready[..ready].to_vec();
+            let mut answer = [MARK; 2];
+            let lent = &mut words;
+            let number = (side.ready)(told.board, told.description, lent, memory, &mut answer);
+            let name = side.name;
+            assert_eq!((number, answer), (number_of(expected), counts), "{name}");
+            assert!(words == left, "{name}");
+        }
+        self.ready[..ready].copy_from_slice(&left);
     }
 
     fn window(&self, words: [u32; 2]) {
-        let [pipe, side] = words;
+        let [pipe, side_of_pipe] = words;
         let [w, r, ..] = self.lengths;
         let (waiting, received) = (&self.waiting[..w], &self.received[..r]);
         let told = &self.told[self.now];
-        let expected = told.calls.window(waiting, received, pipe, side);
-        let mut answer = [MARK; 2];
-        let number = library::window(
-            told.board,
-            told.description,
-            words,
-            waiting,
-            received,
-            &mut answer,
-        );
-        assert_eq!(number, number_of(expected));
-        match expected {
-            // The same words, not only words that are equal.
-            Ok(part) => {
-                let [from, length] = answer.map(|word| word as usize);
-                let list = if side == 0 { waiting } else { received };
-                assert!(std::ptr::eq(part, &list[from..from + length]));
+        let expected = told.calls.window(waiting, received, pipe, side_of_pipe);
+        for side in SIDES {
+            let mut answer = [MARK; 2];
+            let (board, description) = (told.board, told.description);
+            let number = (side.window)(board, description, words, waiting, received, &mut answer);
+            assert_eq!(number, number_of(expected), "{}", side.name);
+            match expected {
+                // The same words, not only words that are equal.
+                Ok(part) => {
+                    let [from, length] = answer.map(|word| word as usize);
+                    let list = if side_of_pipe == 0 { waiting } else { received };
+                    assert!(std::ptr::eq(part, &list[from..from + length]));
+                }
+                Err(_) => assert_eq!(answer, [MARK; 2], "{}", side.name),
             }
-            Err(_) => assert_eq!(answer, [MARK; 2]),
         }
     }
 
@@ -211,10 +199,13 @@ impl Lists<'_> {
         let mut left = self.output[..output].to_vec();
         let told = &self.told[self.now];
         let expected = told.calls.result(waiting, received, state, &mut left);
-        let lent = &mut self.output[..output];
-        let number = library::result(told.board, told.description, lent, memory);
-        assert_eq!(number, number_of(expected));
-        assert!(self.output[..output] == left);
+        for side in SIDES {
+            let mut words = self.output[..output].to_vec();
+            let number = (side.result)(told.board, told.description, &mut words, memory);
+            assert_eq!(number, number_of(expected), "{}", side.name);
+            assert!(words == left, "{}", side.name);
+        }
+        self.output[..output].copy_from_slice(&left);
     }
 
     /// Writes a word of the lent state if there is one.
@@ -230,5 +221,14 @@ impl Lists<'_> {
         if let (Some(lent), Some(&longest)) = (self.lengths.get_mut(list), LONGEST.get(list)) {
             *lent = length.min(longest);
         }
+    }
+}
+
+/// Received and state as they are lent to Step and Run.
+fn lent<'a>(waiting: &'a [u32], [received, state]: &'a mut [Vec<u32>; 2]) -> Lent<'a> {
+    Lent {
+        waiting,
+        received,
+        state,
     }
 }

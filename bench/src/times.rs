@@ -1,346 +1,146 @@
-//! The time of each call on the largest arrays, beside the second implementation in the same run.
+//! The time of each call on the largest arrays: library, quick program, their ratio, and the second implementation.
 
 use std::hint::black_box;
 use std::time::{Duration, Instant};
 
 use reference::board::{BENCH, GAUGE};
-use reference::calls::{Calls, Lent, Row, READY_WORDS};
-use reference::compare;
-use reference::description::Description;
-use reference::designs;
+use reference::calls::{Calls, Row};
 
-use crate::design::Design;
-use crate::library::{self, FIGURES, ROW_WORDS};
+use crate::arrays::{self, Array};
+use crate::measure::{least, time};
+use crate::sides::{LIBRARY, SIDES};
+use crate::work::{Call, Work};
 
-/// How long a call of each implementation is repeated.
-const LONG: Duration = Duration::from_millis(400);
+/// How long a call of the second implementation is repeated; it is done once at least.
+const LONG: Duration = Duration::from_millis(50);
 
-/// The report's designs, the matrix product on a slanted grid (request 2.7), design one with operation 6 (request 2.1), two designs with
-/// guards (request 2.5) and request 2.2's as large as they may be, 1,024 processes with four instances each, with three streams and with
-/// six, and six streams with boxes of 4,096 elements (request 2.4).
-pub fn arrays() -> Vec<(&'static str, Description)> {
-    let mut twice = designs::matrix_twice(31);
-    twice.right[2] = 3;
-    vec![
-        ("polynomial one 64", designs::polynomial_one(63)),
-        ("fixed point one 64", designs::fixed_one(63)),
-        ("cleared one 64", designs::cleared_one(63)),
-        ("polynomial two 64", designs::polynomial_two(63)),
-        ("matrix straight 16", designs::matrix_straight(15)),
-        ("cleared matrix 16", designs::cleared_matrix(15)),
-        ("matrix moving 16", designs::matrix_moving(15)),
-        ("matrix slanted 16", designs::matrix_slanted(15)),
-        ("matrix straight 32x32x4", designs::grid(32, 32, 4)),
-        ("matrix twice 32x32x4", twice),
-        ("sheet 64x64x1", designs::sheet(63)),
-        ("decimating 64", designs::decimating(63, 63)),
-    ]
+/// The greatest ratio of a call so far, and its array.
+struct Worst {
+    call: &'static str,
+    ratio: f64,
+    array: String,
 }
 
-/// The bench's largest array: as many processes and as many instances as it holds (request 2.9).
-pub fn largest_on_the_bench() -> (&'static str, Description) {
-    ("matrix straight 16x16x4", designs::grid(16, 16, 4))
-}
-
-/// Accept, and a run to the end by the step, on the bench and beside it on the gauge: the least times of the library.
-pub fn print_beside_the_gauge(name: &str, design: &Description) {
-    let bytes = design.bytes();
-    let calls = Calls::on(BENCH, &bytes);
-    let accepted = calls.accept().expect("the bench accepts its largest array");
-    let accept = |board: u32| library::accept(board, black_box(&bytes), &mut [0; FIGURES]);
-    line(name, "accept, gauge", || accept(BENCH), || accept(GAUGE));
-    let values = compare::values(1, accepted.elements);
-    let (waiting, [started, _, ended]) = stages(&calls, &values);
-    let run = |board: u32, stage: &mut Stage| {
-        stage.clone_from(&started);
-        let lent = stage.lent(&waiting);
-        library::run(board, black_box(&bytes), u32::MAX, lent, &mut [0; 2])
-    };
-    let (mut ours, mut theirs) = (started.clone(), started.clone());
-    let times = least_times(|| run(BENCH, &mut ours), || run(GAUGE, &mut theirs));
-    assert!(ours == ended && theirs == ended);
-    let [bench, gauge] = times.map(|time| time / accepted.steps as u32);
-    print_line(name, "run, gauge", bench, gauge);
-}
-
-/// A line for each call on a board: the least time of the library, that of the second implementation, and their ratio.
-pub fn print(board: u32, name: &str, design: &Description) {
-    let bytes = design.bytes();
-    let accepted = Calls::on(board, &bytes)
-        .accept()
-        .expect("the largest arrays are accepted");
-    let mut figures = [0; FIGURES];
-    line(
-        name,
-        "accept",
-        || library::accept(board, black_box(&bytes), &mut figures),
-        || Calls::on(board, black_box(&bytes)).accept(),
-    );
-    let mut words = vec![0; ROW_WORDS * accepted.processes];
-    let mut rows = vec![Row::default(); accepted.processes];
-    line(
-        name,
-        "table",
-        || library::table(board, black_box(&bytes), &mut words),
-        || Calls::on(board, black_box(&bytes)).table(&mut rows),
-    );
-    let values = compare::values(1, accepted.elements);
-    let mut ours = vec![0; accepted.elements];
-    let mut theirs = vec![0; accepted.elements];
-    line(
-        name,
-        "plain run",
-        || library::plain_run(board, black_box(&bytes), &values, &mut ours),
-        || Calls::on(board, black_box(&bytes)).plain_run(&values, &mut theirs),
-    );
-    print_on_states(board, name, &bytes, &values);
-}
-
-/// Received values and a state.
-#[derive(Clone, PartialEq)]
-struct Stage {
-    received: Vec<u32>,
-    state: Vec<u32>,
-}
-
-impl Stage {
-    fn lent<'a>(&'a mut self, waiting: &'a [u32]) -> Lent<'a> {
-        Lent {
-            waiting,
-            received: &mut self.received,
-            state: &mut self.state,
+pub fn print() {
+    println!("least times: array, call, library, quick, ratio, reference");
+    let mut worst: Vec<Worst> = Vec::new();
+    for array in arrays::largest() {
+        print_array(&array, &mut worst);
+        if array.board == BENCH {
+            print_beside_the_gauge(&array);
         }
     }
-
-    fn memory<'a>(&'a self, waiting: &'a [u32]) -> [&'a [u32]; 3] {
-        [waiting, &self.received, &self.state]
+    println!("greatest ratios: call, ratio, array");
+    for Worst { call, ratio, array } in worst {
+        println!("{call:12} {ratio:8.2}  {array}");
     }
 }
 
-/// The waiting list, and the stages after Start, after half of the steps and after all.
-fn stages(calls: &Calls, values: &[u32]) -> (Vec<u32>, [Stage; 3]) {
-    let accepted = calls.accept().expect("the largest arrays are accepted");
-    let mut waiting = vec![0; accepted.elements];
-    let mut stage = Stage {
-        received: vec![0; accepted.elements],
-        state: vec![0; accepted.words],
-    };
-    calls
-        .start(values, &mut waiting, &mut stage.received, &mut stage.state)
-        .expect("the lists have their lengths");
-    let started = stage.clone();
-    pass_by_pass(calls, &waiting, &mut stage, accepted.steps / 2);
-    let halfway = stage.clone();
-    pass_by_pass(
-        calls,
-        &waiting,
-        &mut stage,
-        accepted.steps - accepted.steps / 2,
-    );
-    (waiting, [started, halfway, stage])
-}
-
-/// Does so many steps, each as often as it is ready, over and over in Run's order.
-fn pass_by_pass(calls: &Calls, waiting: &[u32], stage: &mut Stage, steps: u64) {
-    let network = calls.network().expect("the largest arrays are accepted");
-    let mut left = steps;
-    for &step in network.steps().iter().cycle() {
-        while left > 0 && network.ready(&stage.state, step) {
-            network.apply(waiting, &mut stage.received, &mut stage.state, step);
-            left -= 1;
+/// A line for each call; that of a run is by the step, without what a run of no step takes.
+fn print_array(array: &Array, worst: &mut Vec<Worst>) {
+    let mut work = Work::new(array);
+    let mut none = [Duration::ZERO; 2];
+    for (call, name) in Call::ALL {
+        let mut times = least(&mut work, call, SIDES);
+        let mut slow = reference_time(&mut work, call);
+        let mut name = name;
+        match call {
+            Call::RunNone => none = times,
+            Call::RunAll => {
+                let steps = work.steps();
+                times = [(times[0] - none[0]) / steps, (times[1] - none[1]) / steps];
+                slow /= steps;
+                name = "run, a step";
+            }
+            _ => {}
         }
-        if left == 0 {
-            return;
-        }
+        let ratio = times[0].as_secs_f64() / times[1].as_secs_f64();
+        print_line(
+            &array.name,
+            name,
+            times,
+            &format!("{ratio:8.2} {slow:>10.1?}"),
+        );
+        keep_worst(worst, name, ratio, &array.name);
     }
 }
 
-/// The calls on a state: Start; the first Send, from the start; Ready halfway; the last pipe's part; Result at the end; Run.
-fn print_on_states(board: u32, name: &str, bytes: &[u8], values: &[u32]) {
-    let calls = Calls::on(board, bytes);
-    let (waiting, [started, halfway, ended]) = stages(&calls, values);
-    let (mut our_waiting, mut their_waiting) = (waiting.clone(), waiting.clone());
-    let (mut ours, mut theirs) = (started.clone(), started.clone());
-    line(
-        name,
-        "start",
-        || {
-            let lists: [&mut [u32]; 3] = [&mut our_waiting, &mut ours.received, &mut ours.state];
-            library::start(board, black_box(bytes), values, lists)
-        },
-        || {
-            let (received, state) = (&mut theirs.received, &mut theirs.state);
-            Calls::on(board, black_box(bytes)).start(values, &mut their_waiting, received, state)
-        },
-    );
-    let mut sent = started.clone();
-    calls
-        .step(sent.lent(&waiting), 0, 0, 0)
-        .expect("the first pipe can send");
-    let changed: Vec<usize> = (0..sent.state.len())
-        .filter(|&word| sent.state[word] != started.state[word])
-        .collect();
-    let again = |stage: &mut Stage| {
-        for &word in &changed {
-            stage.state[word] = started.state[word];
-        }
-    };
-    line(
-        name,
-        "step",
-        || {
-            again(&mut ours);
-            library::step(board, black_box(bytes), [0, 0, 0], ours.lent(&waiting))
-        },
-        || {
-            again(&mut theirs);
-            Calls::on(board, black_box(bytes)).step(theirs.lent(&waiting), 0, 0, 0)
-        },
-    );
-    let mut answer = [0; 2];
-    let (mut our_words, mut their_words) = ([0; READY_WORDS], [0; READY_WORDS]);
-    line(
-        name,
-        "ready",
-        || {
-            let memory = halfway.memory(&waiting);
-            library::ready(board, black_box(bytes), &mut our_words, memory, &mut answer)
-        },
-        || {
-            let [waiting, received, state] = halfway.memory(&waiting);
-            Calls::on(board, black_box(bytes)).ready(waiting, received, state, &mut their_words)
-        },
-    );
-    let last = calls.accept().map_or(0, |accepted| accepted.pipes - 1) as u32;
-    let received = &ended.received;
-    line(
-        name,
-        "window",
-        || {
-            library::window(
-                board,
-                black_box(bytes),
-                [last, 1],
-                &waiting,
-                received,
-                &mut answer,
-            )
-        },
-        || {
-            let calls = Calls::on(board, black_box(bytes));
-            calls.window(&waiting, received, last, 1).map(<[u32]>::len)
-        },
-    );
-    let (mut our_output, mut their_output) = (waiting.clone(), waiting.clone());
-    line(
-        name,
-        "result",
-        || {
-            library::result(
-                board,
-                black_box(bytes),
-                &mut our_output,
-                ended.memory(&waiting),
-            )
-        },
-        || {
-            let [waiting, received, state] = ended.memory(&waiting);
-            Calls::on(board, black_box(bytes)).result(waiting, received, state, &mut their_output)
-        },
-    );
-    line(
-        name,
-        "run 0",
-        || library::run(board, black_box(bytes), 0, ours.lent(&waiting), &mut answer),
-        || Calls::on(board, black_box(bytes)).run(theirs.lent(&waiting), 0),
-    );
-    print_run(board, name, bytes, &waiting, [&started, &ended]);
+fn print_line(array: &str, call: &str, [first, second]: [Duration; 2], others: &str) {
+    println!("{array:24} {call:12} {first:>10.1?} {second:>10.1?} {others}");
 }
 
-/// A run to the end, by the step: with the tables that a call makes, and without them, which is a run to the end less a run of no step,
-/// beside the second implementation, which looks for each step from the first and runs once, and beside the loop of a plain Rust program of
-/// the same design.
-fn print_run(board: u32, name: &str, bytes: &[u8], waiting: &[u32], [started, ended]: [&Stage; 2]) {
-    let steps = Calls::on(board, bytes)
-        .accept()
-        .map_or(0, |accepted| accepted.steps) as u32;
-    let [least, tables, design] = run_times(board, bytes, steps, waiting, [started, ended]);
-    let mut stage = started.clone();
-    let mut run = || Calls::on(board, black_box(bytes)).run(stage.lent(waiting), u64::MAX);
-    let other = time(&mut run);
-    assert!(stage == *ended);
-    let without = (least - tables) / steps;
-    print_line(name, "run, a step", least / steps, other / steps);
-    print_line(name, "without tables", without, other / steps);
-    print_line(name, "same design", without, design / steps);
+fn keep_worst(worst: &mut Vec<Worst>, call: &'static str, ratio: f64, array: &str) {
+    let array = array.to_string();
+    let now = Worst { call, ratio, array };
+    match worst.iter_mut().find(|other| other.call == call) {
+        Some(other) if other.ratio < ratio => *other = now,
+        Some(_) => {}
+        None => worst.push(now),
+    }
 }
 
-/// The least times of the library's run to the end, of its run of no step, and of the plain Rust program's loop, which take turns.
-fn run_times(
-    board: u32,
-    bytes: &[u8],
-    steps: u32,
-    waiting: &[u32],
-    [started, ended]: [&Stage; 2],
-) -> [Duration; 3] {
-    let design = Design::of(bytes);
-    let (mut least, mut tables, mut other) = (Duration::MAX, Duration::MAX, Duration::MAX);
+/// Accept, and a run to the end, of the library on the bench and on the gauge.
+fn print_beside_the_gauge(array: &Array) {
+    println!("the library on the bench, on the gauge");
+    let mut work = Work::new(array);
+    for (call, name) in [(Call::Accept, "accept"), (Call::RunAll, "run")] {
+        let times = [BENCH, GAUGE].map(|board| {
+            work.board = board;
+            let [time] = least(&mut work, call, [&LIBRARY]);
+            time
+        });
+        print_line(&array.name, name, times, "");
+    }
+}
+
+/// The least time of the second implementation: of reading the description and of the call.
+fn reference_time(work: &mut Work, call: Call) -> Duration {
+    let mut least = Duration::MAX;
     let start = Instant::now();
-    while start.elapsed() < 2 * LONG {
-        let mut stage = started.clone();
-        let mut answer = [0; 2];
-        let mut none =
-            || library::run(board, black_box(bytes), 0, stage.lent(waiting), &mut answer);
-        tables = tables.min(time(&mut none));
-        let mut run = || {
-            library::run(
-                board,
-                black_box(bytes),
-                u32::MAX,
-                stage.lent(waiting),
-                &mut answer,
-            )
-        };
-        least = least.min(time(&mut run));
-        assert_eq!(answer, [steps, 0]);
-        assert!(stage == *ended);
-        stage = started.clone();
-        let mut flags = design.flags(&stage.state);
-        let mut done = 0;
-        let mut run = || done = black_box(&design).run(&mut flags, stage.lent(waiting));
-        other = other.min(time(&mut run));
-        assert_eq!(done, steps);
-        assert!(stage == *ended);
+    while least == Duration::MAX || start.elapsed() < LONG {
+        work.prepare(call);
+        least = least.min(time(|| reference_call(work, call)));
     }
-    [least, tables, other]
-}
-
-fn line<A, B>(name: &str, call: &str, library: impl FnMut() -> A, other: impl FnMut() -> B) {
-    let [least, least_other] = least_times(library, other);
-    print_line(name, call, least, least_other);
-}
-
-/// The two take turns, so that a busy machine slows both.
-fn least_times<A, B>(
-    mut library: impl FnMut() -> A,
-    mut other: impl FnMut() -> B,
-) -> [Duration; 2] {
-    let start = Instant::now();
-    let (mut least, mut least_other) = (Duration::MAX, Duration::MAX);
-    while start.elapsed() < 2 * LONG {
-        least = least.min(time(&mut library));
-        least_other = least_other.min(time(&mut other));
+    if call == Call::RunAll {
+        assert!(work.stage == work.ended);
     }
-    [least, least_other]
+    work.stage.clone_from(&work.started);
+    least
 }
 
-fn print_line(name: &str, call: &str, library: Duration, other: Duration) {
-    let ratio = library.as_secs_f64() / other.as_secs_f64();
-    println!("{name:24} {call:14} {library:>12.1?} {other:>12.1?} {ratio:8.3}");
-}
-
-fn time<T>(call: &mut impl FnMut() -> T) -> Duration {
-    let start = Instant::now();
-    black_box(call());
-    start.elapsed()
+/// The call of the second implementation.
+fn reference_call(work: &mut Work, call: Call) {
+    let calls = Calls::on(work.board, black_box(&work.bytes));
+    let waiting = &work.waiting;
+    let done = match call {
+        Call::Accept => calls.accept().is_ok(),
+        Call::Table => {
+            let mut rows = vec![Row::default(); work.figures[0] as usize];
+            calls.table(&mut rows).is_ok()
+        }
+        Call::PlainRun => calls.plain_run(&work.values, &mut work.output).is_ok(),
+        Call::Start => {
+            let (received, state) = (&mut work.stage.received, &mut work.stage.state);
+            let started = calls.start(&work.values, &mut work.new_waiting, received, state);
+            started.is_ok()
+        }
+        Call::Window => {
+            let last = work.figures[3] - 1;
+            calls.window(waiting, &work.ended.received, last, 1).is_ok()
+        }
+        Call::Step => calls.step(work.stage.lent(waiting), 0, 0, 0).is_ok(),
+        Call::Ready => {
+            let [waiting, received, state] = work.halfway.memory(waiting);
+            let ready = calls.ready(waiting, received, state, &mut work.words);
+            ready.is_ok()
+        }
+        Call::Result => {
+            let [waiting, received, state] = work.ended.memory(waiting);
+            let result = calls.result(waiting, received, state, &mut work.output);
+            result.is_ok()
+        }
+        Call::RunNone => calls.run(work.started.lent(waiting), 0).is_ok(),
+        Call::RunAll => calls.run(work.stage.lent(waiting), u64::MAX).is_ok(),
+    };
+    assert!(done);
 }

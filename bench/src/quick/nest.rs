@@ -155,7 +155,9 @@ impl Nest {
         let limits = Limits::of(board)?;
         let description = Description::read(bytes)?;
         let (left, right) = (description.left, description.right);
-        let instances: i32 = (0..3).map(|number| right[number] - left[number] + 1).product();
+        let instances: i32 = (0..3)
+            .map(|number| right[number] - left[number] + 1)
+            .product();
         decline(instances > limits.instances, 6)?;
         let increment = Shortest::of(&description.place, description.step, 7, 8)?;
         let space = Extent::of(&description.place, left, right);
@@ -180,7 +182,12 @@ impl Nest {
     }
 
     /// Declines by 11 to 17.
-    fn stream(&self, number: usize, limits: &Limits, touched: &mut Vec<bool>) -> Result<Stream, u32> {
+    fn stream(
+        &self,
+        number: usize,
+        limits: &Limits,
+        touched: &mut Vec<bool>,
+    ) -> Result<Stream, u32> {
         let description = &self.description;
         let map = description.maps[number];
         let line = Shortest::of(&map, description.step, 11, 12)?;
@@ -189,12 +196,18 @@ impl Nest {
         let moving = travel != [0, 0];
         let hop = dot(description.step, line.vector);
         decline(moving && hop > limits.hop, 14)?;
-        decline(description.body.writes(number) && self.against(line.vector), 15)?;
+        decline(
+            description.body.writes(number) && self.against(line.vector),
+            15,
+        )?;
         let loading = description.loading[number];
         decline(moving == (loading != [0, 0]), 16)?;
         let extent = Extent::of(&map, description.left, description.right);
         let numbering = extent.numbering(&map);
-        decline(!self.touches_all(extent.size() as usize, &numbering, touched), 17)?;
+        decline(
+            !self.touches_all(extent.size() as usize, &numbering, touched),
+            17,
+        )?;
         Ok(Stream {
             map,
             divisor: line.divisor,

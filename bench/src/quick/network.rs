@@ -1,6 +1,6 @@
 //! The network: where the words of a state stand, and which states are sound.
 
-use super::description::{Vector, STREAMS};
+use super::description::STREAMS;
 use super::pipes::{Array, Lane, Pipe};
 use super::rules::{End, Port};
 
@@ -69,15 +69,6 @@ impl Network {
         let before = number - self.array.pipes_of(stream).start;
         self.ends[stream] + before * (LAST_LINK + self.array.nest.streams[stream].hop as usize)
     }
-
-    /// The instance of a process after so many firings.
-    pub fn instance(&self, process: usize, firings: u32) -> Vector {
-        let mut instance = self.array.processes[process].first;
-        for (index, step) in instance.iter_mut().zip(self.array.nest.increment) {
-            *index += firings as i32 * step;
-        }
-        instance
-    }
 }
 
 // Sound states.
@@ -86,7 +77,8 @@ impl Network {
     /// Each count is at most its total, each link holds at most its places, and taken and given go together.
     pub fn sound(&self, state: &[u32]) -> bool {
         let processes = self.array.processes.iter().enumerate();
-        let mut firings = processes.map(|(number, process)| state[self.fired(number)] <= process.count);
+        let mut firings =
+            processes.map(|(number, process)| state[self.fired(number)] <= process.count);
         let mut pipes = self.array.pipes.iter().enumerate();
         let mut empty = self.array.empty.iter();
         firings.all(|sound| sound)
@@ -130,25 +122,32 @@ impl Network {
         let stride = pipe.lane.stride.wrapping_mul(self.width);
         let stream = &self.array.nest.streams[pipe.stream];
         let row = &self.array.processes[process];
-        let (after, room) = if place + 1 == pipe.lane.processes {
+        let (first, last) = (place == 0, place + 1 == pipe.lane.processes);
+        let (after, room) = if last {
             (end + RECEIVED, end + LAST_LINK)
         } else {
             let next = at.wrapping_add(stride);
             (next + TAKEN, next + LINK)
         };
-        let first = place == 0;
         let soak = self.array.soak(pipe, row, before);
         Port {
             at: at as u32,
-            before: if first { end + SENT } else { at.wrapping_sub(stride) + GIVEN } as u32,
+            before: if first {
+                end + SENT
+            } else {
+                at.wrapping_sub(stride) + GIVEN
+            } as u32,
             after: after as u32,
             room: room as u32,
             fired: self.fired(process) as u32,
             soak: if row.count > 0 { soak } else { pipe.elements },
             count: row.count,
             total: pipe.elements,
+            pipe: number as u32,
             hop: stream.hop as u8,
             keeps: !stream.moving && row.count > 0,
+            first,
+            last,
         }
     }
 
@@ -177,16 +176,19 @@ impl Network {
     pub fn end(&self, number: usize) -> End {
         let pipe = &self.array.pipes[number];
         let end = self.pipe_at(number);
-        let first = self.at(pipe.lane.entry, pipe.stream);
-        let last = self.at(pipe.lane.at(pipe.lane.processes - 1), pipe.stream);
+        let (first, last) = (pipe.lane.entry, pipe.lane.at(pipe.lane.processes - 1));
+        let entry = self.at(first, pipe.stream);
         End {
             at: end as u32,
-            after: (first + TAKEN) as u32,
-            room: (first + LINK) as u32,
-            before: (last + GIVEN) as u32,
+            after: (entry + TAKEN) as u32,
+            room: (entry + LINK) as u32,
+            before: (self.at(last, pipe.stream) + GIVEN) as u32,
             total: pipe.elements,
             part: pipe.part as u32,
             hop: self.array.nest.streams[pipe.stream].hop,
+            stream: pipe.stream as u32,
+            first: first as u32,
+            last: last as u32,
         }
     }
 }

@@ -3,7 +3,7 @@
 use std::ops::Range;
 
 use super::description::{Point, Vector, STREAMS};
-use super::nest::{dot, Nest, Stream};
+use super::nest::{dot, Extent, Nest, Stream};
 
 /// A process: its first instance and how many it has; it is null if it has none.
 #[derive(Clone, Copy, Default)]
@@ -60,7 +60,8 @@ impl Pass {
     /// The measure is the index map's row in which the pass has its smaller component that is not 0, turned so that it grows.
     fn of(nest: &Nest, stream: &Stream) -> Pass {
         let vector = nest.pass(stream);
-        let axis = usize::from(vector[0] == 0 || vector[1] != 0 && vector[1].abs() < vector[0].abs());
+        let axis =
+            usize::from(vector[0] == 0 || vector[1] != 0 && vector[1].abs() < vector[0].abs());
         let sign = vector[axis].signum();
         Pass {
             vector,
@@ -113,7 +114,10 @@ impl Array {
         if stream.moving {
             self.passes[number] = Pass::of(&self.nest, stream);
         }
-        let mut part = self.pipes.last().map_or(0, |pipe| pipe.part + pipe.elements as usize);
+        let mut part = self
+            .pipes
+            .last()
+            .map_or(0, |pipe| pipe.part + pipe.elements as usize);
         for lane in lanes(self.nest.space.sides, stream.travel) {
             match self.pipe(number, lane, part) {
                 Some(pipe) => {
@@ -170,6 +174,23 @@ impl Array {
         }
     }
 
+    /// How many elements of its pipe a process that computes uses.
+    pub fn used(&self, pipe: &Pipe, process: &Process) -> u32 {
+        match self.nest.streams[pipe.stream].moving {
+            true => process.count,
+            false => 1,
+        }
+    }
+
+    /// The instance of a process after so many others.
+    pub fn instance(&self, process: &Process, number: u32) -> Vector {
+        let mut instance = process.first;
+        for (index, step) in instance.iter_mut().zip(self.nest.increment) {
+            *index += number as i32 * step;
+        }
+        instance
+    }
+
     /// The elements of a pipe in its order, by their numbers in element order.
     pub fn each_element(&self, pipe: &Pipe, mut visit: impl FnMut(usize)) {
         let stream = &self.nest.streams[pipe.stream];
@@ -193,7 +214,7 @@ impl Array {
     pub fn locate(&self, process: usize, stream: usize) -> Option<(usize, usize)> {
         let sides = self.nest.space.sides;
         let point = [process as i32 / sides[1], process as i32 % sides[1]];
-        let space = super::nest::Extent { low: [0; 2], sides };
+        let space = Extent { low: [0; 2], sides };
         let travel = self.nest.streams[stream].travel;
         let place = space.room(point, travel.map(|word| -word)) as usize;
         let back = place.wrapping_mul(stride(sides, travel));
@@ -210,7 +231,10 @@ fn processes(nest: &Nest) -> Vec<Process> {
     let (left, right) = (nest.description.left, nest.description.right);
     let upwards = nest.increment > [0; 3];
     let (from, sign) = if upwards { (left, 1) } else { (right, -1) };
-    let strides = nest.numbering.strides.map(|stride| (sign * stride) as usize);
+    let strides = nest
+        .numbering
+        .strides
+        .map(|stride| (sign * stride) as usize);
     let sides = [0, 1, 2].map(|number| right[number] - left[number] + 1);
     let mut outer = nest.numbering.of(from);
     for i in 0..sides[0] {

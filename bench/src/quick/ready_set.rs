@@ -44,15 +44,6 @@ impl ReadySet {
     }
 
     #[inline]
-    pub fn put(&mut self, rank: usize, ready: bool) {
-        if ready {
-            self.insert(rank);
-        } else {
-            self.remove(rank);
-        }
-    }
-
-    #[inline]
     pub fn lowest(&self) -> Option<usize> {
         if self.blocks == 0 {
             return None;

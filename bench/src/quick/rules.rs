@@ -20,8 +20,12 @@ pub struct Port {
     pub soak: u32,
     pub count: u32,
     pub total: u32,
+    pub pipe: u32,
     pub hop: u8,
     pub keeps: bool,
+    /// It is the first or the last process of its pipe.
+    pub first: bool,
+    pub last: bool,
 }
 
 /// The same for the two ends of a pipe.
@@ -39,6 +43,10 @@ pub struct End {
     /// Where its part of the waiting and received lists begins.
     pub part: u32,
     pub hop: u32,
+    pub stream: u32,
+    /// The first and the last process of the pipe.
+    pub first: u32,
+    pub last: u32,
 }
 
 /// Takes the oldest of so many values out of a link and moves the others down.
@@ -56,7 +64,10 @@ fn pull(state: &mut [u32], first: usize, fill: u32) -> u32 {
 impl Port {
     #[inline]
     fn counts(&self, state: &[u32]) -> (u32, u32) {
-        (state[self.at as usize + TAKEN], state[self.at as usize + GIVEN])
+        (
+            state[self.at as usize + TAKEN],
+            state[self.at as usize + GIVEN],
+        )
     }
 
     /// How many elements the port holds when its hand is full.
@@ -121,7 +132,11 @@ impl Port {
         let at = self.at as usize;
         let (taken, given) = self.counts(state);
         let fill = given - state[self.after as usize];
-        let from = if taken - given == self.full() { HAND } else { KEEP };
+        let from = if taken - given == self.full() {
+            HAND
+        } else {
+            KEEP
+        };
         state[self.room as usize + fill as usize] = state[at + from];
         state[at + from] = 0;
         state[at + GIVEN] = given + 1;

@@ -5,13 +5,15 @@
 //
 //   Ranges      what the range tests leave of a nest and of one loop, and the numbers that then fit
 //   Turns       an instance by how often each loop has turned; `instances-length`, `instance-is`
+//   Course      the instances counted on: `after-is`
 //   Corners     a row is least and greatest at corners of the bounds: `box-corners`
 //   Extents     the bounds of the box around the images: `box-spanning`
+//   Forms       a row number as a form of the instance: `form-number`
 //   Numbers     the table of row numbers
 ghost use mathlib.Core.Path.{_≡_};
 ghost use mathlib.Core.List.{_++_};
 ghost use Prim.Native.Nat.{_≤_, _<_};
-ghost use lib.IntN.{pos, _-ℤ_};
+ghost use lib.IntN.{pos, _+ℤ_, _-ℤ_, _*ℤ_};
 ghost use lib.ListN.{length, getD, drop};
 ghost use Rattle.integers.specs.Differences.{Abs, up};
 ghost use Rattle.integers.specs.Vectors.{zero3, dot, image};
@@ -21,8 +23,10 @@ ghost use Rattle.meaning.specs.Points.{Inside};
 ghost use Rattle.vectors.specs.Within.{Within, Rows};
 ghost use Rattle.numbering.specs.Ranges.{Bounded, Ranged, Apart, turns, values, outerOf, middleOf, innerOf};
 ghost use Rattle.numbering.specs.Turns.{Turned, turnsOf};
+ghost use Rattle.numbering.specs.Course.{Runs, firstValue, lastValue, firstPoint, lastPoint, courseOf, nextOf};
 ghost use Rattle.numbering.specs.Corners.{endOf, cornerOf};
 ghost use Rattle.numbering.specs.Extents.{Spanning, Numbered, boxed};
+ghost use Rattle.numbering.specs.Forms.{Numbers, formOf, formAt};
 ghost use Rattle.numbering.specs.Numbers.{Fillable, numbersOf};
 use integers::Matrix;
 use integers::V2;
@@ -41,6 +45,19 @@ struct Turns {
     outer: u32,
     middle: u32,
     inner: u32,
+}
+
+// Where each loop begins and ends, and which way it runs.
+pub struct Course {
+    pub first: V3,
+    pub last: V3,
+    pub direction: V3,
+}
+
+// A row number as a form of the instance: so much for each index, less a base.
+pub struct Form {
+    pub weight: V3,
+    pub base: i32,
 }
 
 // The least and the greatest corner of a box.
@@ -172,6 +189,88 @@ pub fn instance(n: Nest, k: u32) -> V3
     }
 }
 
+// The values at which a loop begins and ends.
+fn first_value(l: Loop) -> i32
+    requires { ⌜ Ranged l ⌝ }
+    ensures { λ r. ⌜ (r ≡ firstValue l) × (Abs r 64) ⌝ }
+{
+    if l.direction < 0 { l.right } else { l.left }
+}
+
+fn last_value(l: Loop) -> i32
+    requires { ⌜ Ranged l ⌝ }
+    ensures { λ r. ⌜ (r ≡ lastValue l) × (Abs r 64) ⌝ }
+{
+    if l.direction < 0 { l.left } else { l.right }
+}
+
+// The first instance; the last one.
+fn first_point(n: Nest) -> V3
+    requires { ⌜ Bounded n ⌝ }
+    ensures { λ r. ⌜ (r ≡ firstPoint n) × (Within 64 r) ⌝ }
+{
+    V3 {
+        x: first_value(outer(n)),
+        y: first_value(middle(n)),
+        z: first_value(inner(n)),
+    }
+}
+
+fn last_point(n: Nest) -> V3
+    requires { ⌜ Bounded n ⌝ }
+    ensures { λ r. ⌜ (r ≡ lastPoint n) × (Within 64 r) ⌝ }
+{
+    V3 {
+        x: last_value(outer(n)),
+        y: last_value(middle(n)),
+        z: last_value(inner(n)),
+    }
+}
+
+// The course of the loops.
+pub fn course_of(n: Nest) -> Course
+    requires { ⌜ Bounded n ⌝ }
+    ensures { λ r. ⌜ (r ≡ courseOf n) × (Runs r) ⌝ }
+{
+    let direction = n.direction;
+    Course {
+        first: first_point(n),
+        last: last_point(n),
+        direction: direction,
+    }
+}
+
+// The instance after x in the written order; of the last one, no instance.
+pub fn next(c: Course, x: V3) -> V3
+    requires { ⌜ (Runs c) × (Within 64 x) ⌝ }
+    ensures { λ r. ⌜ r ≡ nextOf c x ⌝ }
+{
+    let first = c.first;
+    let last = c.last;
+    let direction = c.direction;
+    if x.z == last.z {
+        if x.y == last.y {
+            V3 {
+                x: x.x + direction.x,
+                y: first.y,
+                z: first.z,
+            }
+        } else {
+            V3 {
+                x: x.x,
+                y: x.y + direction.y,
+                z: first.z,
+            }
+        }
+    } else {
+        V3 {
+            x: x.x,
+            y: x.y,
+            z: x.z + direction.z,
+        }
+    }
+}
+
 // The image of instance k.
 fn image_at(n: Nest, m: Matrix, k: u32) -> V2
     requires { ⌜ Numbered n m k ⌝ }
@@ -257,15 +356,56 @@ pub fn number_of(n: Nest, m: Matrix, e: Extent, k: u32) -> u32
     row_number(e, image_at(n, m, k))
 }
 
+// So many times a row's word and another's.
+fn weight_of(columns: i32, top: i32, low: i32) -> i32
+    requires { ⌜ (Abs columns 1537) × (Abs top 768) × (Abs low 768) ⌝ }
+    ensures { λ r. ⌜ r ≡ columns *ℤ top +ℤ low ⌝ }
+{
+    columns * top + low
+}
+
+// The row number of an instance's image in a box, as a form of the instance.
+pub fn form_of(m: Matrix, e: Extent) -> Form
+    requires { ⌜ (Rows 4 m) × (Spanning (boxed e)) ⌝ }
+    ensures { λ r. ⌜ r ≡ formOf m (boxed e) ⌝ }
+{
+    let lo = e.lo;
+    let hi = e.hi;
+    let top = m.top;
+    let low = m.low;
+    let columns = (distance(lo.b, hi.b) + 1) as i32;
+    Form {
+        weight: V3 {
+            x: weight_of(columns, top.x, low.x),
+            y: weight_of(columns, top.y, low.y),
+            z: weight_of(columns, top.z, low.z),
+        },
+        base: weight_of(columns, lo.a, lo.b),
+    }
+}
+
+// The number that a form gives an instance.
+pub fn number_by(f: Form, x: V3) -> u32
+    requires { ⌜ Numbers f x ⌝ }
+    ensures { λ r. ⌜ r ≡ up (formAt f x) ⌝ }
+{
+    let weight = f.weight;
+    (weight.x * x.x + weight.y * x.y + weight.z * x.z - f.base) as u32
+}
+
 // The row numbers of the images of all instances, in the written order; e is the box around the images. What lies past them stays.
 pub fn fill_numbers(n: Nest, m: Matrix, e: Extent, out: &mut [u32])
     requires { ⌜ Fillable n m e (now out) ⌝ }
     ensures { λ r. ⌜ now (out .exit) ≡ numbersOf n m ++ drop (length (instances n)) (now (out .entry)) ⌝ }
 {
     let count = instance_count(n);
+    let form = form_of(m, e);
+    let course = course_of(n);
+    let mut x = course.first;
     let mut k: u32 = 0;
     while k < count {
-        out[k as usize] = row_number(e, image_at(n, m, k));
+        out[k as usize] = number_by(form, x);
+        x = next(course, x);
         k += 1;
     }
 }

@@ -9,7 +9,7 @@ use lib.Dec.{eqb}
 use lib.ListN.{length, getD, set, drop, replicate, length-append, length-map, length-replicate, getD-replicate, List·getD-append}
 use lib.Seq.{ext-getD, getD-append-add}
 use borrow.Author.Tests.{eqb-true, eqb-false}
-use Rattle.integers.specs.Fill.{fillBy, fill-zero}
+use Rattle.integers.specs.Fill.{fillBy, fill-zero, fill-same}
 use Rattle.integers.specs.Vectors.{zero2}
 use Rattle.integers.specs.declared.V2.{V2}
 use Rattle.meaning.specs.declared.Nest.{Nest}
@@ -151,11 +151,6 @@ module _ {d : Description} {h : Shape} {w : List ℕ} (g : Drawn d h w) where
       at k l m = omega (arith, g .copied k l, ap (λ (m : Nest). length (instances m)) (g .shaped .nest))
 
 -- ---- all rows
-
-fill-same : {A : Type 0} (f g : ℕ → A) (n : ℕ) (xs : List A) → ((k : ℕ) → k < n → f k ≡ g k) → fillBy f n xs ≡ fillBy g n xs
-unfolding fillBy
-fill-same f g zero xs e = refl
-fill-same {A} f g (suc n) xs e = λ i. set (fill-same f g n xs (λ k l. e k (omega arith)) i) n (e n (omega arith) i)
 
 module _ {l : Limits} {s : List ℕ} {room : ℕ} {h : Shape} {w : List ℕ} (g : Columns l s room h w) where
   pub columns-ready : (p : ℕ) → p < h .rows → Readable h w p

@@ -1,46 +1,59 @@
 -- `numbering::fill_numbers` meets its contract: the entries before k are the numbers of the first k instances. Assumes nothing.
-use mathlib.Core.Path.{_≡_, refl, sym, _∙_, ap, subst}
-use Prim.Native.Nat.{_≤_, _-_}
+use mathlib.Core.Path.{_≡_, refl, sym, _∙_, ap, ap₂, subst}
+use Prim.Native.Nat.{ℕ, _≤_, _<_, _-_}
 use native.Mathlib.Omega.{arith}
 use lib.ListN.{length, length-set, getD}
 use borrow.Author.Needs.{needs}
-use Rattle.integers.specs.Fill.{fillBy, fill-zero, fill-step, fill-done}
+use Rattle.integers.specs.Differences.{up}
+use Rattle.integers.specs.Fill.{fillBy, fill-zero, fill-step, fill-done, fill-same}
 use Rattle.integers.specs.Vectors.{zero3, image}
-use Rattle.integers.specs.declared.V2.{V2}
+use Rattle.integers.specs.declared.V3.{V3}
+use Rattle.meaning.specs.declared.Nest.{Nest}
 use Rattle.meaning.specs.Loops.{instances}
-use Rattle.meaning.specs.Space.{Box, rowIndex, boxOf}
-use Rattle.meaning.specs.Points.{Inside}
-use Rattle.numbering.specs.Extents.{Spanning, box-spanning, image-inside}
+use Rattle.meaning.specs.Space.{rowIndex, boxOf}
+use Rattle.vectors.specs.Within.{Within}
+use Rattle.numbering.specs.declared.Course.{Course}
+use Rattle.numbering.specs.Ranges.{Bounded, instance-small}
+use Rattle.numbering.specs.Course.{courseOf, nextOf, after, after-zero, after-next, after-is}
+use Rattle.numbering.specs.Extents.{Spanning, box-spanning}
+use Rattle.numbering.specs.Forms.{formAt, form-ready, form-is}
 use Rattle.numbering.specs.Numbers.{filled}
 use Rattle.numbering.proofs.fill_numbers.Statement.{statement}
 use Rattle.numbering.proofs.fill_numbers.Tie as tie
 
 abbrev Inv-loop : tie.InvT-loop
-Inv-loop n m e out₀ count k₀ out k =
-    (k ≤ length (instances n)) × (length out ≡ length out₀)
-    × (out ≡ fillBy (λ k. rowIndex (boxOf n m) (image m (getD (instances n) k zero3))) k out₀)
+Inv-loop out₀ count form course x₀ k₀ out x k =
+    (k ≤ count) × (length out ≡ length out₀) × (out ≡ fillBy (λ k. up (formAt form (after course k))) k out₀) × (x ≡ after course k)
 
 abbrev μ-loop : tie.MeasureT-loop
-μ-loop n m e out₀ count k₀ out k = length (instances n) - k
+μ-loop out₀ count form course x₀ k₀ out x k = count - k
+
+-- the instance that was counted on
+module _ {n : Nest} {w : Course} {x : V3} {k : ℕ} (h : Bounded n) (e : w ≡ courseOf n) (i : x ≡ after w k) (l : k < length (instances n)) where
+  reached : x ≡ getD (instances n) k zero3
+  reached = i ∙ ap (λ (w : Course). after w k) e ∙ after-is h k l
+
+  small : Within 64 x
+  small = subst (Within 64) (sym reached) (instance-small k h l)
 
 instance-count-requires : tie.Need-instance-count-requires Inv-loop μ-loop
 instance-count-requires c κs = search needs
 
+form-of-requires : tie.Need-form-of-requires Inv-loop μ-loop
+form-of-requires c κs =
+    let p = c .before .before .pre in (p .rows, subst Spanning (sym (p .box)) (box-spanning (p .bounded) (p .rows)))
+
+course-of-requires : tie.Need-course-of-requires Inv-loop μ-loop
+course-of-requires c κs = search needs
+
 loop-holds : tie.Need-loop-holds Inv-loop μ-loop
-loop-holds c = (omega arith, refl, sym (fill-zero _ _))
+loop-holds c = (omega arith, refl, sym (fill-zero _ _), sym (after-zero _))
 
-image-at-requires : tie.Need-image-at-requires Inv-loop μ-loop
-image-at-requires c κs =
-    let p = c .before .before .before .before .pre in record { bounded = p .bounded; rows = p .rows; lt = omega arith }
-
-row-number-requires : tie.Need-row-number-requires Inv-loop μ-loop
-row-number-requires c κs =
-    let p = c .before .before .before .before .before .pre in (
-      subst Spanning (sym (p .box)) (box-spanning (p .bounded) (p .rows)),
-      subst (λ (b : Box). Inside b (c .image-at .result)) (sym (p .box))
-          (subst (Inside (boxOf _ _)) (sym (c .image-at .ensures))
-          (image-inside (record { bounded = p .bounded; rows = p .rows; lt = omega arith }))),
-    )
+number-by-requires : tie.Need-number-by-requires Inv-loop μ-loop
+number-by-requires c κs =
+    let p = c .before .before .before .before .before .before .before .pre in
+    form-ready (record { bounded = p .bounded; rows = p .rows; lt = omega arith }) (p .box) (c .before .before .before .before .form-of .ensures)
+    (reached (p .bounded) (c .before .before .before .course-of .ensures .0) (c .before .loop .inv .3) (omega arith))
 
 cast-out : tie.Need-cast-out Inv-loop μ-loop
 cast-out c = search needs
@@ -51,6 +64,10 @@ mul-out c = search needs
 slice-write-out : tie.Need-slice-write-out Inv-loop μ-loop
 slice-write-out c = search needs
 
+next-requires : tie.Need-next-requires Inv-loop μ-loop
+next-requires c κs =
+    let w = c .before .before .before .before .course-of .ensures in (w .1, small (c .before .before .before .before .before .before .before .before .pre .bounded) (w .0) (c .before .before .loop .inv .3) (omega arith))
+
 add-k : tie.Need-add-k Inv-loop μ-loop
 add-k c = search needs
 
@@ -59,23 +76,30 @@ loop-less c = search needs
 
 loop-again : tie.Need-loop-again Inv-loop μ-loop
 loop-again c =
-    let v = c .before .before .before .loop .inv in
-    let a = c .before .before .before .before .before .before .args in
-    let e =
-    c .row-number .ensures
-    ∙ ap (λ (b : Box). rowIndex b (c .before .image-at .result)) (c .before .before .before .before .before .before .pre .box)
-    ∙ ap (λ (p : V2). rowIndex (boxOf (a .n) (a .m)) p) (c .before .image-at .ensures) in
-    (omega arith, simp length-set (v .1), rw (fill-step, e, v .2))
+    let l = c .before .before .before .loop in
+    let f = c .before .before .before .before .before .before .form-of .result in
+    let w = c .before .before .before .before .before .course-of .result in (
+      omega arith,
+      simp length-set (l .inv .1),
+      rw (fill-step, c .before .number-by .ensures ∙ ap (λ (x : V3). up (formAt f x)) (l .inv .3), l .inv .2),
+      c .next .ensures ∙ ap (nextOf w) (l .inv .3) ∙ sym (after-next w (l .k)),
+    )
 
 same-length : tie.Need-same-length Inv-loop μ-loop
 same-length c = search needs
 
 returns : tie.Need-returns Inv-loop μ-loop
 returns c =
-    let s = c .before .before .before .before in
+    let s = c .before .before .before .before .before .before .before in
     let a = s .args in
-    fill-done _ _ _ _ (c .before .loop .inv .2) (omega arith)
-    ∙ filled (λ x. rowIndex (boxOf (a .n) (a .m)) (image (a .m) x)) (instances (a .n)) zero3 0 _ (s .pre .room)
+    let p = s .pre in
+    let xs = instances (a .n) in
+    fill-done _ _ _ _ (c .before .loop .inv .2) (omega (arith, c .before .loop .inv .0, c .before .before .before .before .before .instance-count .ensures .0))
+    ∙ fill-same _ (λ k. rowIndex (boxOf (a .n) (a .m)) (image (a .m) (getD xs k zero3))) (length xs) _
+    (λ k l.
+    form-is (record { bounded = p .bounded; rows = p .rows; lt = l }) (p .box) (c .before .before .before .before .form-of .ensures)
+    (reached (p .bounded) (c .before .before .before .course-of .ensures .0) refl l) refl)
+    ∙ filled (λ x. rowIndex (boxOf (a .n) (a .m)) (image (a .m) x)) xs zero3 0 _ (p .room)
 
 pub fill-numbers-spec : {M : Type 1} → statement M
 fill-numbers-spec =
@@ -84,12 +108,14 @@ fill-numbers-spec =
     Inv-loop
     μ-loop
     instance-count-requires
+    form-of-requires
+    course-of-requires
     loop-holds
-    image-at-requires
-    row-number-requires
+    number-by-requires
     cast-out
     mul-out
     slice-write-out
+    next-requires
     add-k
     loop-less
     loop-again

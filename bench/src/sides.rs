@@ -1,0 +1,61 @@
+//! The two programs that are held against the second implementation and against each other: the library and the quick program.
+
+use reference::calls::Lent;
+
+use crate::library;
+use crate::quick;
+
+/// The words of a row of the table.
+pub const ROW_WORDS: usize = 21;
+
+/// The values that Accept answers: six figures, the divisor of place and those of six streams.
+pub const FIGURES: usize = 13;
+
+/// The nine calls of a program. Each is told a board word and lent a description, and answers 0 or the number by which it declines.
+pub struct Side {
+    pub name: &'static str,
+    pub accept: fn(u32, &[u8], &mut [u32; FIGURES]) -> u32,
+    pub table: fn(u32, &[u8], &mut [u32]) -> u32,
+    /// Values and output.
+    pub plain_run: fn(u32, &[u8], &[u32], &mut [u32]) -> u32,
+    /// Values; waiting, received and state.
+    pub start: fn(u32, &[u8], &[u32], [&mut [u32]; 3]) -> u32,
+    /// Kind, number and stream; the lists.
+    pub step: fn(u32, &[u8], [u32; 3], Lent) -> u32,
+    /// Steps, the lists and the answer.
+    pub run: fn(u32, &[u8], u32, Lent, &mut [u32; 2]) -> u32,
+    /// Ready words; waiting, received and state; the answer.
+    pub ready: fn(u32, &[u8], &mut [u64], [&[u32]; 3], &mut [u32; 2]) -> u32,
+    /// Pipe and side, waiting, received and the answer.
+    pub window: fn(u32, &[u8], [u32; 2], &[u32], &[u32], &mut [u32; 2]) -> u32,
+    /// Output; waiting, received and state.
+    pub result: fn(u32, &[u8], &mut [u32], [&[u32]; 3]) -> u32,
+}
+
+pub static LIBRARY: Side = Side {
+    name: "library",
+    accept: library::accept,
+    table: library::table,
+    plain_run: library::plain_run,
+    start: library::start,
+    step: library::step,
+    run: library::run,
+    ready: library::ready,
+    window: library::window,
+    result: library::result,
+};
+
+pub static QUICK: Side = Side {
+    name: "quick",
+    accept: quick::accept,
+    table: quick::table,
+    plain_run: quick::plain_run,
+    start: quick::start,
+    step: quick::step,
+    run: quick::run,
+    ready: quick::ready,
+    window: quick::window,
+    result: quick::result,
+};
+
+pub static SIDES: [&Side; 2] = [&LIBRARY, &QUICK];
