@@ -24,7 +24,7 @@ use Rattle.geometry.specs.Instances.{progression-at}
 use Rattle.numbering.specs.declared.Loop.{Loop}
 use Rattle.numbering.specs.declared.Turns.{Turns}
 use Rattle.numbering.specs.declared.Course.{Course}
-use Rattle.numbering.specs.Ranges.{Bounded, turns, values, outerOf, middleOf, innerOf}
+use Rattle.numbering.specs.Ranges.{Bounded, turns, values, outerOf, middleOf, innerOf, instance-small}
 use Rattle.numbering.specs.Turns.{Turned, Turning, turnsOf, turning, turned, pointAfter, instance-is, instances-length}
 
 -- the values at which a loop begins and ends
@@ -215,9 +215,17 @@ module _ {n : Nest} (h : Bounded n) where
               (λ e. at-end (middleOf n) (h .directed .middle) (h .middle) Is (u .middle) _ _ (s .middle) (outer e) (middle e)) inner
 
   -- so instance k
-  pub after-is : (k : ℕ) → k < length (instances n) → after (courseOf n) k ≡ getD (instances n) k zero3
+  after-is : (k : ℕ) → k < length (instances n) → after (courseOf n) k ≡ getD (instances n) k zero3
   after-is zero l = after-zero (courseOf n) ∙ sym course-first
   after-is (suc k) l =
       let e : k + 1 ≡ suc k = add-one k in
       ap (after (courseOf n)) (sym e) ∙ after-next (courseOf n) k ∙ ap (nextOf (courseOf n)) (after-is k (omega arith))
       ∙ course-next k (omega arith) ∙ ap (λ (i : ℕ). getD (instances n) i zero3) e
+
+-- the instance that was counted on
+module _ {n : Nest} {w : Course} {x : V3} {k : ℕ} (h : Bounded n) (e : w ≡ courseOf n) (i : x ≡ after w k) (l : k < length (instances n)) where
+  pub reached : x ≡ getD (instances n) k zero3
+  reached = i ∙ ap (λ (w : Course). after w k) e ∙ after-is h k l
+
+  pub reached-small : Within 64 x
+  reached-small = subst (Within 64) (sym reached) (instance-small k h l)

@@ -5,7 +5,7 @@
 //
 //   Ranges      what the range tests leave of a nest and of one loop, and the numbers that then fit
 //   Turns       an instance by how often each loop has turned; `instances-length`, `instance-is`
-//   Course      the instances counted on: `after-is`
+//   Course      the instances counted on: `reached`
 //   Corners     a row is least and greatest at corners of the bounds: `box-corners`
 //   Extents     the bounds of the box around the images: `box-spanning`
 //   Forms       a row number as a form of the instance: `form-number`

@@ -23,7 +23,8 @@ fn elements_refused(n: Nest, s: Stream, walk: &[i32]) -> bool
         return true;
     }
     let mut marks = [false; INSTANCES];
-    untouched::untouched(map, e, walk, instances, elements, &mut marks)
+    let form = numbering::form_of(map, e);
+    untouched::untouched(form, walk, instances, elements, &mut marks)
 }
 
 // The first of the refusals 15 to 17 that applies, 0 if none does.

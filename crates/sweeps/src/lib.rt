@@ -26,9 +26,12 @@ pub fn fill_steps(n: Nest, out: &mut [i32])
 {
     let count = numbering::instance_count(n);
     let step = n.step;
+    let course = numbering::course_of(n);
+    let mut x = course.first;
     let mut k: u32 = 0;
     while k < count {
-        out[k as usize] = vectors::dot_of(step, numbering::instance(n, k));
+        out[k as usize] = vectors::dot_of(step, x);
+        x = numbering::next(course, x);
         k += 1;
     }
 }

@@ -7,10 +7,10 @@ use native.Mathlib.Omega.{arith}
 use lib.Dec.{T, T-not, not-T}
 use lib.ListN.{length, getD}
 use lib.IntN.{ℤ}
+use Rattle.integers.specs.Differences.{up}
 use Rattle.integers.specs.Vectors.{zero2, zero3, image}
 use Rattle.integers.specs.declared.V3.{V3}
 use Rattle.integers.specs.declared.V2.{V2}
-use Rattle.integers.specs.declared.Matrix.{Matrix}
 use Rattle.meaning.specs.declared.Nest.{Nest}
 use Rattle.meaning.specs.declared.Stream.{Stream}
 use Rattle.meaning.specs.Loops.{instances}
@@ -28,29 +28,28 @@ use Rattle.geometry.specs.RowOrder.{row-at, row-lt, row-number}
 use Rattle.geometry.specs.Processes.{Layout}
 use Rattle.geometry.specs.Accept.{touch, touched-few}
 use Rattle.geometry.specs.Walk.{walk-length, any-on-walk}
-use Rattle.vectors.specs.Within.{Within, Rows}
+use Rattle.vectors.specs.Within.{Rows}
 use Rattle.numbering.specs.Ranges.{Bounded, point-small}
-use Rattle.numbering.specs.Extents.{Spanning, box-spanning}
+use Rattle.numbering.specs.declared.Form.{Form}
+use Rattle.numbering.specs.Extents.{box-spanning}
+use Rattle.numbering.specs.Forms.{Numbers, formOf, formAt, form-number, form-small}
 use Rattle.walk.specs.Words.{vectorAt}
 use Rattle.walk.specs.Walked.{Walked, Along, is-instance}
 use Rattle.untouched.specs.Touched.{Touch, Misses, Misses.untouched, Misses.all-touched}
 
--- the number in a box of what a matrix sends instance i of the words to
-abbrev pub numberOn : Matrix → Box → List ℤ → ℕ → ℕ
-numberOn m k w i = rowIndex k (image m (vectorAt w i))
+-- the number that a form gives instance i of the words
+abbrev pub numberOn : Form → List ℤ → ℕ → ℕ
+numberOn f w i = up (formAt f (vectorAt w i))
 
 -- what that number is found by
-pub record Numberable (m : Matrix) (k : Box) (w : List ℤ) (i : ℕ) : Type 0 where
-  pub rows : Rows 4 m
-  pub box : Spanning k
+pub record Numberable (f : Form) (w : List ℤ) (i : ℕ) : Type 0 where
   pub words : 3 * i + 2 < length w
-  pub small : Within 64 (vectorAt w i)
-  pub inside : Inside k (image m (vectorAt w i))
+  pub numbers : Numbers f (vectorAt w i)
 
 -- what the search is lent: the words of a walk, and a mark, not set yet, for each point of the box
-pub record Searching (m : Matrix) (k : Box) (w : List ℤ) (many points : ℕ) (marks : List Bool) : Type 0 where
-  pub each : (i : ℕ) → i < many → Numberable m k w i
-  pub below : (i : ℕ) → i < many → numberOn m k w i < points
+pub record Searching (f : Form) (w : List ℤ) (many points : ℕ) (marks : List Bool) : Type 0 where
+  pub each : (i : ℕ) → i < many → Numberable f w i
+  pub below : (i : ℕ) → i < many → numberOn f w i < points
   pub few : points ≤ length marks
   pub clear : (e : ℕ) → e < points → getD marks e false ≡ false
 
@@ -59,25 +58,27 @@ module _ {n : Nest} (bounded : Bounded n) (layout : Layout n) (s : Stream) {w : 
   box = boxOf n (s .map)
 
   abbrev number : ℕ → ℕ
-  number = numberOn (s .map) box w
+  number = numberOn (formOf (s .map) box) w
 
   inside : (i : ℕ) → i < length (instances n) → Inside box (image (s .map) (vectorAt w i))
   inside i h = box-has (layout .dirs) (s .map) (is-instance layout walked i h)
 
+  number-is : (i : ℕ) → i < length (instances n) → number i ≡ rowIndex box (image (s .map) (vectorAt w i))
+  number-is i h = sym (form-number (s .map) box (vectorAt w i) (inside i h))
+
   pub searching : {marks : List Bool} → Rows 4 (s .map) → 3 * length (instances n) ≤ length w → length (elements n s) ≤ length marks
       → ((e : ℕ) → e < length (elements n s) → getD marks e false ≡ false)
-      → Searching (s .map) box w (length (instances n)) (length (elements n s)) marks
+      → Searching (formOf (s .map) box) w (length (instances n)) (length (elements n s)) marks
   searching rows words few clear =
       record {
         each = λ i h.
             record {
-              rows = rows;
-              box = box-spanning bounded rows;
               words = omega (arith, words);
-              small = point-small bounded (is-instance layout walked i h);
-              inside = inside i h;
+              numbers =
+                  form-small rows (box-spanning bounded rows) (point-small bounded (is-instance layout walked i h)) (inside i h);
             };
-        below = λ i h. row-lt box (image (s .map) (vectorAt w i)) (inside i h);
+        below = λ i h.
+            subst (λ (r : ℕ). r < length (elements n s)) (sym (number-is i h)) (row-lt box (image (s .map) (vectorAt w i)) (inside i h));
         few = few;
         clear = clear;
       }
@@ -91,11 +92,13 @@ module _ {n : Nest} (bounded : Bounded n) (layout : Layout n) (s : Stream) {w : 
   comes-to e h t =
       let x = any-yes (λ v. touches s v (element e)) (walk n) (subst T (sym (any-on-walk layout (λ v. touches s v (element e)))) t) in
       let p = found zero3 (x .mem) in
+      let l : p .at < length (instances n) = omega (arith, p .lt, walk-length layout) in
       record {
         by = p .at;
-        lt = omega (arith, p .lt, walk-length layout);
+        lt = l;
         is =
-            ap (λ (v : V3). rowIndex box (image (s .map) v)) (walked .at (p .at) (p .lt) ∙ p .is)
+            number-is (p .at) l
+            ∙ ap (λ (v : V3). rowIndex box (image (s .map) v)) (walked .at (p .at) (p .lt) ∙ p .is)
             ∙ ap (rowIndex box) (eq2-eq (image (s .map) (x .it)) (element e) (x .ok)) ∙ row-number box e zero2 h;
       }
 
@@ -104,7 +107,7 @@ module _ {n : Nest} (bounded : Bounded n) (layout : Layout n) (s : Stream) {w : 
   touched-by p h t =
       let x = vectorAt w (t .by) in
       let q : image (s .map) x ≡ p =
-      sym (row-at box (image (s .map) x) zero2 (inside (t .by) (t .lt))) ∙ ap (λ (i : ℕ). getD (points box) i zero2) (t .is)
+      sym (row-at box (image (s .map) x) zero2 (inside (t .by) (t .lt))) ∙ ap (λ (i : ℕ). getD (points box) i zero2) (sym (number-is (t .by) (t .lt)) ∙ t .is)
       ∙ row-at box p zero2 h in
       yes-any (λ v. touches s v p) (within-in (layout .dirs) (is-instance layout walked (t .by) (t .lt))) (eq-eq2 (image (s .map) x) p q)
 
@@ -140,20 +143,23 @@ module _ {n : Nest} {s : Stream} {k : Box} {many size : ℕ} (z : BoxSized n s k
   pub size-is : size ≡ length (elements n s)
   size-is = z .sized ∙ ap (λ (b : Box). length (points b)) (z .box)
 
-  module _ (bounded : Bounded n) {w : List ℤ} (along : Along n w) where
+  module _ {f : Form} (form : f ≡ formOf (s .map) k) (bounded : Bounded n) {w : List ℤ} (along : Along n w) where
+    form-is : f ≡ formOf (s .map) (boxOf n (s .map))
+    form-is = form ∙ ap (formOf (s .map)) (z .box)
+
     pub searching-by : {marks : List Bool} → Rows 4 (s .map) → size ≤ length marks → ((e : ℕ) → e < size → getD marks e false ≡ false)
-        → Searching (s .map) k w many size marks
+        → Searching f w many size marks
     searching-by {marks} rows few clear =
-        subst (λ (b : Box). Searching (s .map) b w many size marks) (sym (z .box))
-        (subst₂ (λ (c e : ℕ). Searching (s .map) (boxOf n (s .map)) w c e marks) (sym (z .counted)) (sym size-is)
+        subst (λ (f : Form). Searching f w many size marks) (sym form-is)
+        (subst₂ (λ (c e : ℕ). Searching (formOf (s .map) (boxOf n (s .map))) w c e marks) (sym (z .counted)) (sym size-is)
         (searching bounded (along .layout) s (along .walked) rows (omega (arith, along .few, along .room)) (omega (arith, size-is))
         (λ e h. clear e (omega (arith, size-is)))))
 
-    pub refusal-by : {r : Bool} → Misses (numberOn (s .map) k w) many size r → r ≡ refused17 n s
+    pub refusal-by : {r : Bool} → Misses (numberOn f w) many size r → r ≡ refused17 n s
     refusal-by {r} m =
         refusal-is bounded (along .layout) s (along .walked)
-        (subst₂ (λ (c e : ℕ). Misses (numberOn (s .map) (boxOf n (s .map)) w) c e r) (z .counted) size-is
-        (subst (λ (b : Box). Misses (numberOn (s .map) b w) many size r) (z .box) m))
+        (subst₂ (λ (c e : ℕ). Misses (numberOn (formOf (s .map) (boxOf n (s .map))) w) c e r) (z .counted) size-is
+        (subst (λ (f : Form). Misses (numberOn f w) many size r) form-is m))
 
 -- with more elements than instances some are untouched
 pub too-many : {n : Nest} (s : Stream) → Directed n → length (instances n) < length (elements n s) → true ≡ refused17 n s

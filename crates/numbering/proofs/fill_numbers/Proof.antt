@@ -8,13 +8,9 @@ use Rattle.integers.specs.Differences.{up}
 use Rattle.integers.specs.Fill.{fillBy, fill-zero, fill-step, fill-done, fill-same}
 use Rattle.integers.specs.Vectors.{zero3, image}
 use Rattle.integers.specs.declared.V3.{V3}
-use Rattle.meaning.specs.declared.Nest.{Nest}
 use Rattle.meaning.specs.Loops.{instances}
 use Rattle.meaning.specs.Space.{rowIndex, boxOf}
-use Rattle.vectors.specs.Within.{Within}
-use Rattle.numbering.specs.declared.Course.{Course}
-use Rattle.numbering.specs.Ranges.{Bounded, instance-small}
-use Rattle.numbering.specs.Course.{courseOf, nextOf, after, after-zero, after-next, after-is}
+use Rattle.numbering.specs.Course.{nextOf, after, after-zero, after-next, reached, reached-small}
 use Rattle.numbering.specs.Extents.{Spanning, box-spanning}
 use Rattle.numbering.specs.Forms.{formAt, form-ready, form-is}
 use Rattle.numbering.specs.Numbers.{filled}
@@ -27,14 +23,6 @@ Inv-loop out₀ count form course x₀ k₀ out x k =
 
 abbrev μ-loop : tie.MeasureT-loop
 μ-loop out₀ count form course x₀ k₀ out x k = count - k
-
--- the instance that was counted on
-module _ {n : Nest} {w : Course} {x : V3} {k : ℕ} (h : Bounded n) (e : w ≡ courseOf n) (i : x ≡ after w k) (l : k < length (instances n)) where
-  reached : x ≡ getD (instances n) k zero3
-  reached = i ∙ ap (λ (w : Course). after w k) e ∙ after-is h k l
-
-  small : Within 64 x
-  small = subst (Within 64) (sym reached) (instance-small k h l)
 
 instance-count-requires : tie.Need-instance-count-requires Inv-loop μ-loop
 instance-count-requires c κs = search needs
@@ -66,7 +54,7 @@ slice-write-out c = search needs
 
 next-requires : tie.Need-next-requires Inv-loop μ-loop
 next-requires c κs =
-    let w = c .before .before .before .before .course-of .ensures in (w .1, small (c .before .before .before .before .before .before .before .before .pre .bounded) (w .0) (c .before .before .loop .inv .3) (omega arith))
+    let w = c .before .before .before .before .course-of .ensures in (w .1, reached-small (c .before .before .before .before .before .before .before .before .pre .bounded) (w .0) (c .before .before .loop .inv .3) (omega arith))
 
 add-k : tie.Need-add-k Inv-loop μ-loop
 add-k c = search needs

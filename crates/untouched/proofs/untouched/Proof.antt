@@ -5,7 +5,6 @@ use Prim.Native.Nat.{ℕ, _+_, _-_, _≤_, _<_}
 use native.Mathlib.Omega.{arith}
 use lib.ListN.{length, set, length-set}
 use borrow.Author.Needs.{needs}
-use Rattle.numbering.specs.Extents.{boxed}
 use Rattle.untouched.specs.Touched.{Touch, Misses, Misses.all-touched, Marked, touch-more, none-marked}
 use Rattle.untouched.specs.Touched.{marked-on, not-marked, touched-on}
 use Rattle.untouched.specs.Search.{numberOn}
@@ -13,19 +12,19 @@ use Rattle.untouched.proofs.untouched.Statement.{statement}
 use Rattle.untouched.proofs.untouched.Tie as tie
 
 abbrev Inv-loop : tie.InvT-loop
-Inv-loop m e walk instances elements marks₀ found₀ k₀ q marks found k =
-    (found ≡ false) × (k ≤ instances) × (length marks ≡ length marks₀) × (Marked (numberOn m (boxed e) walk) k elements marks)
+Inv-loop f walk instances elements marks₀ found₀ k₀ q marks found k =
+    (found ≡ false) × (k ≤ instances) × (length marks ≡ length marks₀) × (Marked (numberOn f walk) k elements marks)
 
 abbrev μ-loop : tie.MeasureT-loop
-μ-loop m e walk instances elements marks₀ found₀ k₀ q marks found k = instances - k
+μ-loop f walk instances elements marks₀ found₀ k₀ q marks found k = instances - k
 
 abbrev Inv-elements : tie.InvT-elements
-Inv-elements m e walk instances elements marks₀ found₀ k₀ q₀ marks found k q =
-    (found ≡ false) × (k ≤ instances) × (length marks ≡ length marks₀) × (Marked (numberOn m (boxed e) walk) k elements marks)
-    × (q ≤ elements) × ((i : ℕ) → i < q → Touch (numberOn m (boxed e) walk) instances i)
+Inv-elements f walk instances elements marks₀ found₀ k₀ q₀ marks found k q =
+    (found ≡ false) × (k ≤ instances) × (length marks ≡ length marks₀) × (Marked (numberOn f walk) k elements marks)
+    × (q ≤ elements) × ((i : ℕ) → i < q → Touch (numberOn f walk) instances i)
 
 abbrev μ-elements : tie.MeasureT-elements
-μ-elements m e walk instances elements marks₀ found₀ k₀ q₀ marks found k q = elements - q
+μ-elements f walk instances elements marks₀ found₀ k₀ q₀ marks found k q = elements - q
 
 elements-holds : tie.Need-elements-holds Inv-loop μ-loop Inv-elements μ-elements
 elements-holds c =
@@ -64,7 +63,7 @@ loop-again c =
     let e = c .before .before .before .before .before .before .elements in
     let s = c .before .before .before .before .before .before .before .before in
     let a = s .args in
-    let f = numberOn (a .m) (boxed (a .e)) (a .walk .now) in
+    let f = numberOn (a .f) (a .walk .now) in
     let b = s .pre .below (l .k) (omega (arith, l .inv .1, c .before .if2 .left)) in (
       l .inv .0,
       omega (arith, l .inv .1, c .before .if2 .left),
@@ -85,7 +84,7 @@ elements-again c =
     let v = c .before .before .before .before .elements .inv in
     let s = c .before .before .before .before .before .before in
     let a = s .args in
-    let f = numberOn (a .m) (boxed (a .e)) (a .walk .now) in
+    let f = numberOn (a .f) (a .walk .now) in
     let q = c .before .before .before .before .elements .q in
     let h : q < a .elements = omega arith in (
       l .inv .0,
@@ -103,7 +102,7 @@ returns : tie.Need-returns Inv-loop μ-loop Inv-elements μ-elements
 returns c =
     let e = c .before .elements in
     let a = c .before .before .before .args in
-    let f = numberOn (a .m) (boxed (a .e)) (a .walk .now) in
+    let f = numberOn (a .f) (a .walk .now) in
     subst (Misses f (a .instances) (a .elements)) (sym (e .inv .0)) (all-touched (λ i h. e .inv .5 i (omega arith)))
 
 same-length-2 : tie.Need-same-length-2 Inv-loop μ-loop Inv-elements μ-elements
@@ -114,7 +113,7 @@ returns-2 c =
     let l = c .before .before .before .loop in
     let q = c .before .before .before .before .before .elements .q in
     let a = c .before .before .before .before .before .before .before .args in
-    let f = numberOn (a .m) (boxed (a .e)) (a .walk .now) in
+    let f = numberOn (a .f) (a .walk .now) in
     let h : q < a .elements = omega arith in
     not-marked f (subst (λ (k : ℕ). Marked f k (a .elements) (l .marks)) (c .if2 .taken) (l .inv .3)) h (c .before .if1 .left)
 
