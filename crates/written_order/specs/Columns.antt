@@ -1,5 +1,5 @@
 -- A list in rows of six, one column of it set by a function, as a loop that stores leaves it. Assumes nothing.
-use mathlib.Core.Path.{_≡_, refl, _∙_, ap}
+use mathlib.Core.Path.{_≡_, refl, _∙_, ap, ap₂}
 use mathlib.Core.Logic.{_⊎_, inl, inr}
 use mathlib.Core.List.{List}
 use Prim.Native.Nat.{ℕ, zero, suc, _+_, _*_, _≤_, _<_}
@@ -47,3 +47,10 @@ module _ (i : ℕ) (f : ℕ → ℕ) where
       go (inl e) ih = rw e (getD-set-same (column n xs) (6 * n + i) (f n) 0 (omega (arith, column-length n xs)))
       go (inr m) ih =
           getD-set-other (column n xs) (6 * n + i) (6 * k + i) (f n) 0 (λ (e : 6 * k + i ≡ 6 * n + i). omega arith) ∙ ih m l (omega arith)
+
+-- functions that agree on the rows set the same column
+pub column-same : (i : ℕ) (f g : ℕ → ℕ) (n : ℕ) (xs : List ℕ) → ((k : ℕ) → k < n → f k ≡ g k) → column i f n xs ≡ column i g n xs
+unfolding column
+column-same i f g zero xs h = refl
+column-same i f g (suc n) xs h =
+    ap₂ (λ (l : List ℕ) (v : ℕ). set l (6 * n + i) v) (column-same i f g n xs (λ k l. h k (omega arith))) (h n (omega arith))

@@ -15,6 +15,7 @@ ghost use Rattle.meaning.specs.Calls.{lengthOf};
 ghost use Rattle.written_order.specs.Columns.{column};
 ghost use Rattle.written_order.specs.Places.{Fitting, Filling, Table, numberFrom, place, columns};
 use integers::Matrix;
+use integers::V3;
 use meaning::Description;
 use meaning::ELEMENTS;
 use meaning::Nest;
@@ -28,9 +29,13 @@ fn fill_column(n: Nest, m: Matrix, e: Extent, start: u32, i: u32, table: &mut [u
     ensures { λ r. ⌜ now (table .exit) ≡ column i (numberFrom n m start) (length (instances n)) (now (table .entry)) ⌝ }
 {
     let count = numbering::instance_count(n);
+    let form = numbering::form_of(m, e);
+    let course = numbering::course_of(n);
+    let mut x = course.first;
     let mut k: u32 = 0;
     while k < count {
-        table[(6 * k + i) as usize] = start + numbering::number_of(n, m, e, k);
+        table[(6 * k + i) as usize] = start + numbering::number_by(form, x);
+        x = numbering::next(course, x);
         k += 1;
     }
 }
@@ -63,23 +68,17 @@ fn fill_table(d: Description, table: &mut [u32; ELEMENTS])
 
 // ---- the run
 
-// Instance k.
-fn run_instance(d: Description, k: u32, table: &[u32], store: &mut [u32])
-    requires { ⌜ (Fitting d) × (Table d (now table)) × (k < length (instances (d .nest))) × (length (now store) ≡ lengthOf d) ⌝ }
+// Instance k, which is x.
+fn run_instance(d: Description, k: u32, x: V3, table: &[u32], store: &mut [u32])
+    requires { ⌜ (Fitting d) × (Table d (now table)) × (k < length (instances (d .nest))) × (length (now store) ≡ lengthOf d)
+        × (x ≡ getD (instances (d .nest)) k zero3) ⌝ }
     ensures { λ r. ⌜ now (store .exit) ≡ execute d (getD (instances (d .nest)) k zero3) (now (store .entry)) ⌝ }
 {
-    let n = d.nest;
     let lines = d.lines;
     let count = d.sizes.lines;
     let from = 6 * k as usize;
     let to = from + d.sizes.streams as usize;
-    body::execute(
-        numbering::instance(n, k),
-        lines,
-        count,
-        store,
-        &table[from..to],
-    );
+    body::execute(x, lines, count, store, &table[from..to]);
 }
 
 // All instances in the written order.
@@ -89,9 +88,12 @@ fn run_instances(d: Description, table: &[u32], store: &mut [u32])
 {
     let n = d.nest;
     let last = numbering::instance_count(n) - 1;
+    let course = numbering::course_of(n);
+    let mut x = course.first;
     let mut k: u32 = 0;
     while k <= last {
-        run_instance(d, k, table, store);
+        run_instance(d, k, x, table, store);
+        x = numbering::next(course, x);
         k += 1;
     }
 }

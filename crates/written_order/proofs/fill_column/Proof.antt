@@ -1,33 +1,54 @@
 -- `written_order::fill_column` meets its contract: the first k entries of the column are set. Assumes nothing.
-use mathlib.Core.Path.{_≡_, sym, _∙_, ap}
-use Prim.Native.Nat.{ℕ, _≤_, _-_}
+use mathlib.Core.Path.{_≡_, refl, sym, _∙_, ap, subst}
+use Prim.Native.Nat.{ℕ, _+_, _≤_, _-_}
 use native.Mathlib.Omega.{arith}
 use lib.ListN.{length}
 use borrow.Author.Needs.{needs}
+use Rattle.integers.specs.Differences.{up}
+use Rattle.integers.specs.declared.V3.{V3}
 use Rattle.meaning.specs.Loops.{instances}
-use Rattle.written_order.specs.Columns.{column, column-zero, column-step}
+use Rattle.geometry.specs.RowOrder.{row-lt}
+use Rattle.numbering.specs.Course.{nextOf, after, after-zero, after-next, reached, reached-small}
+use Rattle.numbering.specs.Extents.{Spanning, Numbered, box-spanning, image-inside}
+use Rattle.numbering.specs.Forms.{formAt, form-ready, form-is}
+use Rattle.written_order.specs.Columns.{column, column-zero, column-step, column-same}
 use Rattle.written_order.specs.Places.{numberFrom}
 use Rattle.written_order.proofs.fill_column.Statement.{statement}
 use Rattle.written_order.proofs.fill_column.Tie as tie
 
 abbrev Inv-loop : tie.InvT-loop
-Inv-loop n m e start i table₀ count k₀ table k = (k ≤ length (instances n)) × (table ≡ column i (numberFrom n m start) k table₀)
+Inv-loop start i table₀ count form course x₀ k₀ table x k =
+    (k ≤ count) × (table ≡ column i (λ k. start + up (formAt form (after course k))) k table₀) × (x ≡ after course k)
 
 abbrev μ-loop : tie.MeasureT-loop
-μ-loop n m e start i table₀ count k₀ table k = length (instances n) - k
+μ-loop start i table₀ count form course x₀ k₀ table x k = count - k
 
 instance-count-requires : tie.Need-instance-count-requires Inv-loop μ-loop
 instance-count-requires c κs = search needs
 
-loop-holds : tie.Need-loop-holds Inv-loop μ-loop
-loop-holds c = (omega arith, sym (column-zero _ _ _))
+form-of-requires : tie.Need-form-of-requires Inv-loop μ-loop
+form-of-requires c κs = let p = c .before .pre in (p .rows, subst Spanning (sym (p .box)) (box-spanning (p .bounded) (p .rows)))
 
-number-of-requires : tie.Need-number-of-requires Inv-loop μ-loop
-number-of-requires c κs =
-    let p = c .before .before .before .pre in (record { bounded = p .bounded; rows = p .rows; lt = omega arith }, p .box)
+course-of-requires : tie.Need-course-of-requires Inv-loop μ-loop
+course-of-requires c κs = search needs
+
+loop-holds : tie.Need-loop-holds Inv-loop μ-loop
+loop-holds c = (omega arith, sym (column-zero _ _ _), sym (after-zero _))
+
+number-by-requires : tie.Need-number-by-requires Inv-loop μ-loop
+number-by-requires c κs =
+    let p = c .before .before .before .before .before .before .pre in
+    form-ready (record { bounded = p .bounded; rows = p .rows; lt = omega arith }) (p .box) (c .before .before .before .before .form-of .ensures)
+    (reached (p .bounded) (c .before .before .before .course-of .ensures .0) (c .before .loop .inv .2) (omega arith))
 
 add-table : tie.Need-add-table Inv-loop μ-loop
-add-table c = search needs
+add-table c =
+    let p = c .before .before .before .before .before .before .before .pre in
+    let l = c .before .before .loop in
+    let h : Numbered (c .before .before .before .before .before .before .before .args .n) (c .before .before .before .before .before .before .before .args .m) (l .k) = record { bounded = p .bounded; rows = p .rows; lt = omega arith } in
+    let e = form-is h (p .box) (c .before .before .before .before .before .form-of .ensures)
+    (reached (p .bounded) (c .before .before .before .before .course-of .ensures .0) (l .inv .2) (omega arith)) (c .number-by .ensures) in
+    record { fits = omega (arith, e, row-lt _ _ (image-inside h), p .fits) }
 
 mul-table : tie.Need-mul-table Inv-loop μ-loop
 mul-table c = search needs
@@ -44,6 +65,11 @@ mul-table-2 c = search needs
 element-write-table : tie.Need-element-write-table Inv-loop μ-loop
 element-write-table c = search needs
 
+next-requires : tie.Need-next-requires Inv-loop μ-loop
+next-requires c κs =
+    let w = c .before .before .before .before .course-of .ensures in
+    (w .1, reached-small (c .before .before .before .before .before .before .before .pre .bounded) (w .0) (c .before .before .loop .inv .2) (omega arith))
+
 add-k : tie.Need-add-k Inv-loop μ-loop
 add-k c = search needs
 
@@ -51,14 +77,29 @@ loop-less : tie.Need-loop-less Inv-loop μ-loop
 loop-less c = search needs
 
 loop-again : tie.Need-loop-again Inv-loop μ-loop
-loop-again c = (omega arith, rw (column-step, c .number-of .ensures .0, c .before .before .loop .inv .1))
+loop-again c =
+    let l = c .before .before .before .loop in
+    let f = c .before .before .before .before .before .before .form-of .result in
+    let w = c .before .before .before .before .before .course-of .result in (
+      omega arith,
+      rw (column-step, c .before .number-by .ensures ∙ ap (λ (x : V3). up (formAt f x)) (l .inv .2), l .inv .1),
+      c .next .ensures ∙ ap (nextOf w) (l .inv .2) ∙ sym (after-next w (l .k)),
+    )
 
 returns : tie.Need-returns Inv-loop μ-loop
 returns c =
-    let b = c .before in
-    let a = b .before .before .args in
-    let e : b .loop .k ≡ length (instances (a .n)) = omega arith in
-    b .loop .inv .1 ∙ ap (λ (k : ℕ). column (a .i) (numberFrom (a .n) (a .m) (a .start)) k (a .table .now)) e
+    let l = c .before .loop in
+    let s = c .before .before .before .before .before .before in
+    let a = s .args in
+    let p = s .pre in
+    let e : l .k ≡ length (instances (a .n)) = omega (arith, l .inv .0, c .before .before .before .before .before .instance-count .ensures .0) in
+    let f : (ℕ → ℕ) = λ k. a .start + up (formAt (c .before .before .before .before .form-of .result) (after (c .before .before .before .course-of .result) k)) in
+    l .inv .1 ∙ ap (λ (k : ℕ). column (a .i) f k (a .table .now)) e
+    ∙ column-same (a .i) f (numberFrom (a .n) (a .m) (a .start)) (length (instances (a .n))) (a .table .now)
+    (λ k l.
+    ap (λ (r : ℕ). a .start + r)
+    (form-is (record { bounded = p .bounded; rows = p .rows; lt = l }) (p .box) (c .before .before .before .before .form-of .ensures)
+    (reached (p .bounded) (c .before .before .before .course-of .ensures .0) refl l) refl))
 
 pub fill-column-spec : {M : Type 1} → statement M
 fill-column-spec =
@@ -67,14 +108,17 @@ fill-column-spec =
     Inv-loop
     μ-loop
     instance-count-requires
+    form-of-requires
+    course-of-requires
     loop-holds
-    number-of-requires
+    number-by-requires
     add-table
     mul-table
     add-table-2
     cast-table
     mul-table-2
     element-write-table
+    next-requires
     add-k
     loop-less
     loop-again

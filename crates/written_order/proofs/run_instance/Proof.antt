@@ -3,7 +3,6 @@
 use mathlib.Core.Path.{_≡_, sym, subst₂}
 use lib.ListN.{length, length-map}
 use borrow.Author.Needs.{needs}
-use Rattle.stream_lines.specs.InRange.{nest-bounded}
 use Rattle.body.specs.Fit.{Runnable}
 use Rattle.written_order.specs.Places.{lent, runnable}
 use Rattle.written_order.specs.Run.{executed}
@@ -19,9 +18,6 @@ cast-to c = search needs
 add-to : tie.Need-add-to
 add-to c = search needs
 
-instance-requires : tie.Need-instance-requires
-instance-requires c κs = let p = c .before .before .before .before .before .pre in (nest-bounded (p .0 .few .ranged .nest), p .2)
-
 mul-execute : tie.Need-mul-execute
 mul-execute c = search needs
 
@@ -36,7 +32,7 @@ part-execute-end c = search needs
 
 execute-requires : tie.Need-execute-requires
 execute-requires c κs =
-    let a = c .before .before .before .before .before .before .before .before in
+    let a = c .before .before .before .before .before .before in
     let d = a .args .d in
     let p = a .pre in
     let six : length (d .streams) ≡ 6 = rw length-map at (a .good .0 .1 .1 .1 .1 .0 .1 .0 .1) in
@@ -48,9 +44,9 @@ same-length c = search needs
 
 returns : tie.Need-returns
 returns c =
-    let a = c .before .before .before .before .before .before .before .before .before .before .before in
-    executed (a .args .d) (a .args .k) (a .args .table .now) (a .args .store .now) (a .pre .1) (a .pre .2)
-    (c .before .before .before .before .before .instance .ensures .0) (c .before .before .execute .ensures)
+    let a = c .before .before .before .before .before .before .before .before .before in
+    executed (a .args .d) (a .args .k) (a .args .table .now) (a .args .store .now) (a .pre .1) (a .pre .2) (a .pre .4)
+    (c .before .before .execute .ensures)
 
 pub run-instance-spec : {M : Type 1} → statement M
 run-instance-spec =
@@ -59,7 +55,6 @@ run-instance-spec =
     mul-from
     cast-to
     add-to
-    instance-requires
     mul-execute
     sub-execute
     part-execute-start
