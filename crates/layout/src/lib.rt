@@ -8,7 +8,7 @@
 //   Parts     what stands where a part of a list was replaced
 //   Spans     what the words say of the processes: `Spans`
 ghost use mathlib.Core.Path.{_≡_};
-ghost use Prim.Native.Nat.{_≤_, _<_};
+ghost use Prim.Native.Nat.{_≤_, _<_, _/_};
 ghost use lib.ListN.{length, getD};
 ghost use Rattle.meaning.specs.Limits.{gaugeLimits};
 ghost use Rattle.integers.specs.Vectors.{zero2};
@@ -68,6 +68,14 @@ fn second_ray(e: Extent, d: V2, p: V2) -> Ray
     }
 }
 
+// How often so far a way has so many steps in it; most often each is of one, and then there is nothing to divide.
+fn steps_in(way: u32, steps: u32) -> u32
+    requires { ⌜ 0 < steps ⌝ }
+    ensures { λ r. ⌜ r ≡ way / steps ⌝ }
+{
+    if steps == 1 { way } else { way / steps }
+}
+
 // How often one coordinate allows to go on; 4,096 where it does not change, more than any box is wide.
 fn room(r: Ray) -> u32
     requires { ⌜ Along r ⌝ }
@@ -78,9 +86,9 @@ fn room(r: Ray) -> u32
     }
     let steps = integers::magnitude(r.by);
     if r.by < 0 {
-        numbering::distance(r.lo, r.at) / steps
+        steps_in(numbering::distance(r.lo, r.at), steps)
     } else {
-        numbering::distance(r.at, r.hi) / steps
+        steps_in(numbering::distance(r.at, r.hi), steps)
     }
 }
 

@@ -21,8 +21,8 @@ magnitude-requires c κs = search needs
 distance-requires : tie.Need-distance-requires
 distance-requires c κs = apart-words (c .before .before .before .before .before .before .before .before .before .before .pre .low)
 
-div-result : tie.Need-div-result
-div-result c =
+steps-in-requires : tie.Need-steps-in-requires
+steps-in-requires c κs =
     let m = c .before .before .before .before .before .before in
     let i = m .before .before in
     let s = i .before .before .before in
@@ -35,8 +35,8 @@ div-result c =
 distance-requires-2 : tie.Need-distance-requires-2
 distance-requires-2 c κs = apart-words (c .before .before .before .before .before .before .before .before .before .before .pre .high)
 
-div-result-2 : tie.Need-div-result-2
-div-result-2 c =
+steps-in-requires-2 : tie.Need-steps-in-requires-2
+steps-in-requires-2 c κs =
     let m = c .before .before .before .before .before .before in
     let i = m .before .before in
     let s = i .before .before .before in
@@ -48,19 +48,23 @@ div-result-2 c =
 
 returns-2 : tie.Need-returns-2
 returns-2 c =
-    let m = c .before .before .before .before .before .before in
+    let b = c .before in
+    let m = b .before .before .before .before .before .before in
     let s = m .before .before .before .before .before in
-    ap₂ _/_ (words-up (s .pre .low) (c .distance .ensures .0)) (step-size (s .pre .by) (m .magnitude .ensures))
-    ∙ room-down (s .args .r) (less-of (at tt (s .pre .by) .eq) refl (c .before .before .before .if2 .taken))
+    c .steps-in .ensures
+    ∙ ap₂ _/_ (words-up (s .pre .low) (b .distance .ensures .0)) (step-size (s .pre .by) (m .magnitude .ensures))
+    ∙ room-down (s .args .r) (less-of (at tt (s .pre .by) .eq) refl (b .before .before .before .if2 .taken))
 
 returns-3 : tie.Need-returns-3
 returns-3 c =
-    let m = c .before .before .before .before .before .before in
+    let b = c .before in
+    let m = b .before .before .before .before .before .before in
     let i = m .before .before in
     let s = i .before .before .before in
-    ap₂ _/_ (words-up (s .pre .high) (c .distance2 .ensures .0)) (step-size (s .pre .by) (m .magnitude .ensures))
+    c .steps-in2 .ensures
+    ∙ ap₂ _/_ (words-up (s .pre .high) (b .distance2 .ensures .0)) (step-size (s .pre .by) (m .magnitude .ensures))
     ∙ room-up (s .args .r) (sym (step-test (s .pre .by)) ∙ ne-eqb _ _ (i .if1 .left))
-    (not-less-of (at tt (s .pre .by) .eq) refl (c .before .before .before .if2 .left))
+    (not-less-of (at tt (s .pre .by) .eq) refl (b .before .before .before .if2 .left))
 
 pub room-spec : {M : Type 1} → statement M
 room-spec =
@@ -69,8 +73,8 @@ room-spec =
     returns
     magnitude-requires
     distance-requires
-    div-result
+    steps-in-requires
     distance-requires-2
-    div-result-2
+    steps-in-requires-2
     returns-2
     returns-3)
