@@ -1,9 +1,7 @@
 //! How the library's times grow with the array.
 
-use std::time::Duration;
-
 use crate::arrays::{self, Array};
-use crate::measure::least;
+use crate::measure::{least, shown};
 use crate::sides::LIBRARY;
 use crate::work::{Call, Work};
 
@@ -26,23 +24,19 @@ fn print_family(family: &[Array]) {
         let times = works
             .iter_mut()
             .map(|work| least(work, call, [&LIBRARY])[0]);
-        let times: Vec<Duration> = times.collect();
+        let times: Vec<f64> = times.collect();
         if call == Call::RunAll {
             let pairs = times.iter().zip(&none).zip(&works);
-            let by_step = pairs.map(|((&time, &none), work)| (time - none) / work.steps());
+            let by_step = pairs.map(|((time, none), work)| (time - none) / f64::from(work.steps()));
             print_row("run, a step", by_step.map(shown).collect());
             continue;
         }
         print_row(name, times.iter().copied().map(shown).collect());
         let pairs = times.iter().zip(&works);
-        let by_size = pairs.map(|(time, work)| time.as_secs_f64() * 1e9 / f64::from(work.size()));
+        let by_size = pairs.map(|(time, work)| time * 1e9 / f64::from(work.size()));
         print_row("", by_size.map(|time| format!("{time:.2}")).collect());
         none = times;
     }
-}
-
-fn shown(time: Duration) -> String {
-    format!("{time:.1?}")
 }
 
 fn print_row<T: AsRef<str>>(name: &str, columns: Vec<T>) {

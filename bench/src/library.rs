@@ -230,8 +230,7 @@ pub fn window(
     board: u32,
     bytes: &[u8],
     [pipe, side]: [u32; 2],
-    waiting: &[u32],
-    received: &[u32],
+    [waiting, received]: [&[u32]; 2],
     answer: &mut [u32; 2],
 ) -> u32 {
     // SAFETY: as above.

@@ -24,15 +24,20 @@ fn main() {
     match words[..] {
         [] => all(SEED),
         ["answers"] => answers(SEED),
+        ["answers", seed] => answers(number(seed)),
         ["times"] => times::print(),
         ["growth"] => growth::print(),
         ["stack"] => stack::print(),
         ["instructions"] => instructions::print(),
         [stack::CHILD, array, call, bytes] => stack::child(array, call, bytes),
         [instructions::CHILD, side, array, call] => instructions::child(side, array, call),
-        [word] => all(word.parse().expect("the word is a section or a seed")),
-        _ => panic!("there is one word at most: a section or a seed"),
+        [seed] => all(number(seed)),
+        _ => panic!("the words are a section, a seed, or answers and a seed"),
     }
+}
+
+fn number(seed: &str) -> u64 {
+    seed.parse().expect("the word is a section or a seed")
 }
 
 /// Everything but the instructions.

@@ -170,21 +170,20 @@ impl Lists<'_> {
     }
 
     fn window(&self, words: [u32; 2]) {
-        let [pipe, side_of_pipe] = words;
+        let [pipe, end] = words;
         let [w, r, ..] = self.lengths;
-        let (waiting, received) = (&self.waiting[..w], &self.received[..r]);
+        let lists = [&self.waiting[..w], &self.received[..r]];
         let told = &self.told[self.now];
-        let expected = told.calls.window(waiting, received, pipe, side_of_pipe);
+        let expected = told.calls.window(lists[0], lists[1], pipe, end);
         for side in SIDES {
             let mut answer = [MARK; 2];
-            let (board, description) = (told.board, told.description);
-            let number = (side.window)(board, description, words, waiting, received, &mut answer);
+            let number = (side.window)(told.board, told.description, words, lists, &mut answer);
             assert_eq!(number, number_of(expected), "{}", side.name);
             match expected {
                 // The same words, not only words that are equal.
                 Ok(part) => {
                     let [from, length] = answer.map(|word| word as usize);
-                    let list = if side_of_pipe == 0 { waiting } else { received };
+                    let list = lists[end as usize];
                     assert!(std::ptr::eq(part, &list[from..from + length]));
                 }
                 Err(_) => assert_eq!(answer, [MARK; 2], "{}", side.name),

@@ -11,6 +11,18 @@ pub const ROW_WORDS: usize = 21;
 /// The values that Accept answers: six figures, the divisor of place and those of six streams.
 pub const FIGURES: usize = 13;
 
+/// Waiting, received and state.
+pub type Memory<'a> = [&'a [u32]; 3];
+
+/// Waiting and received.
+pub type Lists<'a> = [&'a [u32]; 2];
+
+/// Waiting, received and state, written.
+pub type Written<'a> = [&'a mut [u32]; 3];
+
+/// Two words that a call answers besides its number.
+pub type Answer = [u32; 2];
+
 /// The nine calls of a program. Each is told a board word and lent a description, and answers 0 or the number by which it declines.
 pub struct Side {
     pub name: &'static str,
@@ -18,18 +30,18 @@ pub struct Side {
     pub table: fn(u32, &[u8], &mut [u32]) -> u32,
     /// Values and output.
     pub plain_run: fn(u32, &[u8], &[u32], &mut [u32]) -> u32,
-    /// Values; waiting, received and state.
-    pub start: fn(u32, &[u8], &[u32], [&mut [u32]; 3]) -> u32,
-    /// Kind, number and stream; the lists.
+    /// Values and the lists.
+    pub start: fn(u32, &[u8], &[u32], Written) -> u32,
+    /// Kind, number and stream, and the lists.
     pub step: fn(u32, &[u8], [u32; 3], Lent) -> u32,
     /// Steps, the lists and the answer.
-    pub run: fn(u32, &[u8], u32, Lent, &mut [u32; 2]) -> u32,
-    /// Ready words; waiting, received and state; the answer.
-    pub ready: fn(u32, &[u8], &mut [u64], [&[u32]; 3], &mut [u32; 2]) -> u32,
-    /// Pipe and side, waiting, received and the answer.
-    pub window: fn(u32, &[u8], [u32; 2], &[u32], &[u32], &mut [u32; 2]) -> u32,
-    /// Output; waiting, received and state.
-    pub result: fn(u32, &[u8], &mut [u32], [&[u32]; 3]) -> u32,
+    pub run: fn(u32, &[u8], u32, Lent, &mut Answer) -> u32,
+    /// Ready words, the lists and the answer.
+    pub ready: fn(u32, &[u8], &mut [u64], Memory, &mut Answer) -> u32,
+    /// Pipe and side, the lists and the answer.
+    pub window: fn(u32, &[u8], [u32; 2], Lists, &mut Answer) -> u32,
+    /// Output and the lists.
+    pub result: fn(u32, &[u8], &mut [u32], Memory) -> u32,
 }
 
 pub static LIBRARY: Side = Side {

@@ -63,6 +63,7 @@ fn ends(array: &str, call: &str, bytes: usize) -> bool {
 pub fn child(array: &str, call: &str, bytes: &str) {
     let array = arrays::named(array).expect("the array has a name");
     let bytes = bytes.parse().expect("the stack is a number");
+    assert!(call == NOTHING || Call::named(call).is_some());
     let call = Call::named(call);
     let mut work = Work::new(&array);
     let thread = thread::Builder::new().stack_size(bytes);

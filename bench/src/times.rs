@@ -7,7 +7,7 @@ use reference::board::{BENCH, GAUGE};
 use reference::calls::{Calls, Row};
 
 use crate::arrays::{self, Array};
-use crate::measure::{least, time};
+use crate::measure::{least, shown, time};
 use crate::sides::{LIBRARY, SIDES};
 use crate::work::{Call, Work};
 
@@ -39,34 +39,30 @@ pub fn print() {
 /// A line for each call; that of a run is by the step, without what a run of no step takes.
 fn print_array(array: &Array, worst: &mut Vec<Worst>) {
     let mut work = Work::new(array);
-    let mut none = [Duration::ZERO; 2];
-    for (call, name) in Call::ALL {
+    let steps = f64::from(work.steps());
+    let mut none = [0.0; 2];
+    for (call, mut name) in Call::ALL {
         let mut times = least(&mut work, call, SIDES);
         let mut slow = reference_time(&mut work, call);
-        let mut name = name;
         match call {
             Call::RunNone => none = times,
             Call::RunAll => {
-                let steps = work.steps();
-                times = [(times[0] - none[0]) / steps, (times[1] - none[1]) / steps];
+                times = [0, 1].map(|side| (times[side] - none[side]) / steps);
                 slow /= steps;
                 name = "run, a step";
             }
             _ => {}
         }
-        let ratio = times[0].as_secs_f64() / times[1].as_secs_f64();
-        print_line(
-            &array.name,
-            name,
-            times,
-            &format!("{ratio:8.2} {slow:>10.1?}"),
-        );
+        let ratio = times[0] / times[1];
+        let others = format!("{ratio:8.2} {:>10}", shown(slow));
+        print_line(&array.name, name, times, &others);
         keep_worst(worst, name, ratio, &array.name);
     }
 }
 
-fn print_line(array: &str, call: &str, [first, second]: [Duration; 2], others: &str) {
-    println!("{array:24} {call:12} {first:>10.1?} {second:>10.1?} {others}");
+fn print_line(array: &str, call: &str, times: [f64; 2], others: &str) {
+    let [first, second] = times.map(shown);
+    println!("{array:24} {call:12} {first:>10} {second:>10} {others}");
 }
 
 fn keep_worst(worst: &mut Vec<Worst>, call: &'static str, ratio: f64, array: &str) {
@@ -94,10 +90,10 @@ fn print_beside_the_gauge(array: &Array) {
 }
 
 /// The least time of the second implementation: of reading the description and of the call.
-fn reference_time(work: &mut Work, call: Call) -> Duration {
-    let mut least = Duration::MAX;
+fn reference_time(work: &mut Work, call: Call) -> f64 {
     let start = Instant::now();
-    while least == Duration::MAX || start.elapsed() < LONG {
+    let mut least = f64::MAX;
+    while least == f64::MAX || start.elapsed() < LONG {
         work.prepare(call);
         least = least.min(time(|| reference_call(work, call)));
     }

@@ -179,8 +179,8 @@ impl Work {
                 (side.start)(board, bytes, &self.values, lists)
             }
             Call::Window => {
-                let received = &self.ended.received;
-                (side.window)(board, bytes, [last, 1], waiting, received, answer)
+                let lists = [waiting, &self.ended.received].map(Vec::as_slice);
+                (side.window)(board, bytes, [last, 1], lists, answer)
             }
             Call::Step => (side.step)(board, bytes, [0, 0, 0], self.stage.lent(waiting)),
             Call::Ready => {

@@ -1,15 +1,22 @@
 //! The nine calls as a plain Rust program that is written for speed, with nothing proved: what the library's times are held against. Every
 //! call answers 0 or the number by which it declines, and then changes no lent word.
 
+#![forbid(unsafe_code)]
+
 mod body;
+mod boxes;
 mod description;
+mod lanes;
 mod nest;
 mod network;
 mod pipes;
 mod plain;
+mod processes;
+mod ready;
 mod ready_set;
 mod rules;
 mod run;
+mod step;
 mod table;
 
 use reference::calls::Lent;
@@ -17,11 +24,7 @@ use reference::calls::Lent;
 use nest::Nest;
 use network::Network;
 use pipes::Array;
-use rules::Port;
 use run::Runner;
-
-/// The words that Ready sets.
-const READY_WORDS: usize = 16;
 
 /// Declines by the number unless the condition holds.
 fn demand(condition: bool, number: u32) -> Result<(), u32> {
@@ -123,59 +126,8 @@ fn try_start(board: u32, bytes: &[u8], values: &[u32], lists: [&mut [u32]; 3]) -
 }
 
 pub fn step(board: u32, bytes: &[u8], words: [u32; 3], lent: Lent) -> u32 {
-    number(try_step(board, bytes, words, lent))
-}
-
-fn try_step(board: u32, bytes: &[u8], words: [u32; 3], lent: Lent) -> Result<(), u32> {
-    let Lent {
-        waiting,
-        received,
-        state,
-    } = lent;
-    let network = open(board, bytes, waiting, received, state)?;
-    let [kind, number, stream] = words.map(|word| word as usize);
-    match kind {
-        0 | 4 => {
-            demand(number < network.array.pipes.len(), 23)?;
-            let end = network.end(number);
-            if kind == 0 {
-                demand(end.can_send(state), 24)?;
-                end.send(waiting, state);
-            } else {
-                demand(end.can_receive(state), 24)?;
-                end.receive(received, state);
-            }
-        }
-        2 => {
-            demand(number < network.array.processes.len(), 23)?;
-            fire(&network, number, state)?;
-        }
-        1 | 3 => {
-            let exists = number < network.array.processes.len() && stream < network.streams();
-            demand(exists, 23)?;
-            let port = network.port_of(number, stream).ok_or(23u32)?;
-            if kind == 1 {
-                demand(port.can_take(state), 24)?;
-                port.take(state);
-            } else {
-                demand(port.can_give(state), 24)?;
-                port.give(state);
-            }
-        }
-        _ => return Err(23),
-    }
-    Ok(())
-}
-
-/// Fires a process; declines by 24.
-fn fire(network: &Network, process: usize, state: &mut [u32]) -> Result<(), u32> {
-    let ports = (0..network.streams()).map(|stream| network.port_of(process, stream));
-    let ports: Vec<Port> = ports.collect::<Option<_>>().ok_or(24u32)?;
-    demand(rules::can_fire(&ports, state), 24)?;
-    let array = &network.array;
-    let instance = array.instance(&array.processes[process], state[network.fired(process)]);
-    rules::fire(&ports, &array.nest.description.body, instance, state);
-    Ok(())
+    let opened = open(board, bytes, lent.waiting, lent.received, lent.state);
+    number(opened.and_then(|network| step::step(&network, words, lent)))
 }
 
 pub fn run(board: u32, bytes: &[u8], steps: u32, lent: Lent, answer: &mut [u32; 2]) -> u32 {
@@ -207,9 +159,9 @@ fn try_ready(
     answer: &mut [u32; 2],
 ) -> Result<(), u32> {
     let network = open(board, bytes, waiting, received, state)?;
-    demand(words.len() >= READY_WORDS, 27)?;
-    let bits = ready_processes(&network, state);
-    words[..READY_WORDS].copy_from_slice(&bits);
+    demand(words.len() >= ready::WORDS, 27)?;
+    let bits = ready::processes(&network, state);
+    words[..ready::WORDS].copy_from_slice(&bits);
     let lowest = bits.iter().position(|&word| word != 0);
     let lowest = lowest.map(|word| 64 * word as u32 + bits[word].trailing_zeros());
     *answer = [
@@ -219,36 +171,14 @@ fn try_ready(
     Ok(())
 }
 
-/// A bit for each process that can take, fire or give.
-fn ready_processes(network: &Network, state: &[u32]) -> [u64; READY_WORDS] {
-    let mut bits = [0; READY_WORDS];
-    let processes = network.array.processes.iter().enumerate();
-    let mut fires: Vec<bool> = processes
-        .map(|(number, process)| state[network.fired(number)] < process.count)
-        .collect();
-    for (number, pipe) in network.array.pipes.iter().enumerate() {
-        network.each_port(number, |place, port| {
-            let process = pipe.lane.at(place);
-            let moves = port.can_take(state) || port.can_give(state);
-            bits[process / 64] |= u64::from(moves) << (process % 64);
-            fires[process] &= port.can_use(state);
-        });
-    }
-    for (process, &fires) in fires.iter().enumerate() {
-        bits[process / 64] |= u64::from(fires) << (process % 64);
-    }
-    bits
-}
-
 pub fn window(
     board: u32,
     bytes: &[u8],
-    [pipe, side]: [u32; 2],
-    waiting: &[u32],
-    received: &[u32],
+    words: [u32; 2],
+    lists: [&[u32]; 2],
     answer: &mut [u32; 2],
 ) -> u32 {
-    match try_window(board, bytes, [pipe, side], waiting, received) {
+    match try_window(board, bytes, words, lists) {
         Ok(part) => {
             *answer = part;
             0
@@ -261,12 +191,11 @@ fn try_window(
     board: u32,
     bytes: &[u8],
     [pipe, side]: [u32; 2],
-    waiting: &[u32],
-    received: &[u32],
+    [waiting, received]: [&[u32]; 2],
 ) -> Result<[u32; 2], u32> {
     let array = Array::of(board, bytes)?;
     check_lists(&array, waiting, received)?;
-    let pipe = array.pipes.get(pipe as usize).ok_or(19u32)?;
+    let pipe = array.pipes.get(pipe as usize).ok_or(19_u32)?;
     demand(side < 2, 19)?;
     Ok([pipe.part as u32, pipe.elements])
 }

@@ -1,87 +1,8 @@
 //! The nest: loops with their layout, and the streams on it. Refusals 6 to 17.
 
+use super::boxes::{dot, times, Extent, Numbering};
+use super::demand;
 use super::description::{Description, Limits, Matrix, Point, Vector};
-
-pub fn dot(a: Vector, b: Vector) -> i32 {
-    a[0] * b[0] + a[1] * b[1] + a[2] * b[2]
-}
-
-fn times(matrix: &Matrix, vector: Vector) -> Point {
-    matrix.map(|row| dot(row, vector))
-}
-
-/// Declines by the number if the condition holds.
-fn decline(condition: bool, number: u32) -> Result<(), u32> {
-    if condition {
-        Err(number)
-    } else {
-        Ok(())
-    }
-}
-
-/// The smallest box around the values of a matrix on the instances.
-#[derive(Clone, Copy)]
-pub struct Extent {
-    pub low: Point,
-    pub sides: Point,
-}
-
-impl Extent {
-    /// A row is least where each index has the bound that the sign of its word asks for.
-    fn of(matrix: &Matrix, left: Vector, right: Vector) -> Extent {
-        let mut extent = Extent {
-            low: [0; 2],
-            sides: [1; 2],
-        };
-        for (axis, row) in matrix.iter().enumerate() {
-            for (number, &word) in row.iter().enumerate() {
-                let least = if word >= 0 { left } else { right };
-                extent.low[axis] += word * least[number];
-                extent.sides[axis] += word.abs() * (right[number] - left[number]);
-            }
-        }
-        extent
-    }
-
-    pub fn size(&self) -> i32 {
-        self.sides[0] * self.sides[1]
-    }
-
-    /// How the points that a matrix sends instances to are numbered in row order.
-    fn numbering(&self, matrix: &Matrix) -> Numbering {
-        let [rows, columns] = matrix;
-        Numbering {
-            base: -(self.low[0] * self.sides[1] + self.low[1]),
-            strides: [0, 1, 2].map(|number| rows[number] * self.sides[1] + columns[number]),
-        }
-    }
-
-    /// How often a vector can be added to a point before it leaves the box.
-    pub fn room(&self, point: Point, vector: Point) -> i32 {
-        let axis = |axis: usize| {
-            let before = point[axis] - self.low[axis];
-            match vector[axis] {
-                0 => i32::MAX,
-                word if word > 0 => (self.sides[axis] - 1 - before) / word,
-                word => before / -word,
-            }
-        };
-        axis(0).min(axis(1))
-    }
-}
-
-/// The number of an instance's point: a base and a stride for each index.
-#[derive(Clone, Copy)]
-pub struct Numbering {
-    pub base: i32,
-    pub strides: Vector,
-}
-
-impl Numbering {
-    pub fn of(&self, instance: Vector) -> usize {
-        (self.base + dot(self.strides, instance)) as usize
-    }
-}
 
 /// The shortest vector that a matrix sends to zero, turned so that its step is positive, and its divisor.
 struct Shortest {
@@ -98,9 +19,9 @@ impl Shortest {
             a[0] * b[1] - a[1] * b[0],
         ];
         let divisor = cross.into_iter().fold(0, common_divisor);
-        decline(divisor == 0, rank)?;
+        demand(divisor != 0, rank)?;
         let sum = dot(step, cross);
-        decline(sum == 0, still)?;
+        demand(sum != 0, still)?;
         let turned = if sum > 0 { divisor } else { -divisor };
         Ok(Shortest {
             vector: cross.map(|word| word / turned),
@@ -158,10 +79,10 @@ impl Nest {
         let instances: i32 = (0..3)
             .map(|number| right[number] - left[number] + 1)
             .product();
-        decline(instances > limits.instances, 6)?;
+        demand(instances <= limits.instances, 6)?;
         let increment = Shortest::of(&description.place, description.step, 7, 8)?;
         let space = Extent::of(&description.place, left, right);
-        decline(space.size() > limits.processes, 10)?;
+        demand(space.size() <= limits.processes, 10)?;
         let mut nest = Nest {
             instances: instances as usize,
             increment: increment.vector,
@@ -192,22 +113,18 @@ impl Nest {
         let map = description.maps[number];
         let line = Shortest::of(&map, description.step, 11, 12)?;
         let travel = times(&description.place, line.vector);
-        decline(travel.iter().any(|word| word.abs() > 1), 13)?;
+        demand(travel.iter().all(|word| word.abs() <= 1), 13)?;
         let moving = travel != [0, 0];
         let hop = dot(description.step, line.vector);
-        decline(moving && hop > limits.hop, 14)?;
-        decline(
-            description.body.writes(number) && self.against(line.vector),
-            15,
-        )?;
+        demand(!moving || hop <= limits.hop, 14)?;
+        let against = description.body.writes(number) && self.against(line.vector);
+        demand(!against, 15)?;
         let loading = description.loading[number];
-        decline(moving == (loading != [0, 0]), 16)?;
+        demand(moving == (loading == [0, 0]), 16)?;
         let extent = Extent::of(&map, description.left, description.right);
         let numbering = extent.numbering(&map);
-        decline(
-            !self.touches_all(extent.size() as usize, &numbering, touched),
-            17,
-        )?;
+        let size = extent.size() as usize;
+        demand(self.touches_all(size, &numbering, touched), 17)?;
         Ok(Stream {
             map,
             divisor: line.divisor,
@@ -255,15 +172,5 @@ impl Nest {
             }
             outer = outer.wrapping_add(strides[0]);
         }
-    }
-
-    /// Index map times increment: from the element of an instance to that of its process's next.
-    pub fn pass(&self, stream: &Stream) -> Point {
-        times(&stream.map, self.increment)
-    }
-
-    /// The element that an instance touches.
-    pub fn element(&self, stream: &Stream, instance: Vector) -> Point {
-        times(&stream.map, instance)
     }
 }

@@ -1,7 +1,8 @@
 //! The network: where the words of a state stand, and which states are sound.
 
 use super::description::STREAMS;
-use super::pipes::{Array, Lane, Pipe};
+use super::lanes::Lane;
+use super::pipes::{Array, Pipe};
 use super::rules::{End, Port};
 
 // The words of a port after its beginning.

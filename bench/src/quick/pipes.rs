@@ -1,36 +1,12 @@
-//! The processes with their instances, and the pipes of each stream.
+//! The pipes of each stream, with their elements.
 
 use std::ops::Range;
 
+use super::boxes::{dot, times, Extent};
 use super::description::{Point, Vector, STREAMS};
-use super::nest::{dot, Extent, Nest, Stream};
-
-/// A process: its first instance and how many it has; it is null if it has none.
-#[derive(Clone, Copy, Default)]
-pub struct Process {
-    pub first: Vector,
-    pub count: u32,
-}
-
-/// A whole line of processes along the move of a stream.
-#[derive(Clone, Copy)]
-pub struct Lane {
-    pub entry: usize,
-    pub processes: usize,
-    /// From the number of a process to that of the next one.
-    pub stride: usize,
-}
-
-impl Lane {
-    /// The process at a place of the lane.
-    pub fn at(&self, place: usize) -> usize {
-        self.entry.wrapping_add(place.wrapping_mul(self.stride))
-    }
-
-    pub fn numbers(self) -> impl Iterator<Item = usize> {
-        (0..self.processes).map(move |place| self.at(place))
-    }
-}
+use super::lanes::{lanes, stride, Lane};
+use super::nest::{Nest, Stream};
+use super::processes::{processes, Process};
 
 /// A lane that has a computing process.
 #[derive(Clone, Copy)]
@@ -41,25 +17,27 @@ pub struct Pipe {
     pub elements: u32,
     /// Where its part of the waiting and received lists begins.
     pub part: usize,
-    /// Of a moving stream the number of its first element in element order, and that element's measure.
+    /// Of a moving stream: its first element, as a number in element order and by the stream's measure.
     first: usize,
     measure: i32,
 }
 
-/// What the pipes of a moving stream have in common: from an element to the next, as a number in element order, and by a measure, which is
-/// linear in the instance.
+/// The pass of a moving stream, index map times increment: from an element of a pipe to the next.
 #[derive(Clone, Copy, Default)]
 struct Pass {
     vector: Point,
+    /// What it adds to a number in element order.
     number: usize,
+    /// The row that measures elements: one of the index map's, turned so that the pass adds something to its value.
     row: Vector,
+    /// What it adds.
     measure: i32,
 }
 
 impl Pass {
-    /// The measure is the index map's row in which the pass has its smaller component that is not 0, turned so that it grows.
+    /// The measure is by the row to which the pass adds the least, mostly 1.
     fn of(nest: &Nest, stream: &Stream) -> Pass {
-        let vector = nest.pass(stream);
+        let vector = times(&stream.map, nest.increment);
         let axis =
             usize::from(vector[0] == 0 || vector[1] != 0 && vector[1].abs() < vector[0].abs());
         let sign = vector[axis].signum();
@@ -146,7 +124,7 @@ impl Array {
         if stream.moving {
             let pass = &self.passes[number];
             let instance = self.processes[one].first;
-            let element = self.nest.element(stream, instance);
+            let element = times(&stream.map, instance);
             let before = stream.extent.room(element, pass.vector.map(|word| -word));
             let after = stream.extent.room(element, pass.vector);
             pipe.elements = (before + 1 + after) as u32;
@@ -223,68 +201,4 @@ impl Array {
         let found = self.pipes[range.clone()].binary_search_by_key(&entry, |pipe| pipe.lane.entry);
         found.ok().map(|number| (range.start + number, place))
     }
-}
-
-/// Counts the instances of each process in one pass, which comes to its first before its others.
-fn processes(nest: &Nest) -> Vec<Process> {
-    let mut processes = vec![Process::default(); nest.space.size() as usize];
-    let (left, right) = (nest.description.left, nest.description.right);
-    let upwards = nest.increment > [0; 3];
-    let (from, sign) = if upwards { (left, 1) } else { (right, -1) };
-    let strides = nest
-        .numbering
-        .strides
-        .map(|stride| (sign * stride) as usize);
-    let sides = [0, 1, 2].map(|number| right[number] - left[number] + 1);
-    let mut outer = nest.numbering.of(from);
-    for i in 0..sides[0] {
-        let mut middle = outer;
-        for j in 0..sides[1] {
-            let mut number = middle;
-            for k in 0..sides[2] {
-                let process = &mut processes[number];
-                if process.count == 0 {
-                    process.first = [from[0] + sign * i, from[1] + sign * j, from[2] + sign * k];
-                }
-                process.count += 1;
-                number = number.wrapping_add(strides[2]);
-            }
-            middle = middle.wrapping_add(strides[1]);
-        }
-        outer = outer.wrapping_add(strides[0]);
-    }
-    processes
-}
-
-/// From the number of a process to that of the next along a move.
-fn stride(sides: Point, travel: Point) -> usize {
-    (travel[0] * sides[1] + travel[1]) as usize
-}
-
-/// The lanes along a move by their entries in row order.
-fn lanes(sides: Point, travel: Point) -> impl Iterator<Item = Lane> {
-    let stride = stride(sides, travel);
-    // The coordinate of an axis at which a lane enters, and how many processes it has from a coordinate on.
-    let entry = move |axis: usize| match travel[axis] {
-        0 => -1,
-        1 => 0,
-        _ => sides[axis] - 1,
-    };
-    let length = move |axis: usize, coordinate: i32| match travel[axis] {
-        0 => i32::MAX,
-        1 => sides[axis] - coordinate,
-        _ => coordinate + 1,
-    };
-    (0..sides[0]).flat_map(move |row| {
-        let columns = if row == entry(0) {
-            0..sides[1]
-        } else {
-            entry(1).max(0)..entry(1) + 1
-        };
-        columns.map(move |column| Lane {
-            entry: (row * sides[1] + column) as usize,
-            processes: length(0, row).min(length(1, column)) as usize,
-            stride,
-        })
-    })
 }

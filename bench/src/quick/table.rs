@@ -1,7 +1,8 @@
 //! Table: a row of 21 words for each process.
 
 use super::description::Vector;
-use super::pipes::{Array, Process};
+use super::pipes::Array;
+use super::processes::Process;
 
 /// The words of a row, and where its parts begin: point, count, first, last, soak, drain.
 pub const ROW_WORDS: usize = 21;
