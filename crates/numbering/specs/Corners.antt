@@ -81,11 +81,11 @@ module _ {n : Nest} (h : Bounded n) (row : V3) where
       record {
         by = cornerOf row (n .left) (n .right);
         within =
-          record {
-            inx = end-in (row .x) _ _ (h .outer) .0;
-            iny = end-in (row .y) _ _ (h .middle) .0;
-            inz = end-in (row .z) _ _ (h .inner) .0;
-          };
+            record {
+              inx = end-in (row .x) _ _ (h .outer) .0;
+              iny = end-in (row .y) _ _ (h .middle) .0;
+              inz = end-in (row .z) _ _ (h .inner) .0;
+            };
         is = refl;
         bound = λ x w.
             three _ _ _ _ _ _ (term-least (row .x) _ _ (x .x) (w .inx)) (term-least (row .y) _ _ (x .y) (w .iny))
@@ -97,11 +97,11 @@ module _ {n : Nest} (h : Bounded n) (row : V3) where
       record {
         by = cornerOf row (n .right) (n .left);
         within =
-          record {
-            inx = end-in (row .x) _ _ (h .outer) .1;
-            iny = end-in (row .y) _ _ (h .middle) .1;
-            inz = end-in (row .z) _ _ (h .inner) .1;
-          };
+            record {
+              inx = end-in (row .x) _ _ (h .outer) .1;
+              iny = end-in (row .y) _ _ (h .middle) .1;
+              inz = end-in (row .z) _ _ (h .inner) .1;
+            };
         is = refl;
         bound = λ x w.
             three _ _ _ _ _ _ (term-greatest (row .x) _ _ (x .x) (w .inx)) (term-greatest (row .y) _ _ (x .y) (w .iny))

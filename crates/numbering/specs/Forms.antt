@@ -35,11 +35,11 @@ abbrev pub formOf : Matrix → Box → Form
 formOf m k =
     record {
       weight =
-        record {
-          x = weigh k (m .top .x) (m .low .x);
-          y = weigh k (m .top .y) (m .low .y);
-          z = weigh k (m .top .z) (m .low .z);
-        };
+          record {
+            x = weigh k (m .top .x) (m .low .x);
+            y = weigh k (m .top .y) (m .low .y);
+            z = weigh k (m .top .z) (m .low .z);
+          };
       base = weigh k (k .lo .a) (k .lo .b);
     }
 
@@ -106,11 +106,11 @@ form-small {m} {k} {x} r s w i =
     let c = columns-most (s .second) in
     record {
       weight =
-        record {
-          xs = Abs-wider tt (Abs-add (Abs-mul c (r .top .xs)) (r .low .xs));
-          ys = Abs-wider tt (Abs-add (Abs-mul c (r .top .ys)) (r .low .ys));
-          zs = Abs-wider tt (Abs-add (Abs-mul c (r .top .zs)) (r .low .zs));
-        };
+          record {
+            xs = Abs-wider tt (Abs-add (Abs-mul c (r .top .xs)) (r .low .xs));
+            ys = Abs-wider tt (Abs-add (Abs-mul c (r .top .ys)) (r .low .ys));
+            zs = Abs-wider tt (Abs-add (Abs-mul c (r .top .zs)) (r .low .zs));
+          };
       base = Abs-wider tt (Abs-add (Abs-mul c (s .first .low)) (s .second .low));
       point = w;
       some = form-some m k x i;

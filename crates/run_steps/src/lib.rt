@@ -53,7 +53,7 @@ pub fn run_steps(
                 received,
                 state,
             );
-            wakeups::refresh(ports, wakeups, state, z, r, flags);
+            wakeups::refresh(ports, wakeups, state, z, r, n, flags);
             done += 1;
         } else {
             return done;

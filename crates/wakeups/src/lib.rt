@@ -24,6 +24,7 @@ ghost use Rattle.wakeups.specs.Wakeups.{foreignNamed, foreignBy, counter
 ghost use Rattle.wakeups.specs.Renewed.{Renewed, OneRank, GiveRank, PortRank, OwnRank};
 use meaning::STATE_WORDS;
 use port_table::Size;
+use step_order::Name;
 
 // ---- the table
 
@@ -76,7 +77,7 @@ pub fn fill_wakeups(ports: &[u32], z: Size, wakeups: &mut [u16])
     }
 }
 
-// The index of the word that a step counts up: by its name, and by its rank.
+// The index of the word that a step counts up: by its name, and by its rank with its name.
 fn counter_named(ports: &[u32], z: Size, kind: u32, number: usize, stream: usize) -> usize
     requires { ⌜ (RowsFit stateWordsMost (now ports) z) × (Inside z kind number stream) ⌝ }
     ensures { λ i. ⌜ (i ≡ counterNamed (now (ports .entry)) kind number stream) × (i < stateWordsMost) ⌝ }
@@ -105,11 +106,10 @@ fn counter_named(ports: &[u32], z: Size, kind: u32, number: usize, stream: usize
     }
 }
 
-fn counter_of(ports: &[u32], z: Size, r: usize) -> usize
-    requires { ⌜ (RowsFit stateWordsMost (now ports) z) × (Sized z) × (r < rankCount z) ⌝ }
+fn counter_of(ports: &[u32], z: Size, r: usize, n: Name) -> usize
+    requires { ⌜ (RowsFit stateWordsMost (now ports) z) × (r < rankCount z) × (n ≡ nameAt z r) ⌝ }
     ensures { λ i. ⌜ (i ≡ counterBy (now (ports .entry)) z r) × (i < stateWordsMost) ⌝ }
 {
-    let n = step_order::name_of(z, r);
     counter_named(ports, z, n.kind, n.number, n.stream)
 }
 
@@ -165,7 +165,16 @@ fn retest_gives(ports: &[u32], state: &[u32], z: Size, p: usize, flags: &mut [u6
     let m = z.streams;
     let mut i = 0;
     while i < m {
-        retest(ports, state, z, step_order::give_rank(z, p, i), flags);
+        retest_named(
+            ports,
+            state,
+            z,
+            step_order::give_rank(z, p, i),
+            3,
+            p,
+            i,
+            flags,
+        );
         i += 1;
     }
 }
@@ -200,35 +209,43 @@ fn retest_port(ports: &[u32], state: &[u32], z: Size, p: usize, i: usize, flags:
     );
 }
 
-// Those of the steps of the process or pipe of rank r.
-fn retest_own(ports: &[u32], state: &[u32], z: Size, r: usize, flags: &mut [u64])
-    requires { ⌜ (RowsFit (length (now state)) (now ports) z) × (Sized z) × (r < rankCount z) × (length (now flags) ≡ flagWords) ⌝ }
+// Those of the steps of the process or pipe of the step of rank r, which is n.
+fn retest_own(ports: &[u32], state: &[u32], z: Size, r: usize, n: Name, flags: &mut [u64])
+    requires { ⌜ (RowsFit (length (now state)) (now ports) z) × (Sized z) × (r < rankCount z) × (n ≡ nameAt z r)
+        × (length (now flags) ≡ flagWords) ⌝ }
     ensures { λ _. ⌜ Renewed (flagAt (now (ports .entry)) (now (state .entry)) z) (OwnRank z r) (now (flags .entry)) (now (flags .exit)) ⌝ }
 {
-    let n = step_order::name_of(z, r);
     let kind = n.kind;
     match kind {
-        0 | 4 => retest(ports, state, z, r, flags),
+        0 | 4 => retest_named(ports, state, z, r, kind, n.number, n.stream, flags),
         2 => {
-            retest(ports, state, z, r, flags);
+            retest_named(ports, state, z, r, kind, n.number, n.stream, flags);
             retest_gives(ports, state, z, n.number, flags);
         }
         _ => retest_port(ports, state, z, n.number, n.stream, flags),
     }
 }
 
-// The flags after the step of rank r was done.
-pub fn refresh(ports: &[u32], wakeups: &[u16], state: &[u32], z: Size, r: usize, flags: &mut [u64])
+// The flags after the step of rank r, which is n, was done.
+pub fn refresh(
+    ports: &[u32],
+    wakeups: &[u16],
+    state: &[u32],
+    z: Size,
+    r: usize,
+    n: Name,
+    flags: &mut [u64],
+)
     requires { ⌜ (RowsFit (length (now state)) (now ports) z) × (RowsFit stateWordsMost (now ports) z) × (Sized z)
         × (WakeupsOf (now ports) z (now wakeups))
-        × (r < rankCount z) × (length (now flags) ≡ flagWords) ⌝ }
+        × (r < rankCount z) × (n ≡ nameAt z r) × (length (now flags) ≡ flagWords) ⌝ }
     ensures { λ _. ⌜ (length (now (flags .exit)) ≡ flagWords)
         × ((old : List ℕ) → Local (now (ports .entry)) z (now (wakeups .entry)) old (now (state .entry)) r
         → Kept (flagAt (now (ports .entry)) old z) (now (flags .entry))
         → Kept (flagAt (now (ports .entry)) (now (state .entry)) z) (now (flags .exit))) ⌝ }
 {
-    retest_own(ports, state, z, r, flags);
-    let at = counter_of(ports, z, r);
+    retest_own(ports, state, z, r, n, flags);
+    let at = counter_of(ports, z, r, n);
     let w = wakeups[at] as usize;
     if w != 0 {
         retest(ports, state, z, w - 1, flags);

@@ -35,13 +35,14 @@ returns c =
     let e =
     same3 (held (x .end-of .ok) (of (p .0 .xs) (p .1 .xs) (p .2 .xs) (x .end-of .ensures .0)))
     (held (y .end-of2 .ok) (of (p .0 .ys) (p .1 .ys) (p .2 .ys) (y .end-of2 .ensures .0)))
-    (held (c .end-of3 .ok) (of (p .0 .zs) (p .1 .zs) (p .2 .zs) (c .end-of3 .ensures .0))) in
-    (e,
-     record {
-       xs = held-abs (x .end-of .ok) (x .end-of .ensures .1);
-       ys = held-abs (y .end-of2 .ok) (y .end-of2 .ensures .1);
-       zs = held-abs (c .end-of3 .ok) (c .end-of3 .ensures .1);
-     })
+    (held (c .end-of3 .ok) (of (p .0 .zs) (p .1 .zs) (p .2 .zs) (c .end-of3 .ensures .0))) in (
+      e,
+      record {
+        xs = held-abs (x .end-of .ok) (x .end-of .ensures .1);
+        ys = held-abs (y .end-of2 .ok) (y .end-of2 .ensures .1);
+        zs = held-abs (c .end-of3 .ok) (c .end-of3 .ensures .1);
+      },
+    )
 
 pub corner-spec : {M : Type 1} → statement M
 corner-spec = tie.close (tie.spec end-of-requires end-of-requires-2 end-of-requires-3 returns)

@@ -40,12 +40,14 @@ act-requires c κs =
 refresh-requires : tie.Need-refresh-requires Inv-loop μ-loop
 refresh-requires c κs =
     let h = c .before .before .before .before .before .before .before .before .before .before .before .before .before .before .loop .inv in
+    let q =
     renews (c .before .before .before .before .before .before .before
     .before .before .before .before .before .before .before .before .before .before .before .before .before .before .before .before .pre) h
     (c .before .before .before .before .before .before .before .before .before .before .before .lowest .ensures _ (h .ready .kept))
     (c .before .before .before .before .before .before .before .before .before .before .if1 .taken)
     (rw (c .before .before .before .before .before .before .before .before .before .name-of .ensures) at (c .before .before .before .before
-    .before .before .act .ensures))
+    .before .before .act .ensures)) in
+    (q .0, q .1, q .2, q .3, q .4, c .before .before .before .before .before .before .before .before .before .name-of .ensures, q .5)
 
 add-done : tie.Need-add-done Inv-loop μ-loop
 add-done c = record {

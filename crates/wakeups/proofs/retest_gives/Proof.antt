@@ -3,6 +3,7 @@ use mathlib.Core.Path.{sym, _∙_}
 use Prim.Native.Nat.{_-_, _≤_}
 use native.Mathlib.Omega.{arith}
 use borrow.Author.Needs.{needs}
+use Rattle.step_order.specs.Names.{give-name}
 use Rattle.wakeups.specs.Wakeups.{flagAt}
 use Rattle.wakeups.specs.Renewed.{GiveRank, Renewed, renewed-none, renewed-then, renewed-less, give-next}
 use Rattle.wakeups.proofs.retest_gives.Statement.{statement}
@@ -20,10 +21,18 @@ loop-holds c = (omega arith, renewed-none (c .before .before .before .pre .3) (�
 give-rank-requires : tie.Need-give-rank-requires Inv-loop μ-loop
 give-rank-requires c κs = search needs
 
-retest-requires : tie.Need-retest-requires Inv-loop μ-loop
-retest-requires c κs =
+retest-named-requires : tie.Need-retest-named-requires Inv-loop μ-loop
+retest-named-requires c κs =
     let l = c .before .before .before in
-    let p = l .before .before .before .before .pre in (p .0, p .1, c .before .give-rank .ensures .1, l .loop .inv .1 .words)
+    let s = l .before .before .before .before in
+    let p = s .pre in
+    let r = c .before .give-rank .ensures in (
+      p .0,
+      p .1,
+      r .1,
+      rw (r .0) (give-name (s .args .z) (s .args .p) (l .loop .i) (p .2) (omega (arith, c .before .before .loop-test .taken))),
+      l .loop .inv .1 .words,
+    )
 
 add-i : tie.Need-add-i Inv-loop μ-loop
 add-i c = search needs
@@ -39,7 +48,7 @@ loop-again c =
     let a = l .before .before .before .before .args in (
       omega (arith, g .before .loop-test .taken),
       renewed-then (λ x. give-next (a .z) (a .p) (l .loop .i) (g .give-rank .result) x (g .give-rank .ensures .0)) (l .loop .inv .1)
-          (f .retest .ensures),
+          (f .retest-named .ensures),
     )
 
 same-length : tie.Need-same-length Inv-loop μ-loop
@@ -57,7 +66,7 @@ retest-gives-spec =
     μ-loop
     loop-holds
     give-rank-requires
-    retest-requires
+    retest-named-requires
     add-i
     loop-less
     loop-again

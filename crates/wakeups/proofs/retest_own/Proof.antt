@@ -1,6 +1,6 @@
 -- `wakeups::retest_own` meets its contract: the own steps of each kind. Assumes nothing.
 use mathlib.Core.Logic.{_⊎_, inl, inr}
-use mathlib.Core.Path.{_≡_}
+use mathlib.Core.Path.{_≡_, sym}
 use Prim.Native.Nat.{ℕ, _%_, _≤_}
 use native.Mathlib.Omega.{arith}
 use borrow.Author.Needs.{needs}
@@ -18,53 +18,42 @@ odd {k} l f g =
     let a : k ≡ 0 → ⊥ = λ e. f (inl e) in
     let b : k ≡ 4 → ⊥ = λ e. f (inr e) in omega arith
 
-name-of-requires : tie.Need-name-of-requires
-name-of-requires c κs = search needs
+retest-named-requires : tie.Need-retest-named-requires
+retest-named-requires c κs = let p = c .before .before .before .before .before .pre in (p .0, p .1, p .2, sym (p .3), p .4)
 
-retest-requires : tie.Need-retest-requires
-retest-requires c κs = search needs
-
-retest-requires-2 : tie.Need-retest-requires-2
-retest-requires-2 c κs = search needs
+retest-named-requires-2 : tie.Need-retest-named-requires-2
+retest-named-requires-2 c κs = let p = c .before .before .before .before .before .pre in (p .0, p .1, p .2, sym (p .3), p .4)
 
 retest-gives-requires : tie.Need-retest-gives-requires
 retest-gives-requires c κs =
-    let m = c .before .before .before .before .before in
-    let s = m .before .before .before .before .before in
-    let f = own-fire (s .args .z) (s .args .r) (m .before .name-of .result) (s .pre .2) (m .before .name-of .ensures) (m .match .keys2) in
-    (s .pre .0, s .pre .1, f .0, search needs)
+    let s = c .before .before .before .before .before .before .before .before .before in
+    let f = own-fire (s .args .z) (s .args .r) (s .args .n) (s .pre .2) (s .pre .3) (c .before .before .before .before .before .match .keys2) in
+    (s .pre .0, s .pre .1, f .0, c .before .before .before .retest-named2 .ensures .words)
 
 retest-port-requires : tie.Need-retest-port-requires
 retest-port-requires c κs =
     let m = c .before in
-    let s = m .before .before .before .before .before in
-    let n = m .before .name-of .result in
-    let k = odd (kind-most (s .args .z) (s .args .r) n (s .pre .2) (m .before .name-of .ensures)) (m .match .rest .0 .1)
-    (m .match .rest .1) in
-    let f = own-port (s .args .z) (s .args .r) n (s .pre .2) (m .before .name-of .ensures) k in
-    (s .pre .0, s .pre .1, f .0, f .1, search needs)
+    let s = c .before .before .before .before .before in
+    let k = odd (kind-most (s .args .z) (s .args .r) (s .args .n) (s .pre .2) (s .pre .3)) (m .match .rest .0 .1) (m .match .rest .1) in
+    let f = own-port (s .args .z) (s .args .r) (s .args .n) (s .pre .2) (s .pre .3) k in (s .pre .0, s .pre .1, f .0, f .1, s .pre .4)
 
 same-length : tie.Need-same-length
 same-length c = search needs
 
 returns : tie.Need-returns
 returns c =
-    let m = c .before .before .before .before in
-    let s = m .before .before .before .before .before in
-    renewed-less
-    (own-alone (s .args .z) (s .args .r) (m .before .name-of .result) (s .pre .2) (m .before .name-of .ensures) (fourth (m .match .keys1)))
-    (c .before .before .retest .ensures)
+    let s = c .before .before .before .before .before .before .before .before in
+    renewed-less (own-alone (s .args .z) (s .args .r) (s .args .n) (s .pre .2) (s .pre .3) (fourth (c .before .before .before .before .match .keys1)))
+    (c .before .before .retest-named .ensures)
 
 same-length-2 : tie.Need-same-length-2
 same-length-2 c = search needs
 
 returns-2 : tie.Need-returns-2
 returns-2 c =
-    let t = c .before .before .before .before .before .before in
-    let m = t .before .before in
-    let s = m .before .before .before .before .before in
-    let f = own-fire (s .args .z) (s .args .r) (m .before .name-of .result) (s .pre .2) (m .before .name-of .ensures) (m .match .keys2) in
-    renewed-then (f .1) (t .retest2 .ensures) (c .before .before .retest-gives .ensures)
+    let s = c .before .before .before .before .before .before .before .before .before .before .before .before in
+    renewed-then (own-fire (s .args .z) (s .args .r) (s .args .n) (s .pre .2) (s .pre .3) (c .before .before .before .before .before .before .before .before .match .keys2) .1)
+    (c .before .before .before .before .before .before .retest-named2 .ensures) (c .before .before .retest-gives .ensures)
 
 same-length-3 : tie.Need-same-length-3
 same-length-3 c = search needs
@@ -72,20 +61,16 @@ same-length-3 c = search needs
 returns-3 : tie.Need-returns-3
 returns-3 c =
     let m = c .before .before .before .before in
-    let s = m .before .before .before .before .before in
-    let n = m .before .name-of .result in
-    let k = odd (kind-most (s .args .z) (s .args .r) n (s .pre .2) (m .before .name-of .ensures)) (m .match .rest .0 .1)
-    (m .match .rest .1) in
-    renewed-less (own-port (s .args .z) (s .args .r) n (s .pre .2) (m .before .name-of .ensures) k .2)
-    (c .before .before .retest-port .ensures)
+    let s = c .before .before .before .before .before .before .before .before in
+    let k = odd (kind-most (s .args .z) (s .args .r) (s .args .n) (s .pre .2) (s .pre .3)) (m .match .rest .0 .1) (m .match .rest .1) in
+    renewed-less (own-port (s .args .z) (s .args .r) (s .args .n) (s .pre .2) (s .pre .3) k .2) (c .before .before .retest-port .ensures)
 
 pub retest-own-spec : {M : Type 1} → statement M
 retest-own-spec =
     tie.close
     (tie.spec
-    name-of-requires
-    retest-requires
-    retest-requires-2
+    retest-named-requires
+    retest-named-requires-2
     retest-gives-requires
     retest-port-requires
     same-length
