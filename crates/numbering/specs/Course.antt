@@ -84,26 +84,27 @@ directed-small h = record { xs = small (h .outer); ys = small (h .middle); zs = 
 abbrev value : Loop → ℕ → ℤ
 value l i = getD (values l) i (pos 0)
 
-module _ (l : Loop) (d : Direction (l .direction)) (o : l .left ≤ℤ l .right) where
-  value-at : (i : ℕ) → i < turns l → value l i ≡ firstValue l +ℤ pos i *ℤ l .direction
-  value-at i h = progression-at (firstValue l) (l .direction) (turns l) i (pos 0) h
+-- after i turns
+pub value-at : (l : Loop) (i : ℕ) → i < turns l → value l i ≡ firstValue l +ℤ pos i *ℤ l .direction
+value-at l i h = progression-at (firstValue l) (l .direction) (turns l) i (pos 0) h
 
+module _ (l : Loop) (d : Direction (l .direction)) (o : l .left ≤ℤ l .right) where
   value-zero : 0 < turns l → value l 0 ≡ firstValue l
-  value-zero h = value-at 0 h ∙ go (firstValue l) (l .direction)
+  value-zero h = value-at l 0 h ∙ go (firstValue l) (l .direction)
     where
       go : (a d : ℤ) → a +ℤ pos 0 *ℤ d ≡ a
       go = linear 0 2 _ λ p m. simp gaps (omega arith)
 
   value-next : (i : ℕ) → i + 1 < turns l → value l (i + 1) ≡ value l i +ℤ l .direction
   value-next i h =
-      value-at (i + 1) h ∙ go i (firstValue l) (l .direction) ∙ ap (λ (z : ℤ). z +ℤ l .direction) (sym (value-at i (omega arith)))
+      value-at l (i + 1) h ∙ go i (firstValue l) (l .direction) ∙ ap (λ (z : ℤ). z +ℤ l .direction) (sym (value-at l i (omega arith)))
     where
       go : (i : ℕ) (a d : ℤ) → a +ℤ pos (i + 1) *ℤ d ≡ (a +ℤ pos i *ℤ d) +ℤ d
       go i = linear 0 2 _ λ p m. simp gaps (omega arith)
 
   -- it is at its end exactly after all turns but one
   value-last : (i : ℕ) → i < turns l → value l i ≡ lastValue l → i + 1 ≡ turns l
-  value-last i h e = go d (l .left) (l .right) o h (sym (value-at i h) ∙ e)
+  value-last i h e = go d (l .left) (l .right) o h (sym (value-at l i h) ∙ e)
     where
       up : (l r : ℤ) → l ≤ℤ r → i < size l r → l +ℤ pos i *ℤ pos 1 ≡ r → i + 1 ≡ size l r
       up = linear 0 2 _ λ p m. simp (gaps, parts) (omega arith)
@@ -117,7 +118,7 @@ module _ (l : Loop) (d : Direction (l .direction)) (o : l .left ≤ℤ l .right)
       go back = down
 
   value-end : (i : ℕ) → i + 1 ≡ turns l → value l i ≡ lastValue l
-  value-end i h = value-at i (omega arith) ∙ go d (l .left) (l .right) o h
+  value-end i h = value-at l i (omega arith) ∙ go d (l .left) (l .right) o h
     where
       up : (l r : ℤ) → l ≤ℤ r → i + 1 ≡ size l r → l +ℤ pos i *ℤ pos 1 ≡ r
       up = linear 0 2 _ λ p m. simp (gaps, parts) (omega arith)
@@ -147,7 +148,7 @@ module _ (l : Loop) (d : Direction (l .direction)) (o : l .left ≤ℤ l .right)
 
 module _ {n : Nest} (h : Bounded n) where
   -- the first instance
-  course-first : getD (instances n) 0 zero3 ≡ courseOf n .first
+  pub course-first : getD (instances n) 0 zero3 ≡ courseOf n .first
   course-first =
       let t = turning n refl h in
       let u : Turns = record { outer = 0; middle = 0; inner = 0 } in

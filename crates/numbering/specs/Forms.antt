@@ -47,7 +47,12 @@ formOf m k =
 abbrev pub formAt : Form → V3 → ℤ
 formAt f x = dot (f .weight) x -ℤ f .base
 
--- a form of small words, and a point to which it gives a number
+-- a form of small words
+pub record Light (f : Form) : Type 0 where
+  pub weight : Within 6916 (f .weight)
+  pub base : Abs (f .base) 1181184
+
+-- and a point to which it gives a number
 pub record Numbers (f : Form) (x : V3) : Type 0 where
   pub weight : Within 6916 (f .weight)
   pub base : Abs (f .base) 1181184
@@ -101,8 +106,8 @@ columns-held h e = subst (λ (z : ℤ). Abs z 1537) (sym (columns-are h e)) (col
 pub same-form : {f g : Form} → f .weight ≡ g .weight → f .base ≡ g .base → f ≡ g
 same-form e h = λ i. record { weight = e i; base = h i }
 
-pub form-small : {m : Matrix} {k : Box} {x : V3} → Rows 4 m → Spanning k → Within 64 x → Inside k (image m x) → Numbers (formOf m k) x
-form-small {m} {k} {x} r s w i =
+pub form-light : {m : Matrix} {k : Box} → Rows 4 m → Spanning k → Light (formOf m k)
+form-light r s =
     let c = columns-most (s .second) in
     record {
       weight =
@@ -112,9 +117,11 @@ form-small {m} {k} {x} r s w i =
             zs = Abs-wider tt (Abs-add (Abs-mul c (r .top .zs)) (r .low .zs));
           };
       base = Abs-wider tt (Abs-add (Abs-mul c (s .first .low)) (s .second .low));
-      point = w;
-      some = form-some m k x i;
     }
+
+pub form-small : {m : Matrix} {k : Box} {x : V3} → Rows 4 m → Spanning k → Within 64 x → Inside k (image m x) → Numbers (formOf m k) x
+form-small {m} {k} {x} r s w i =
+    let l = form-light r s in record { weight = l .weight; base = l .base; point = w; some = form-some m k x i }
 
 -- of instance k, by the box around the images
 module _ {n : Nest} {m : Matrix} {e : Extent} {k : ℕ} {f : Form} {x : V3} (h : Numbered n m k) (b : boxed e ≡ boxOf n m) (g : f ≡ formOf m (boxed e))

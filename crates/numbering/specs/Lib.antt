@@ -5,4 +5,5 @@ pub mod Course
 pub mod Corners
 pub mod Extents
 pub mod Forms
+pub mod Strides
 pub mod Numbers

@@ -9,13 +9,15 @@
 //   Corners     a row is least and greatest at corners of the bounds: `box-corners`
 //   Extents     the bounds of the box around the images: `box-spanning`
 //   Forms       a row number as a form of the instance: `form-number`
+//   Strides     row numbers counted on by the loops' strides: `counted-agrees`
 //   Numbers     the table of row numbers
 ghost use mathlib.Core.Path.{_≡_};
-ghost use mathlib.Core.List.{_++_};
-ghost use Prim.Native.Nat.{_≤_, _<_};
+ghost use mathlib.Core.List.{List, _++_};
+ghost use Prim.Native.Nat.{ℕ, _+_, _*_, _≤_, _<_};
 ghost use lib.IntN.{pos, _+ℤ_, _-ℤ_, _*ℤ_};
 ghost use lib.ListN.{length, getD, drop};
 ghost use Rattle.integers.specs.Differences.{Abs, up};
+ghost use Rattle.integers.specs.Fill.{fillBy};
 ghost use Rattle.integers.specs.Vectors.{zero3, dot, image};
 ghost use Rattle.meaning.specs.Loops.{instances};
 ghost use Rattle.meaning.specs.Space.{points, rowIndex, boxOf};
@@ -26,7 +28,8 @@ ghost use Rattle.numbering.specs.Turns.{Turned, turnsOf};
 ghost use Rattle.numbering.specs.Course.{Runs, firstValue, lastValue, firstPoint, lastPoint, courseOf, nextOf};
 ghost use Rattle.numbering.specs.Corners.{endOf, cornerOf};
 ghost use Rattle.numbering.specs.Extents.{Spanning, Numbered, boxed};
-ghost use Rattle.numbering.specs.Forms.{Numbers, formOf, formAt};
+ghost use Rattle.numbering.specs.Forms.{Light, Numbers, formOf, formAt};
+ghost use Rattle.numbering.specs.Strides.{strides, RowFits, Agrees, PlaneFits, AgreesAll};
 ghost use Rattle.numbering.specs.Numbers.{Fillable, numbersOf};
 use integers::Matrix;
 use integers::V2;
@@ -393,19 +396,73 @@ pub fn number_by(f: Form, x: V3) -> u32
     (weight.x * x.x + weight.y * x.y + weight.z * x.z - f.base) as u32
 }
 
+// What a form gains by a turn of each loop.
+fn strides_of(f: Form, direction: V3) -> V3
+    requires { ⌜ (Light f) × (Within 1 direction) ⌝ }
+    ensures { λ r. ⌜ (r ≡ strides f direction) × (Within 6916 r) ⌝ }
+{
+    let weight = f.weight;
+    V3 {
+        x: weight.x * direction.x,
+        y: weight.y * direction.y,
+        z: weight.z * direction.z,
+    }
+}
+
+// So many numbers, each a stride after the one before, from place `from` on.
+fn put_row(out: &mut [u32], from: usize, count: u32, first: i32, stride: i32)
+    requires { ⌜ (RowFits count first stride) × (from + count ≤ length (now out)) ⌝ }
+    ensures { λ _. ⌜ (length (now (out .exit)) ≡ length (now (out .entry)))
+        × ((f : ℕ → ℕ) (xs : List ℕ) → Agrees f from count first stride → now (out .entry) ≡ fillBy f from xs
+        → now (out .exit) ≡ fillBy f (from + count) xs) ⌝ }
+{
+    let mut number = first;
+    let mut k: u32 = 0;
+    while k < count {
+        out[from + k as usize] = number as u32;
+        number += stride;
+        k += 1;
+    }
+}
+
+// So many rows of them, the first numbers of the rows a stride of their own apart.
+fn put_plane(out: &mut [u32], from: usize, rows: u32, count: u32, first: i32, strides: V3)
+    requires { ⌜ (PlaneFits rows count first strides) × (from + rows * count ≤ length (now out)) ⌝ }
+    ensures { λ _. ⌜ (length (now (out .exit)) ≡ length (now (out .entry)))
+        × ((f : ℕ → ℕ) (xs : List ℕ) → AgreesAll f from rows count first strides → now (out .entry) ≡ fillBy f from xs
+        → now (out .exit) ≡ fillBy f (from + rows * count) xs) ⌝ }
+{
+    let mut number = first;
+    let mut at = from;
+    let mut j: u32 = 0;
+    while j < rows {
+        put_row(out, at, count, number, strides.z);
+        number += strides.y;
+        at += count as usize;
+        j += 1;
+    }
+}
+
 // The row numbers of the images of all instances, in the written order; e is the box around the images. What lies past them stays.
 pub fn fill_numbers(n: Nest, m: Matrix, e: Extent, out: &mut [u32])
     requires { ⌜ Fillable n m e (now out) ⌝ }
     ensures { λ r. ⌜ now (out .exit) ≡ numbersOf n m ++ drop (length (instances n)) (now (out .entry)) ⌝ }
 {
-    let count = instance_count(n);
+    let turns = turns_of(n);
     let form = form_of(m, e);
-    let course = course_of(n);
-    let mut x = course.first;
-    let mut k: u32 = 0;
-    while k < count {
-        out[k as usize] = number_by(form, x);
-        x = next(course, x);
-        k += 1;
+    let first = first_point(n);
+    let direction = n.direction;
+    let strides = strides_of(form, direction);
+    let rows = turns.middle;
+    let count = turns.inner;
+    let plane = (rows * count) as usize;
+    let mut number = number_by(form, first) as i32;
+    let mut at: usize = 0;
+    let mut i: u32 = 0;
+    while i < turns.outer {
+        put_plane(out, at, rows, count, number, strides);
+        number += strides.x;
+        at += plane;
+        i += 1;
     }
 }
