@@ -1,4 +1,4 @@
--- Words stored at scattered places; where the element of an instance waits; what the functions are lent.
+-- Words stored at scattered places; where the element of an instance waits; the elements that a process uses.
 pub mod Spread
 pub mod Order
-pub mod Fired
+pub mod Runs

@@ -1,5 +1,5 @@
--- Words stored one by one, word k at place `at k`, as a loop that stores leaves them. Assumes nothing.
-use mathlib.Core.Path.{_≡_, refl, _∙_, ap, ap₂, sym}
+-- Words stored one by one, word k at place `at k`, as a loop that stores leaves them, and as several loops do. Assumes nothing.
+use mathlib.Core.Path.{_≡_, refl, sym, _∙_, ap, subst}
 use mathlib.Core.Logic.{_⊎_, inl, inr}
 use mathlib.Core.List.{List}
 use Prim.Native.Nat.{ℕ, zero, suc, _+_, _<_}
@@ -28,13 +28,6 @@ module _ (at : ℕ → ℕ) where
   unfolding spread
   spread-length f zero xs = refl
   spread-length f (suc n) xs = length-set (spread f n xs) (at n) (f n) ∙ spread-length f n xs
-
-  -- the same words
-  pub spread-like : (f g : ℕ → ℕ) (n : ℕ) (xs : List ℕ) → ((k : ℕ) → k < n → f k ≡ g k) → spread f n xs ≡ spread g n xs
-  unfolding spread
-  spread-like f g zero xs h = refl
-  spread-like f g (suc n) xs h =
-      ap₂ (λ (l : List ℕ) (v : ℕ). set l (at n) v) (spread-like f g n xs (λ k l. h k (omega arith))) (h n (omega arith))
 
   -- each word is what ought to stand at its place
   module _ (right f : ℕ → ℕ) where
@@ -70,3 +63,69 @@ module _ (at : ℕ → ℕ) where
             ∙ h n (omega arith) ∙ ap right (sym q)
         go (no q) (inl e) i = absurd (q (ap at e))
         go (no q) (inr m) i = getD-set-other (spread f n xs) (at n) (at k) (f n) 0 q ∙ i m
+
+-- the same words at the same places
+pub spread-like : (at by f g : ℕ → ℕ) (n : ℕ) (xs : List ℕ) → ((k : ℕ) → k < n → at k ≡ by k) → ((k : ℕ) → k < n → f k ≡ g k)
+    → spread at f n xs ≡ spread by g n xs
+unfolding spread
+spread-like at by f g zero xs h e = refl
+spread-like at by f g (suc n) xs h e =
+    let before = spread-like at by f g n xs (λ k l. h k (omega arith)) (λ k l. e k (omega arith)) in
+    let here = h n (omega arith) in
+    let word = e n (omega arith) in λ i. set (before i) (here i) (word i)
+
+-- ---- several such loops, one after the other: word k of loop p at place `at p k`
+
+module _ (at f : ℕ → ℕ → ℕ) (many : ℕ → ℕ) where
+  unfoldable pub spreads : ℕ → List ℕ → List ℕ
+  spreads zero xs = xs
+  spreads (suc p) xs = spread (at p) (f p) (many p) (spreads p xs)
+
+  pub spreads-zero : (xs : List ℕ) → spreads 0 xs ≡ xs
+  unfolding spreads
+  spreads-zero xs = refl
+
+  pub spreads-step : (p : ℕ) (xs : List ℕ) → spreads (p + 1) xs ≡ spread (at p) (f p) (many p) (spreads p xs)
+  unfolding spreads
+  spreads-step p xs = ap (λ (k : ℕ). spreads k xs) (add-one p)
+
+  pub spreads-length : (p : ℕ) (xs : List ℕ) → length (spreads p xs) ≡ length xs
+  unfolding spreads
+  spreads-length zero xs = refl
+  spreads-length (suc p) xs = spread-length (at p) (f p) (many p) (spreads p xs) ∙ spreads-length p xs
+
+  module _ (right : ℕ → ℕ) (xs : List ℕ) where
+    -- the words of the first n loops are right, and there is room for them
+    pub record Right (n : ℕ) : Type 0 where
+      pub words : (p : ℕ) → p < n → (k : ℕ) → k < many p → f p k ≡ right (at p k)
+      pub room : (p : ℕ) → p < n → (k : ℕ) → k < many p → at p k < length xs
+
+    fewer : {n : ℕ} → Right (suc n) → Right n
+    fewer h = record { words = λ p l. h .words p (omega arith); room = λ p l. h .room p (omega arith) }
+
+    -- the last of them
+    module _ {n : ℕ} (h : Right (suc n)) where
+      last-words : (k : ℕ) → k < many n → f n k ≡ right (at n k)
+      last-words = h .words n (omega arith)
+
+      last-room : (k : ℕ) → k < many n → at n k < length (spreads n xs)
+      last-room k l = omega (arith, spreads-length n xs, h .room n (omega arith) k l)
+
+    pub spreads-keeps : (n : ℕ) → Right n → (a : ℕ) → getD xs a 0 ≡ right a → getD (spreads n xs) a 0 ≡ right a
+    unfolding spreads
+    spreads-keeps zero h a e = e
+    spreads-keeps (suc n) h a e =
+        spread-keeps (at n) right (f n) (many n) (spreads n xs) (last-words h) (last-room h) a (spreads-keeps n (fewer h) a e)
+
+    pub spreads-puts : (n : ℕ) → Right n → (p : ℕ) → p < n → (k : ℕ) → k < many p → getD (spreads n xs) (at p k) 0 ≡ right (at p k)
+    unfolding spreads
+    spreads-puts zero h p l k b = absurd (omega arith)
+    spreads-puts (suc n) h p l k b = go (eq-or-lt-of-le (le-of-suc-le-suc l)) (λ m. spreads-puts n (fewer h) p m k b)
+      where
+        go : (p ≡ n) ⊎ (p < n) → (p < n → getD (spreads n xs) (at p k) 0 ≡ right (at p k))
+            → getD (spread (at n) (f n) (many n) (spreads n xs)) (at p k) 0 ≡ right (at p k)
+        go (inl e) i =
+            subst (λ (q : ℕ). getD (spread (at n) (f n) (many n) (spreads n xs)) (at q k) 0 ≡ right (at q k)) (sym e)
+            (spread-puts (at n) right (f n) (many n) (spreads n xs) (last-words h) (last-room h) k (subst (λ (q : ℕ). k < many q) e b))
+        go (inr m) i =
+            spread-keeps (at n) right (f n) (many n) (spreads n xs) (last-words h) (last-room h) (at p k) (i m)
