@@ -3,16 +3,19 @@ use mathlib.Core.Path.{_≡_, refl, sym, _∙_, ap, ap₂, subst, subst₂}
 use mathlib.Core.Logic.{_⊎_, inl, inr}
 use mathlib.Core.Bool.{Bool, false, not, cond}
 use mathlib.Core.List.{List}
-use Prim.Native.Nat.{ℕ, zero, suc, _+_, _*_, _≤_, _<_}
+use Prim.Native.Nat.{ℕ, zero, suc, _+_, _*_, _^_, _≤_, _<_}
 use native.Mathlib.Omega.{arith}
 use lib.Dec.{T}
 use lib.ListN.{length, getD}
 use borrow.Author.Tests.{not-false, eq-eqb}
 use lib.IntN.{ℤ, pos, negsuc, _+ℤ_, _-ℤ_, _*ℤ_}
-use lib.Signed.{_≤ℤ_}
+use lib.Signed.{mag, _≤ℤ_}
+use mir.Syntax.{w32}
+use mir.Val.{toZ, ofZ}
 use Rattle.integers.specs.Differences.{Abs, gaps, parts, zrules, up, le-in, sum-is}
 use Rattle.integers.specs.Variables.{linear}
 use Rattle.integers.specs.Ring.{ring, quotes, solve}
+use Rattle.integers.specs.Words.{Holds, tower, bits}
 use Rattle.integers.specs.Fill.{fillBy, fill-length, fill-at}
 use Rattle.integers.specs.Vectors.{zero2, shift2, image, image-shift}
 use Rattle.integers.specs.declared.V3.{V3}
@@ -92,6 +95,11 @@ counts {r} {room} h {k} l =
 
     apart : (a t : ℤ) → pos 0 ≤ℤ a → up a < 24576 → pos 0 ≤ℤ (a +ℤ t) → up (a +ℤ t) < 24576 → Abs t 24576
     apart = linear 0 2 _ λ p m. simp (gaps, parts) (omega arith)
+
+-- so many strides, as the code counts them
+pub strides : {r : Run} {k : ℕ} → Counts r k → mag (r .stride) < 2 ^ 31
+    → Holds (toZ w32 k *ℤ toZ w32 (ofZ w32 (r .stride))) (pos k *ℤ r .stride) 24576
+strides {r} h l = record { eq = ap₂ _*ℤ_ (bits {n = 4096} tt (h .few) .eq) (tower (r .stride) l); le = h .far }
 
 -- ---- numbers in a box, along a vector
 
@@ -244,6 +252,18 @@ pub record Streaming (n : Nest) (s : Stream) (start : ℕ) (spans places : List 
   pub fits : start + length (elements n s) ≤ 24576
   pub words : length places ≡ 24576
 
+-- ---- the box of a stream's elements
+
+module _ {f : Flow} (h : Flows f) where
+  pub elements-spanning : Spanning (boxed (f .elements))
+  elements-spanning = subst Spanning (sym (h .elements-is)) (box-spanning (h .laid .in-range .nest) (h .laid .in-range .map))
+
+  pub stride-is : {c : ℤ} → c ≡ pos (size (f .elements .lo .b) (f .elements .hi .b))
+      → c *ℤ f .pass .a +ℤ f .pass .b ≡ strideOf (f .nest) (f .stream)
+  stride-is e =
+      ap (λ (c : ℤ). c *ℤ f .pass .a +ℤ f .pass .b) e
+      ∙ ap₂ (λ (k : Box) (v : V2). weigh k (v .a) (v .b)) (h .elements-is) (h .pass-is)
+
 -- ---- a computing process
 
 at-near : {f : Flow} {spans lanes : List ℕ} {p : ℕ} → Near f spans lanes p → T (computes (f .nest) p) → At f spans p
@@ -302,9 +322,6 @@ module _ {f : Flow} {start : ℕ} {spans lanes starts : List ℕ} {p : ℕ} (h :
 
   pub at-using : At f spans p
   at-using = at-near near-using (h .computing)
-
-  pub elements-spanning : Spanning (boxed (f .elements))
-  elements-spanning = subst Spanning (sym (flows .elements-is)) (box-spanning (flows .laid .in-range .nest) (flows .laid .in-range .map))
 
   -- its first element
   module _ {e : V2} (is : e ≡ image (s .map) (first n y)) where

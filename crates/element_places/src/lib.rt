@@ -129,7 +129,15 @@ fn run_of(f: Flow, spans: &[u32], lanes: &[u32], starts: &[u32], first: u32, p: 
 // ---- one stream
 
 // What process p says of a stream; a null process says nothing.
-fn put_process(f: Flow, spans: &[u32], lanes: &[u32], starts: &[u32], first: u32, p: usize, places: &mut [u32])
+fn put_process(
+    f: Flow,
+    spans: &[u32],
+    lanes: &[u32],
+    starts: &[u32],
+    first: u32,
+    p: usize,
+    places: &mut [u32],
+)
     requires { ⌜ Storing f first (now spans) (now lanes) (now starts) p (now places) ⌝ }
     ensures { λ r. ⌜ now (places .exit)
         ≡ spread (λ k. elementNumber (f .nest) (f .stream) first (runAt (f .nest) (processOf (f .nest) p) k))
@@ -142,7 +150,15 @@ fn put_process(f: Flow, spans: &[u32], lanes: &[u32], starts: &[u32], first: u32
 }
 
 // What all processes say.
-fn put_places(f: Flow, processes: u32, spans: &[u32], lanes: &[u32], starts: &[u32], first: u32, places: &mut [u32])
+fn put_places(
+    f: Flow,
+    processes: u32,
+    spans: &[u32],
+    lanes: &[u32],
+    starts: &[u32],
+    first: u32,
+    places: &mut [u32],
+)
     requires { ⌜ Saying f processes first (now spans) (now lanes) (now starts) (now places) ⌝ }
     ensures { λ r. ⌜ now (places .exit) ≡ said (f .nest) (f .stream) first processes (now (places .entry)) ⌝ }
 {
