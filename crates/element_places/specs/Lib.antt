@@ -1,4 +1,5 @@
--- Words stored at scattered places; where the element of an instance waits; the elements that a process uses.
+-- Where elements wait, as the processes say it; src/lib.rt has the list.
 pub mod Spread
 pub mod Order
 pub mod Runs
+pub mod Lent

@@ -7,7 +7,8 @@
 //   Spread    words stored at scattered places
 //   Order     the place of the element of an instance: `place-right`; `stream-right`: a stream's processes say the places of all its
 //             elements
-//   Runs      the elements that a process uses, by the first of them: `run-numbers`, `run-places`; what the functions are lent
+//   Runs      the elements that a process uses, by the first of them: `run-numbers`, `run-places`
+//   Lent      what the functions are lent, and what they find of a process
 ghost use mathlib.Core.Path.{_≡_};
 ghost use Prim.Native.Nat.{_+_, _≤_};
 ghost use lib.ListN.{length};
@@ -22,7 +23,8 @@ ghost use Rattle.lanes.specs.Flow.{Flows};
 ghost use Rattle.pipes.specs.Elements.{At};
 ghost use Rattle.element_places.specs.Spread.{spread};
 ghost use Rattle.element_places.specs.Order.{elementNumber, placeFor, usedBy, said, PlacesOf, Placeable};
-ghost use Rattle.element_places.specs.Runs.{numberAfter, Counts, Fits, strideOf, Soaking, Using, RunOf, Storing, Saying, Streaming};
+ghost use Rattle.element_places.specs.Runs.{numberAfter, Counts, Fits, strideOf, RunOf};
+ghost use Rattle.element_places.specs.Lent.{Soaking, Using, Storing, Saying, Streaming};
 use integers::V2;
 use lanes::Flow;
 use lanes::LANES;

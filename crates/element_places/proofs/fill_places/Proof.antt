@@ -8,7 +8,7 @@ use Rattle.meaning.specs.Description.{streamsOf}
 use Rattle.meaning.specs.Body.{streamStart}
 use Rattle.figures.specs.Shares.{start-all}
 use Rattle.element_places.specs.Order.{placeOfElement, none-before, next-right}
-use Rattle.element_places.specs.Runs.{stream-streaming}
+use Rattle.element_places.specs.Lent.{stream-streaming}
 use Rattle.element_places.proofs.fill_places.Statement.{statement}
 use Rattle.element_places.proofs.fill_places.Tie as tie
 

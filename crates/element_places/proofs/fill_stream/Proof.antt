@@ -9,7 +9,7 @@ use denote.Ref.{now}
 use Rattle.meaning.specs.declared.Nest.{Nest}
 use Rattle.layout.specs.Spans.{Spans}
 use Rattle.lanes.specs.Flow.{spanning, counted-is}
-use Rattle.element_places.specs.Runs.{streaming, placing, said-stream}
+use Rattle.element_places.specs.Lent.{streaming, placing, said-stream}
 use Rattle.element_places.proofs.fill_stream.Statement.{statement}
 use Rattle.element_places.proofs.fill_stream.Tie as tie
 

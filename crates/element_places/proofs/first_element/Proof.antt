@@ -1,5 +1,5 @@
--- `element_places::first_element` meets its contract: a computing process has a first instance, so that the word of its number plus one is not 0.
--- Assumes nothing.
+-- `element_places::first_element` meets its contract: a computing process has a first instance, so that the word of its number plus one is
+-- not 0. Assumes nothing.
 use borrow.Author.Needs.{needs}
 use mathlib.Core.Path.{_∙_, ap}
 use native.Mathlib.Omega.{arith}

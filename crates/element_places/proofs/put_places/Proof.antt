@@ -5,7 +5,7 @@ use Prim.Native.Nat.{ℕ, _-_, _≤_}
 use native.Mathlib.Omega.{arith}
 use lib.ListN.{length}
 use denote.Ref.{now}
-use Rattle.element_places.specs.Spread.{spread-length, spreads-zero, spreads-step}
+use Rattle.element_places.specs.Spread.{spreads-zero, spreads-step}
 use Rattle.element_places.specs.Order.{said}
 use Rattle.element_places.proofs.put_places.Statement.{statement}
 use Rattle.element_places.proofs.put_places.Tie as tie
@@ -43,7 +43,7 @@ loop-again c =
     let l = c .before .before .before .before .before .loop in
     let e = c .before .before .put-process .ensures in (
       omega (arith, c .before .before .before .before .loop-test .taken),
-      ap length e ∙ spread-length _ _ _ _ ∙ l .inv .1,
+      omega (arith, c .before .before .put-process .kept, l .inv .1),
       rw (spreads-step, ← l .inv .2) e,
     )
 

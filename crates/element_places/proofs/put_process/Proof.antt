@@ -1,6 +1,6 @@
 -- `element_places::put_process` meets its contract. Assumes nothing.
 use borrow.Author.Needs.{needs}
-use Rattle.element_places.specs.Runs.{storing-using, storing-fits, said-run, said-null}
+use Rattle.element_places.specs.Lent.{storing-using, storing-fits, said-run, said-null}
 use Rattle.element_places.proofs.put_process.Statement.{statement}
 use Rattle.element_places.proofs.put_process.Tie as tie
 

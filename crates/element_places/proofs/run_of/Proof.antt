@@ -6,7 +6,7 @@ use Prim.Native.Nat.{ℕ, _+_, _≤_}
 use native.Mathlib.Omega.{arith}
 use lib.IntN.{pos}
 use Rattle.integers.specs.Words.{bits, held}
-use Rattle.element_places.specs.Runs.{
+use Rattle.element_places.specs.Lent.{
   near-using,
   at-using,
   elements-spanning,

@@ -4,7 +4,7 @@ use mathlib.Core.Path.{sym, subst}
 use native.Mathlib.Omega.{arith}
 use lib.Dec.{T}
 use Rattle.pipes.specs.Elements.{going-against, soak-moving}
-use Rattle.element_places.specs.Runs.{soaking-at, soak-still}
+use Rattle.element_places.specs.Lent.{soaking-at, soak-still}
 use Rattle.element_places.proofs.soak_by.Statement.{statement}
 use Rattle.element_places.proofs.soak_by.Tie as tie
 

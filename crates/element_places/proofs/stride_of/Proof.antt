@@ -4,7 +4,7 @@ use mathlib.Core.Path.{_∙_}
 use Rattle.integers.specs.Words.{leaf, at, box, mul, add, fits}
 use Rattle.numbering.specs.Ranges.{apart-words}
 use Rattle.numbering.specs.Forms.{columns-are, columns-held}
-use Rattle.element_places.specs.Runs.{elements-spanning, stride-is}
+use Rattle.element_places.specs.Lent.{elements-spanning, stride-is}
 use Rattle.element_places.proofs.stride_of.Statement.{statement}
 use Rattle.element_places.proofs.stride_of.Tie as tie
 
@@ -20,7 +20,8 @@ cast-result c = search needs
 mul-result : tie.Need-mul-result
 mul-result c =
     let p = c .before .before .before .before .before .before .before .before .pre in
-    fits tt (mul (leaf (columns-held (elements-spanning p .second) (c .before .before .distance .ensures .0))) (at tt (p .pass-small .first)))
+    let columns = leaf (columns-held (elements-spanning p .second) (c .before .before .distance .ensures .0)) in
+    fits tt (mul columns (at tt (p .pass-small .first)))
 
 add-result-2 : tie.Need-add-result-2
 add-result-2 c =

@@ -2,7 +2,7 @@
 use borrow.Author.Needs.{needs}
 use mathlib.Core.Path.{sym, subst}
 use lib.Dec.{T}
-use Rattle.element_places.specs.Runs.{all-used, one-used}
+use Rattle.element_places.specs.Lent.{all-used, one-used}
 use Rattle.element_places.proofs.used_by.Statement.{statement}
 use Rattle.element_places.proofs.used_by.Tie as tie
 
