@@ -8,7 +8,7 @@ use lib.Dec.{T}
 use lib.ListN.{length, getD}
 use borrow.Author.Tests.{not-false, eq-eqb}
 use lib.IntN.{ℤ, pos, _+ℤ_, _*ℤ_}
-use Rattle.integers.specs.Differences.{parts, up}
+use Rattle.integers.specs.Differences.{up}
 use Rattle.integers.specs.Fill.{fillBy, fill-length, fill-at}
 use Rattle.integers.specs.Vectors.{image}
 use Rattle.integers.specs.declared.V2.{V2}
