@@ -2,14 +2,12 @@
 use mathlib.Core.Path.{sym, subst}
 use mathlib.Core.Logic.{inl, inr}
 use Prim.Native.Nat.{ℕ}
-use native.Mathlib.Omega.{arith}
 use lib.IntN.{ℤ}
-use Rattle.integers.specs.Differences.{Abs}
 use Rattle.integers.specs.declared.V3.{V3}
 use Rattle.integers.specs.declared.Matrix.{Matrix}
 use Rattle.meaning.specs.declared.Nest.{Nest}
 use Rattle.meaning.specs.declared.Stream.{Stream}
-use Rattle.meaning.specs.Points.{Directed, Direction.onward, Direction.back, Direction as Way}
+use Rattle.meaning.specs.Points.{Direction.onward, Direction.back, Direction as Way}
 use Rattle.vectors.specs.Within.{Within, Within2, Rows}
 use Rattle.decode.specs.Ranged.{Abs3, AbsMatrix, Direction, RangedNest, RangedStream}
 use Rattle.numbering.specs.Ranges.{Bounded}
@@ -48,12 +46,3 @@ nest-bounded h =
 pub in-range : {n : Nest} {s : Stream} → RangedNest n → RangedStream s → InRange n s
 in-range h k =
     record { nest = nest-bounded h; map = rows (k .map); loading = record { first = k .loading .a; second = k .loading .b } }
-
--- ---- directions
-
-one : {d : ℤ} → Way d → Abs d 1
-one onward = record { abs = omega arith }
-one back = record { abs = omega arith }
-
-pub directions-small : {n : Nest} → Directed n → Within 1 (n .direction)
-directions-small h = record { xs = one (h .outer); ys = one (h .middle); zs = one (h .inner) }

@@ -1,15 +1,12 @@
--- Tests on small words as the code makes them: of zero by the bits, of −1 to 1 by the magnitude; the step of a line. Assumes nothing.
+-- Tests on small words as the code makes them: chains of them, and of −1 to 1 by the magnitude; the step of a line. Assumes nothing.
 use mathlib.Core.Path.{_≡_, refl, sym, _∙_, ap}
 use mathlib.Core.Bool.{Bool, true, false, _&&_}
-use Prim.Native.Nat.{ℕ, suc, _^_}
+use Prim.Native.Nat.{suc}
 use native.Mathlib.Omega.{arith}
-use lib.Dec.{T, eqb, leb, ltb}
+use lib.Dec.{leb}
 use borrow.Author.Tests.{leb-true, leb-false, le-leb, lt-leb}
 use lib.IntN.{ℤ, pos, negsuc, natAbs}
-use mir.Syntax.{w32}
-use mir.Val.{ofZ}
-use Rattle.integers.specs.Differences.{Abs, up}
-use Rattle.integers.specs.Words.{eqZ, eq-test, leaf, lit}
+use Rattle.integers.specs.Differences.{up}
 use Rattle.integers.specs.declared.Matrix.{Matrix}
 use Rattle.meaning.specs.declared.Nest.{Nest}
 use Rattle.meaning.specs.Loops.{stepOf, lineOf}
@@ -26,9 +23,6 @@ pub and-stops : {f a : Bool} (b : Bool) → f ≡ a → f ≡ false → f ≡ a 
 and-stops b e t = t ∙ ap (λ (x : Bool). x && b) (sym (sym e ∙ t))
 
 -- ---- words
-
-pub zero-bits : {z : ℤ} {n : ℕ} → T (ltb n (2 ^ 31)) → Abs z n → eqb (ofZ w32 z) 0 ≡ eqZ z (pos 0)
-zero-bits t h = eq-test t tt (leaf h) (lit (pos 0))
 
 pub small-is : (z : ℤ) → leb (natAbs z) 1 ≡ small z
 small-is (pos a) = refl

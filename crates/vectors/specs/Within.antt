@@ -1,12 +1,20 @@
 -- Vectors whose components lie between −n and n. Assumes nothing.
-use Prim.Native.Nat.{ℕ}
-use lib.Dec.{T, leb}
+use mathlib.Core.Path.{_≡_}
+use Prim.Native.Nat.{ℕ, _^_}
+use native.Mathlib.Omega.{arith}
+use lib.Dec.{T, eqb, leb, ltb}
+use lib.IntN.{ℤ, pos}
+use mir.Syntax.{w32}
+use mir.Val.{ofZ}
 use Rattle.integers.specs.Differences.{Abs}
 use Rattle.integers.specs.Bounds.{Abs-wider, Abs-quot}
+use Rattle.integers.specs.Words.{eqZ, eq-test, leaf, lit}
 use Rattle.integers.specs.declared.V3.{V3}
 use Rattle.integers.specs.declared.V2.{V2}
 use Rattle.integers.specs.declared.Matrix.{Matrix}
 use Rattle.lattice.specs.Shorten.{over}
+use Rattle.meaning.specs.declared.Nest.{Nest}
+use Rattle.meaning.specs.Points.{Direction, Direction.onward, Direction.back, Directed}
 
 pub record Within (n : ℕ) (v : V3) : Type 0 where
   pub xs : Abs (v .x) n
@@ -28,3 +36,15 @@ wider t h = record { xs = Abs-wider t (h .xs); ys = Abs-wider t (h .ys); zs = Ab
 -- a divided vector is no longer
 pub over-within : {v : V3} {n : ℕ} (d : ℕ) → Within n v → Within n (over v d)
 over-within d h = record { xs = Abs-quot d (h .xs); ys = Abs-quot d (h .ys); zs = Abs-quot d (h .zs) }
+
+-- so small a number is 0 exactly if its bits are
+pub zero-bits : {z : ℤ} {n : ℕ} → T (ltb n (2 ^ 31)) → Abs z n → eqb (ofZ w32 z) 0 ≡ eqZ z (pos 0)
+zero-bits t h = eq-test t tt (leaf h) (lit (pos 0))
+
+-- directions are 1 or −1
+one : {d : ℤ} → Direction d → Abs d 1
+one onward = record { abs = omega arith }
+one back = record { abs = omega arith }
+
+pub directions-small : {n : Nest} → Directed n → Within 1 (n .direction)
+directions-small h = record { xs = one (h .outer); ys = one (h .middle); zs = one (h .inner) }

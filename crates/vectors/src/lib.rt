@@ -1,10 +1,11 @@
 // Vectors of small words, as the tests of Accept use them: dot and cross product, the image under a matrix, a vector some steps on, line
-// and divisor of a matrix.
+// and divisor of a matrix, and whether a vector leads back in the written order.
 ghost use mathlib.Core.Path.{_≡_};
 ghost use Prim.Native.Nat.{_≤_};
 ghost use lib.IntN.{pos, _-ℤ_, _*ℤ_};
 ghost use Rattle.integers.specs.Differences.{Abs};
 ghost use Rattle.integers.specs.Vectors.{dot, cross, neg3, neg2, shift3, shift2, image};
+ghost use Rattle.meaning.specs.Accept.{against};
 ghost use Rattle.meaning.specs.Limits.{gaugeLimits};
 ghost use Rattle.meaning.specs.Loops.{turn, shortOf, lineOf};
 ghost use Rattle.vectors.specs.Within.{Within, Rows, Within2};
@@ -134,4 +135,20 @@ pub fn line_of(n: Nest, m: Matrix) -> V3
     let v = short.vector;
     let step = n.step;
     turned(step, v)
+}
+
+// Whether the first non-zero component of v has the other sign than the direction of that loop.
+pub fn against(direction: V3, v: V3) -> bool
+    requires { ⌜ (Within 1 direction) × (Within 200 v) ⌝ }
+    ensures { λ r. ⌜ r ≡ against direction v ⌝ }
+{
+    if v.x == 0 {
+        if v.y == 0 {
+            direction.z * v.z < 0
+        } else {
+            direction.y * v.y < 0
+        }
+    } else {
+        direction.x * v.x < 0
+    }
 }

@@ -2,7 +2,7 @@
 use mathlib.Core.Path.{_∙_, ap}
 use lib.IntN.{ℤ, pos}
 use Rattle.integers.specs.Words.{eqZ}
-use Rattle.stream_lines.specs.Small.{zero-bits}
+use Rattle.vectors.specs.Within.{zero-bits}
 use borrow.Author.Needs.{needs}
 use Rattle.stream_lines.proofs.still.Statement.{statement}
 use Rattle.stream_lines.proofs.still.Tie as tie

@@ -1,6 +1,7 @@
 -- `stream_lines::zero2` meets its contract. Assumes nothing.
 use borrow.Author.Tests.{eq-eqb, ne-eqb}
-use Rattle.stream_lines.specs.Small.{and-goes, and-stops, zero-bits}
+use Rattle.vectors.specs.Within.{zero-bits}
+use Rattle.stream_lines.specs.Small.{and-goes, and-stops}
 use Rattle.stream_lines.proofs.zero2.Statement.{statement}
 use Rattle.stream_lines.proofs.zero2.Tie as tie
 

@@ -1,7 +1,8 @@
 -- `stream_lines::zero3` meets its contract: a component within 200 is 0 exactly if its bits are. Assumes nothing.
 use mathlib.Core.Path.{_∙_, sym}
 use borrow.Author.Tests.{eq-eqb, ne-eqb}
-use Rattle.stream_lines.specs.Small.{and-goes, and-stops, zero-bits}
+use Rattle.vectors.specs.Within.{zero-bits}
+use Rattle.stream_lines.specs.Small.{and-goes, and-stops}
 use Rattle.stream_lines.proofs.zero3.Statement.{statement}
 use Rattle.stream_lines.proofs.zero3.Tie as tie
 

@@ -2,7 +2,7 @@
 -- a stream not written is never refused. Assumes nothing.
 use mathlib.Core.Path.{refl, _∙_, ap}
 use Rattle.meaning.specs.Accept.{against}
-use Rattle.stream_lines.specs.InRange.{directions-small}
+use Rattle.vectors.specs.Within.{directions-small}
 use Rattle.stream_lines.specs.Small.{and-goes}
 use borrow.Author.Needs.{needs}
 use Rattle.stream_tests.proofs.order_refused.Statement.{statement}

@@ -1,13 +1,13 @@
--- `stream_tests::against` meets its contract: a direction times a component of at most 200 fits a word, and so small a component is 0
+-- `vectors::against` meets its contract: a direction times a component of at most 200 fits a word, and so small a component is 0
 -- exactly if its bits are. Assumes nothing.
 use mathlib.Core.Path.{sym, _∙_, ap}
 use lib.IntN.{ℤ, pos}
 use lib.Signed.{ltZ}
 use borrow.Author.Tests.{eq-eqb, ne-eqb}
 use Rattle.integers.specs.Words.{at, box, mul, fits}
-use Rattle.stream_lines.specs.Small.{zero-bits}
-use Rattle.stream_tests.proofs.against.Statement.{statement}
-use Rattle.stream_tests.proofs.against.Tie as tie
+use Rattle.vectors.specs.Within.{zero-bits}
+use Rattle.vectors.proofs.against.Statement.{statement}
+use Rattle.vectors.proofs.against.Tie as tie
 
 mul-result : tie.Need-mul-result
 mul-result c =
