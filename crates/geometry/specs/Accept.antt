@@ -146,3 +146,21 @@ line-leads {n} {u} d line t = go (line-onward d line t)
     go (by-first h) = by-outer (from (n .direction .x) (u .x) h)
     go (by-second x h) = by-middle (sym x) (from (n .direction .y) (u .y) h)
     go (by-third x y h) = by-inner (sym x) (sym y) (from (n .direction .z) (u .z) h)
+
+-- and a vector that the test finds against the directions leads back
+pub against-back : (d u : V3) → T (against d u) → Earlier d u zero3
+against-back d u t = outer (eqZ (u .x) (pos 0)) (eqZ-eq (u .x) (pos 0)) t
+  where
+    from : (c w : ℤ) → (c *ℤ w) <ℤ pos 0 → (c *ℤ w) <ℤ (c *ℤ pos 0)
+    from = linear 0 2 _ λ p m. simp gaps (omega arith)
+
+    middle : u .x ≡ pos 0 → (b : Bool) → (T b → u .y ≡ pos 0)
+        → T (cond b (ltZ (d .z *ℤ u .z) (pos 0)) (ltZ (d .y *ℤ u .y) (pos 0))) → Earlier d u zero3
+    middle e true f t = by-inner e (f tt) (from (d .z) (u .z) (record { lt = t }))
+    middle e false f t = by-middle e (from (d .y) (u .y) (record { lt = t }))
+
+    outer : (b : Bool) → (T b → u .x ≡ pos 0)
+        → T (cond b (cond (eqZ (u .y) (pos 0)) (ltZ (d .z *ℤ u .z) (pos 0)) (ltZ (d .y *ℤ u .y) (pos 0))) (ltZ (d .x *ℤ u .x) (pos 0)))
+        → Earlier d u zero3
+    outer true f t = middle (f tt) (eqZ (u .y) (pos 0)) (eqZ-eq (u .y) (pos 0)) t
+    outer false f t = by-outer (from (d .x) (u .x) (record { lt = t }))

@@ -1,10 +1,12 @@
--- The best member of a list is a member, and none is better, for a test that goes by an order. Assumes nothing.
-use mathlib.Core.Path.{_≡_, refl, sym, subst}
+-- The best member of a list is a member, and none is better, for a test that goes by an order; in a sorted list it stands at an end.
+-- Assumes nothing.
+use mathlib.Core.Path.{_≡_, refl, sym, _∙_, ap, subst}
 use mathlib.Core.Logic.{_⊎_, inl, inr}
 use mathlib.Core.Bool.{Bool, true, false, not, cond}
 use mathlib.Core.List.{List, [], _∷_, List·Memᴰ as In, List·Memᴰ·head as here, List·Memᴰ·tail as there}
 use lib.Dec.{T}
 use Rattle.meaning.specs.Lists.{best, bestOr}
+use Rattle.meaning.specs.Sorted.{Sorted, Sorted.none, Sorted.more}
 
 module _ {A : Type 0} (better : A → A → Bool) where
   best-in : (x : A) (l : List A) → (best better x l ≡ x) ⊎ In (best better x l) l
@@ -61,3 +63,30 @@ module _ {A : Type 0} (better : A → A → Bool) where
     bestOr-le d {z} [] h = elim h [ ]
     bestOr-le d {z} (y ∷ l) (here e) = subst (λ w. Le (best better y l) w) (sym e) (best-start y l)
     bestOr-le d {z} (y ∷ l) (there k) = best-le y l k
+
+-- ---- sorted lists
+
+module _ {A : Type 0} where
+  -- the last member, or the first one, d if there is none
+  unfoldable pub endOr : Bool → A → List A → A
+  endOr last d [] = d
+  endOr last d (x ∷ l) = cond last (endOr last x l) x
+
+  module _ (better : A → A → Bool) where
+    best-last : (x : A) {l : List A} → Sorted (λ u v. better v u ≡ true) (x ∷ l) → best better x l ≡ endOr true x l
+    unfolding best endOr
+    best-last x {l = []} s = refl
+    best-last x {l = y ∷ l} (more h s) = ap (λ (b : Bool). best better (cond b y x) l) (h y (here refl)) ∙ best-last y s
+
+    best-first : (x : A) {l : List A} → Sorted (λ u v. better v u ≡ false) (x ∷ l) → best better x l ≡ x
+    unfolding best
+    best-first x {l = []} s = refl
+    best-first x {l = y ∷ l} (more h (more k s)) =
+        ap (λ (b : Bool). best better (cond b y x) l) (h y (here refl)) ∙ best-first x (more (λ z i. h z (there i)) s)
+
+    -- where each member is better than all before it the last is the best, where none is, the first
+    pub bestOr-end : (last : Bool) (d : A) {l : List A} → Sorted (λ u v. better v u ≡ last) l → bestOr d better l ≡ endOr last d l
+    unfolding bestOr endOr
+    bestOr-end last d none = refl
+    bestOr-end true d (more {x} h s) = best-last x (more h s)
+    bestOr-end false d (more {x} h s) = best-first x (more h s)

@@ -20,6 +20,7 @@ pub mod Soaks
 pub mod Clock
 pub mod Order
 pub mod Accept
+pub mod Ends
 pub mod Descriptions
 pub mod UpTo
 pub mod TwoLoops

@@ -1,17 +1,17 @@
--- Along the line of a written stream the written order and the order of steps are one. Assumes directions of 1 or −1, and that the line
--- leads on in the written order, which refusal 15 leaves.
+-- Along a line that leads on in the written order, as refusal 15 leaves the lines of written streams, the written order and the order of
+-- steps are one; along a line that leads back, the written order is the other way round. Assumes directions of 1 or −1.
 use mathlib.Core.Path.{_≡_, sym, _∙_, ap, subst}
 use mathlib.Core.Logic.{_⊎_, inl, inr}
 use mathlib.Core.Bool.{not}
 use Prim.Native.Nat.{ℕ, zero, suc, _<_}
 use native.Mathlib.Omega.{arith}
 use lib.Dec.{T}
-use lib.IntN.{ℤ, pos, _+ℤ_, _*ℤ_}
+use lib.IntN.{ℤ, pos, negℤ, _+ℤ_, _*ℤ_}
 use lib.Signed.{_<ℤ_, ltZ, ltZ-no, <ℤ-irrefl}
 use Rattle.integers.specs.Differences.{gaps, eq-out, lt-in}
 use Rattle.integers.specs.Variables.{linear}
 use Rattle.integers.specs.Order.{mul-positive}
-use Rattle.integers.specs.Vectors.{zero3, shift3, shift2, image, image-shift}
+use Rattle.integers.specs.Vectors.{zero3, neg3, shift3, shift2, image, image-shift}
 use Rattle.integers.specs.declared.V3.{V3}
 use Rattle.integers.specs.declared.Matrix.{Matrix}
 use Rattle.meaning.specs.declared.Nest.{Nest}
@@ -48,25 +48,42 @@ on-later d u x t (by-inner e f r) =
     (runs-on (d .z) (u .z) (x .z) t r)
 
 -- G9: of two instances that touch one element, the one of smaller step is the earlier in the written order, and the other way round
-module _ {n : Nest} {m : Matrix} {u : V3} (lin : Line n m u) (leads : Earlier (n .direction) zero3 u) where
-  pub step-earlier : (x x' : V3) → image m x ≡ image m x' → stepOf n x <ℤ stepOf n x' → Earlier (n .direction) x x'
+module _ {n : Nest} {m : Matrix} {u : V3} (lin : Line n m u) {d : V3} (leads : Earlier d zero3 u) where
+  pub step-earlier : (x x' : V3) → image m x ≡ image m x' → stepOf n x <ℤ stepOf n x' → Earlier d x x'
   step-earlier x x' e h = go (ahead-of lin x x' e (lt-le h) .at) (ahead-of lin x x' e (lt-le h) .eq)
     where
-      go : (i : ℕ) → x' ≡ shift3 x (pos i) u → Earlier (n .direction) x x'
+      go : (i : ℕ) → x' ≡ shift3 x (pos i) u → Earlier d x x'
       go zero e = absurd (<ℤ-irrefl (subst (λ (w : V3). stepOf n x <ℤ stepOf n w) (e ∙ zero-shift3 x u) h))
-      go (suc t) e = subst (Earlier (n .direction) x) (sym e) (on-later (n .direction) u x t leads)
+      go (suc t) e = subst (Earlier d x) (sym e) (on-later d u x t leads)
 
-  pub earlier-step : (x x' : V3) → image m x ≡ image m x' → Earlier (n .direction) x x' → stepOf n x <ℤ stepOf n x'
+  pub earlier-step : (x x' : V3) → image m x ≡ image m x' → Earlier d x x' → stepOf n x <ℤ stepOf n x'
   earlier-step x x' e k = go (decide (ltZ (stepOf n x) (stepOf n x')))
     where
       not-ahead : (i : ℕ) → x ≡ shift3 x' (pos i) u → ⊥
-      not-ahead zero e = earlier-irr (n .direction) x (subst (Earlier (n .direction) x) (sym (e ∙ zero-shift3 x' u)) k)
+      not-ahead zero e = earlier-irr d x (subst (Earlier d x) (sym (e ∙ zero-shift3 x' u)) k)
       not-ahead (suc t) e =
-          earlier-asym (n .direction) x x' k (subst (Earlier (n .direction) x') (sym e) (on-later (n .direction) u x' t leads))
+          earlier-asym d x x' k (subst (Earlier d x') (sym e) (on-later d u x' t leads))
 
       go : T (ltZ (stepOf n x) (stepOf n x')) ⊎ T (not (ltZ (stepOf n x) (stepOf n x'))) → stepOf n x <ℤ stepOf n x'
       go (inl t) = record { lt = t }
       go (inr t) = let r = ahead-of lin x' x (sym e) (ltZ-no t) in absurd (not-ahead (r .at) (r .eq))
+
+-- the written order of directions turned round is the written order turned round
+turned : {d p q : V3} → Earlier d p q → Earlier (neg3 d) q p
+turned {d} {p} {q} h = go h
+  where
+    flip : (d a b : ℤ) → Precedes d a b → Precedes (negℤ d) b a
+    flip = linear 0 3 _ λ p m. simp gaps (omega arith)
+
+    go : Earlier d p q → Earlier (neg3 d) q p
+    go (by-outer r) = by-outer (flip (d .x) (p .x) (q .x) r)
+    go (by-middle e r) = by-middle (sym e) (flip (d .y) (p .y) (q .y) r)
+    go (by-inner e f r) = by-inner (sym e) (sym f) (flip (d .z) (p .z) (q .z) r)
+
+-- so along a line that leads back the earlier one is of greater step
+pub earlier-later : {n : Nest} {m : Matrix} {u : V3} → Line n m u → Earlier (n .direction) u zero3
+    → (x x' : V3) → image m x ≡ image m x' → Earlier (n .direction) x x' → stepOf n x' <ℤ stepOf n x
+earlier-later lin leads x x' e k = earlier-step lin (turned leads) x' x (sym e) (turned k)
 
 -- G9 on the network: of two instances that touch one element of a written stream, the earlier in the written order
 module _ {n : Nest} {s : Stream} (h : Accepted n s) (leads : Earlier (n .direction) zero3 (line n s)) {x x' : V3} (w : Within n x)

@@ -16,7 +16,8 @@
 //   soak and drain     Soaks: `soak-first`, `drain-last`; of a moving stream `soak-is`, `drain-is`, `element-at`, `total-is` (G5), of a
 //                      stationary one `soak-rank`, `still-total` (G6)
 //   the clock          Clock: `clock` (G8)
-//   written order      Order: `step-earlier`, `earlier-step`, `written-moving`, `written-still` (G9)
+//   written order      Order: `step-earlier`, `earlier-step`, `written-moving`, `written-still` (G9); Ends: `first-met`, `last-met`: a
+//                      process's first and last instance are those met first and last, or last and first
 //   the report         Report: equations (3), (4), (8), (9), (10); (2) is `box-basis` of Boxes
 //   two loops          TwoLoops: that the padded third loop changes nothing
 //   divisors           Divisors: those of a description's streams in their list
