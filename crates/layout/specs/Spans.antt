@@ -1,12 +1,11 @@
 -- What the words of the processes say: of each, by its number, its count, and its first and its last instance by their numbers in the
 -- written order plus one, 0 for none. Assumes nothing.
-use mathlib.Core.Path.{_≡_, refl, sym, _∙_, ap}
-use mathlib.Core.Bool.{Bool, true, false}
-use mathlib.Core.List.{List, [], _∷_, _++_, map}
+use mathlib.Core.Path.{_≡_, refl, sym, _∙_, ap, subst}
+use mathlib.Core.Bool.{Bool, not}
+use mathlib.Core.List.{List, [], _∷_, _++_}
 use Prim.Native.Nat.{ℕ, zero, suc, _+_, _≤_, _<_, _*_}
 use native.Mathlib.Omega.{arith}
-use lib.ListN.{length, getD, take, length-append, length-map}
-use lib.IntN.{ℤ}
+use lib.ListN.{length, getD, take}
 use borrow.Rule.Slice.PartMut.{putMid, midOf, mid-len}
 use Rattle.meaning.specs.Limits.{gaugeLimits}
 use Rattle.integers.specs.Fill.{fillBy}
@@ -15,13 +14,14 @@ use Rattle.integers.specs.declared.V3.{V3}
 use Rattle.integers.specs.declared.V2.{V2}
 use Rattle.meaning.specs.declared.Nest.{Nest}
 use Rattle.meaning.specs.Lists.{bestOr}
-use Rattle.meaning.specs.Loops.{instances as instancesOf, stepOf}
+use Rattle.meaning.specs.Loops.{instances as instancesOf, increment}
 use Rattle.meaning.specs.Space.{Box, points, space, processes, sentTo, countOf, sooner, later, firstOf, lastOf, count, first, last}
-use Rattle.meaning.specs.Points.{Directed}
+use Rattle.meaning.specs.Accept.{against}
+use Rattle.geometry.specs.Processes.{Layout}
 use Rattle.numbering.specs.Numbers.{numbersOf}
 use Rattle.sweeps.specs.Sweep.{Listed, countIn}
-use Rattle.sweeps.specs.Chosen.{bestIn}
-use Rattle.sweeps.specs.Tables.{Table, Steps, filled-table, counts-are, firsts-are, lasts-are, chosen-absent}
+use Rattle.sweeps.specs.Met.{endIn}
+use Rattle.sweeps.specs.Tables.{Table, filled-table, counts-are, firsts-are, lasts-are, ends-absent}
 use Rattle.layout.specs.Parts.{put-before, whole-length, part-at}
 
 -- the words of the processes: counts, first and last instances
@@ -36,6 +36,10 @@ abbrev pub numbered : Nest → ℕ → V3
 numbered n zero = zero3
 numbered n (suc k) = getD (instancesOf n) k zero3
 
+-- the increment leads back in the written order
+abbrev pub leadsBack : Nest → Bool
+leadsBack n = against (n .direction) (increment n)
+
 -- 1,024 words each for the counts, the first and the last instances
 pub record Spans (n : Nest) (w : List ℕ) : Type 0 where
   pub counts : (p : ℕ) → p < length (processes n) → getD w p 0 ≡ count n (processOf n p)
@@ -46,31 +50,30 @@ pub record Spans (n : Nest) (w : List ℕ) : Type 0 where
   pub lasts : (p : ℕ) → p < length (processes n) → numbered n (getD w (2048 + p) 0) ≡ last n (processOf n p)
   pub last-some : (p : ℕ) → p < length (processes n) → 0 < count n (processOf n p) → 0 < getD w (2048 + p) 0
 
--- ---- by the tables of the instances' processes and steps
+-- ---- by the table of the instances' processes
 
 -- what the passes over the instances are lent
-pub record Sweepable (numbers : List ℕ) (instances : ℕ) (steps : List ℤ) (processes : ℕ) (spans : List ℕ) : Type 0 where
+pub record Sweepable (numbers : List ℕ) (instances processes : ℕ) (spans : List ℕ) : Type 0 where
   pub table : Listed numbers instances processes
-  pub timed : instances ≤ length steps
   pub few : processes ≤ 1024
   pub words : length spans ≡ 3072
 
 -- and what they leave
-pub record Swept (numbers : List ℕ) (instances : ℕ) (steps : List ℤ) (processes : ℕ) (spans : List ℕ) : Type 0 where
+pub record Swept (numbers : List ℕ) (instances : ℕ) (back : Bool) (processes : ℕ) (spans : List ℕ) : Type 0 where
   pub counts : (p : ℕ) → p < processes → getD spans p 0 ≡ countIn (take instances numbers) p
-  pub firsts : (p : ℕ) → p < processes → getD spans (1024 + p) 0 ≡ bestIn steps false (take instances numbers) p
-  pub lasts : (p : ℕ) → p < processes → getD spans (2048 + p) 0 ≡ bestIn steps true (take instances numbers) p
+  pub firsts : (p : ℕ) → p < processes → getD spans (1024 + p) 0 ≡ endIn back (take instances numbers) p
+  pub lasts : (p : ℕ) → p < processes → getD spans (2048 + p) 0 ≡ endIn (not back) (take instances numbers) p
 
 -- three parts filled one after the other
-pub swept : (numbers : List ℕ) (instances : ℕ) (steps : List ℤ) (n : ℕ) (xs a b c : List ℕ) → Sweepable numbers instances steps n xs
+pub swept : (numbers : List ℕ) (instances : ℕ) (back : Bool) (n : ℕ) (xs a b c : List ℕ) → Sweepable numbers instances n xs
     → a ≡ fillBy (countIn (take instances numbers)) n (midOf 0 1024 xs)
-    → b ≡ fillBy (bestIn steps false (take instances numbers)) n (midOf 1024 1024 (putMid 0 1024 xs a))
-    → c ≡ fillBy (bestIn steps true (take instances numbers)) n (midOf 2048 1024 (putMid 1024 1024 (putMid 0 1024 xs a) b))
-    → Swept numbers instances steps n (putMid 2048 1024 (putMid 1024 1024 (putMid 0 1024 xs a) b) c)
-swept numbers instances steps n xs a b c s ea eb ec =
+    → b ≡ fillBy (endIn back (take instances numbers)) n (midOf 1024 1024 (putMid 0 1024 xs a))
+    → c ≡ fillBy (endIn (not back) (take instances numbers)) n (midOf 2048 1024 (putMid 1024 1024 (putMid 0 1024 xs a) b))
+    → Swept numbers instances back n (putMid 2048 1024 (putMid 1024 1024 (putMid 0 1024 xs a) b) c)
+swept numbers instances back n xs a b c s ea eb ec =
     let f = countIn (take instances numbers) in
-    let g = bestIn steps false (take instances numbers) in
-    let h = bestIn steps true (take instances numbers) in
+    let g = endIn back (take instances numbers) in
+    let h = endIn (not back) (take instances numbers) in
     let xa = putMid 0 1024 xs a in
     let xb = putMid 1024 1024 xa b in
     let la : length xa ≡ 3072 = whole-length f n 0 1024 xs a ea (omega (arith, s .words)) ∙ s .words in
@@ -98,19 +101,16 @@ last-room f g n xs a b few long ea eb =
 
 -- ---- document 01's words
 
--- there is a step for each instance
-pub steps-long : (n : Nest) {steps : List ℤ} {instances : ℕ} (rest : List ℤ) → steps ≡ map (λ x. stepOf n x) (instancesOf n) ++ rest
-    → instances ≡ length (instancesOf n) → instances ≤ length steps
-steps-long n rest e c =
-    omega (arith, ap length e, length-append (map (λ x. stepOf n x) (instancesOf n)) rest, length-map (instancesOf n) (λ x. stepOf n x))
-
 -- the table of the instances' processes, as the code has made it
 pub process-table : {n : Nest} {table : List ℕ} {instances size : ℕ} {k : Box} (rest : List ℕ) → table ≡ numbersOf n (n .place) ++ rest
     → instances ≡ length (instancesOf n) → size ≡ length (points k) → k ≡ space n → Table n (n .place) table instances size
 process-table rest e c z b = filled-table rest e c (z ∙ ap (λ (k : Box). length (points k)) b)
 
-module _ {n : Nest} {numbers : List ℕ} {instances : ℕ} {steps : List ℤ} {size : ℕ} {spans : List ℕ} (dirs : Directed n)
-    (t : Table n (n .place) numbers instances size) (s : Steps n steps) (w : Swept numbers instances steps size spans) where
+module _ {n : Nest} {numbers : List ℕ} {instances size : ℕ} {back : Bool} {spans : List ℕ} (layout : Layout n)
+    (t : Table n (n .place) numbers instances size) (b : back ≡ leadsBack n) (s : Swept numbers instances back size spans) where
+  w : Swept numbers instances (leadsBack n) size spans
+  w = subst (λ (b : Bool). Swept numbers instances b size spans) b s
+
   lt : (p : ℕ) → p < length (processes n) → p < size
   lt p l = omega (arith, t .sized)
 
@@ -123,31 +123,31 @@ module _ {n : Nest} {numbers : List ℕ} {instances : ℕ} {steps : List ℤ} {s
       go [] e = refl
       go (x ∷ l) e = absurd (omega arith)
 
-  first-at : (p : ℕ) → p < length (processes n) → (k : ℕ) → bestIn steps false (take instances numbers) p ≡ k
+  first-at : (p : ℕ) → p < length (processes n) → (k : ℕ) → endIn (leadsBack n) (take instances numbers) p ≡ k
       → (k ≤ length (instancesOf n)) × (numbered n k ≡ first n (processOf n p))
   unfolding firstOf
-  first-at p l zero e = (omega arith, sym (none (sooner n) (processOf n p) (chosen-absent dirs t steps false p (lt p l) e)))
-  first-at p l (suc k) e = let i = firsts-are dirs t s p k (lt p l) e in (i .lt, i .is)
+  first-at p l zero e = (omega arith, sym (none (sooner n) (processOf n p) (ends-absent (layout .dirs) t (leadsBack n) p (lt p l) e)))
+  first-at p l (suc k) e = let i = firsts-are (layout .dirs) t (layout .inc) p k (lt p l) e in (i .lt, i .is)
 
-  last-at : (p : ℕ) → p < length (processes n) → (k : ℕ) → bestIn steps true (take instances numbers) p ≡ k
+  last-at : (p : ℕ) → p < length (processes n) → (k : ℕ) → endIn (not (leadsBack n)) (take instances numbers) p ≡ k
       → (k ≤ length (instancesOf n)) × (numbered n k ≡ last n (processOf n p))
   unfolding lastOf
-  last-at p l zero e = (omega arith, sym (none (later n) (processOf n p) (chosen-absent dirs t steps true p (lt p l) e)))
-  last-at p l (suc k) e = let i = lasts-are dirs t s p k (lt p l) e in (i .lt, i .is)
+  last-at p l zero e = (omega arith, sym (none (later n) (processOf n p) (ends-absent (layout .dirs) t (not (leadsBack n)) p (lt p l) e)))
+  last-at p l (suc k) e = let i = lasts-are (layout .dirs) t (layout .inc) p k (lt p l) e in (i .lt, i .is)
 
-  some : (last : Bool) (p : ℕ) → p < length (processes n) → (k : ℕ) → bestIn steps last (take instances numbers) p ≡ k
+  some : (last : Bool) (p : ℕ) → p < length (processes n) → (k : ℕ) → endIn last (take instances numbers) p ≡ k
       → 0 < count n (processOf n p) → 0 < k
-  some last p l zero e h = absurd (omega (arith, chosen-absent dirs t steps last p (lt p l) e))
+  some last p l zero e h = absurd (omega (arith, ends-absent (layout .dirs) t last p (lt p l) e))
   some last p l (suc k) e h = omega arith
 
-  pub chosen-are : Spans n spans
-  chosen-are =
+  pub ends-are : Spans n spans
+  ends-are =
       record {
-        counts = λ p l. w .counts p (lt p l) ∙ counts-are dirs t p (lt p l);
+        counts = λ p l. w .counts p (lt p l) ∙ counts-are (layout .dirs) t p (lt p l);
         first-le = λ p l. first-at p l (getD spans (1024 + p) 0) (sym (w .firsts p (lt p l))) .0;
         firsts = λ p l. first-at p l (getD spans (1024 + p) 0) (sym (w .firsts p (lt p l))) .1;
-        first-some = λ p l. some false p l (getD spans (1024 + p) 0) (sym (w .firsts p (lt p l)));
+        first-some = λ p l. some (leadsBack n) p l (getD spans (1024 + p) 0) (sym (w .firsts p (lt p l)));
         last-le = λ p l. last-at p l (getD spans (2048 + p) 0) (sym (w .lasts p (lt p l))) .0;
         lasts = λ p l. last-at p l (getD spans (2048 + p) 0) (sym (w .lasts p (lt p l))) .1;
-        last-some = λ p l. some true p l (getD spans (2048 + p) 0) (sym (w .lasts p (lt p l)));
+        last-some = λ p l. some (not (leadsBack n)) p l (getD spans (2048 + p) 0) (sym (w .lasts p (lt p l)));
       }

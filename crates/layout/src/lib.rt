@@ -15,6 +15,7 @@ ghost use Rattle.integers.specs.Vectors.{zero2};
 ghost use Rattle.meaning.specs.Loops.{instances};
 ghost use Rattle.meaning.specs.Space.{points, processes};
 ghost use Rattle.meaning.specs.Pipes.{reach};
+ghost use Rattle.geometry.specs.Processes.{Layout};
 ghost use Rattle.numbering.specs.Ranges.{Bounded};
 ghost use Rattle.numbering.specs.Extents.{Spanning, boxed};
 ghost use Rattle.layout.specs.Rays.{roomOf, Along, firstRay, secondRay, Going};
@@ -116,30 +117,31 @@ pub fn point_at(e: Extent, p: u32) -> V2
     }
 }
 
-// The counts, the first and the last instances, from the numbers of the instances' processes and their steps.
-fn fill_spans(numbers: &[u32], count: u32, steps: &[i32], processes: u32, spans: &mut [u32])
-    requires { ⌜ Sweepable (now numbers) count (now steps) processes (now spans) ⌝ }
-    ensures { λ r. ⌜ Swept (now (numbers .entry)) count (now (steps .entry)) processes (now (spans .exit)) ⌝ }
+// The counts, the first and the last instances, from the numbers of the instances' processes: those met first and last, or last and first
+// where the increment leads back in the written order.
+fn fill_spans(numbers: &[u32], count: u32, back: bool, processes: u32, spans: &mut [u32])
+    requires { ⌜ Sweepable (now numbers) count processes (now spans) ⌝ }
+    ensures { λ r. ⌜ Swept (now (numbers .entry)) count back processes (now (spans .exit)) ⌝ }
 {
     sweeps::fill_counts(numbers, count, processes, &mut spans[0..FIRSTS]);
-    sweeps::fill_firsts(numbers, count, steps, processes, &mut spans[FIRSTS..LASTS]);
-    sweeps::fill_lasts(numbers, count, steps, processes, &mut spans[LASTS..SPANS]);
+    sweeps::fill_ends(numbers, count, back, processes, &mut spans[FIRSTS..LASTS]);
+    sweeps::fill_ends(numbers, count, !back, processes, &mut spans[LASTS..SPANS]);
 }
 
 // Of each process its count, its first and its last instance; how many processes there are.
 pub fn fill_processes(n: Nest, spans: &mut [u32]) -> u32
-    requires { ⌜ (Bounded n) × (length (instances n) ≤ gaugeLimits .instances) × (length (processes n) ≤ gaugeLimits .processes)
-        × (length (now spans) ≡ spanWords) ⌝ }
+    requires { ⌜ (Bounded n) × (Layout n) × (length (instances n) ≤ gaugeLimits .instances)
+        × (length (processes n) ≤ gaugeLimits .processes) × (length (now spans) ≡ spanWords) ⌝ }
     ensures { λ r. ⌜ (r ≡ length (processes n)) × (Spans n (now (spans .exit))) ⌝ }
 {
     let place = n.place;
+    let direction = n.direction;
+    let back = vectors::against(direction, vectors::line_of(n, place));
     let space = numbering::extent_of(n, place);
     let processes = numbering::size_of(space);
     let count = numbering::instance_count(n);
     let mut numbers = [0u32; INSTANCES];
     numbering::fill_numbers(n, place, space, &mut numbers);
-    let mut steps = [0i32; INSTANCES];
-    sweeps::fill_steps(n, &mut steps);
-    fill_spans(&numbers, count, &steps, processes, spans);
+    fill_spans(&numbers, count, back, processes, spans);
     processes
 }

@@ -1,4 +1,4 @@
 -- Passes over the instances by number, and what they mean.
 pub mod Sweep
-pub mod Chosen
+pub mod Met
 pub mod Tables

@@ -1,34 +1,35 @@
 -- The tables by number, and document 01's words: counts, firsts and lasts. Assumes that directions are 1 or −1.
 use mathlib.Core.Path.{_≡_, refl, sym, _∙_, ap, ap₂, subst}
-use mathlib.Core.Bool.{Bool, true, false, cond}
+use mathlib.Core.Bool.{Bool, true, false, not, cond}
 use mathlib.Core.List.{List, [], _∷_, map, _++_}
 use Prim.Native.Nat.{ℕ, suc, _+_, _≤_, _<_}
 use native.Mathlib.Nat.{zero-add}
 use native.Mathlib.Omega.{arith}
 use lib.Dec.{T, eqb}
-use lib.ListN.{length, getD, take, length-map, length-append, List·getD-append}
+use lib.ListN.{length, getD, take, length-map, length-append}
 use lib.Seq.{take-at, getD-take}
-use lib.IntN.{ℤ, pos}
-use lib.Signed.{ltZ}
 use borrow.Author.Tests.{eq-eqb, ne-eqb}
 use Rattle.integers.specs.Vectors.{zero3, zero2, image}
 use Rattle.integers.specs.declared.V3.{V3}
 use Rattle.integers.specs.declared.V2.{V2}
 use Rattle.integers.specs.declared.Matrix.{Matrix}
 use Rattle.meaning.specs.declared.Nest.{Nest}
-use Rattle.meaning.specs.Lists.{filter, best, bestOr}
-use Rattle.meaning.specs.Loops.{instances, stepOf}
-use Rattle.meaning.specs.Space.{eq2, points, rowIndex, boxOf, sentTo, countOf, sooner, later, firstOf, lastOf}
-use Rattle.meaning.specs.Points.{Directed, Inside}
+use Rattle.meaning.specs.Lists.{filter}
+use Rattle.meaning.specs.Loops.{instances}
+use Rattle.meaning.specs.Space.{eq2, points, rowIndex, boxOf, sentTo, countOf, firstOf, lastOf}
+use Rattle.meaning.specs.Accept.{against}
+use Rattle.meaning.specs.Points.{IsLine as Line, Directed, Inside}
 use Rattle.lists.specs.Members.{map-at}
+use Rattle.geometry.specs.Best.{endOr}
 use Rattle.geometry.specs.Numbers.{eq2-eq, eq-eq2}
 use Rattle.geometry.specs.Places.{getD-in}
 use Rattle.geometry.specs.Instances.{in-within}
 use Rattle.geometry.specs.Boxes.{box-has}
 use Rattle.geometry.specs.RowOrder.{row-at, row-lt, row-number}
+use Rattle.geometry.specs.Ends.{first-met, last-met}
 use Rattle.numbering.specs.Numbers.{numbersOf}
 use Rattle.sweeps.specs.Sweep.{visits, countIn, Listed}
-use Rattle.sweeps.specs.Chosen.{betterBy, bestOf, bestIn}
+use Rattle.sweeps.specs.Met.{endIn}
 
 -- the first entries of a list are the row numbers of all instances' images, which lie among so many points
 pub record Table (n : Nest) (m : Matrix) (table : List ℕ) (count size : ℕ) : Type 0 where
@@ -50,21 +51,6 @@ filled-table {n} {m} {count} rest e c s =
   where
     long : length (numbersOf n m) ≡ length (instances n)
     long = length-map (instances n) (λ x. rowIndex (boxOf n m) (image m x))
-
--- the first entries of a list are the steps of all instances
-pub record Steps (n : Nest) (steps : List ℤ) : Type 0 where
-  pub at : (k : ℕ) → k < length (instances n) → getD steps k (pos 0) ≡ stepOf n (getD (instances n) k zero3)
-
--- as `fill_steps` leaves it
-pub filled-steps : {n : Nest} {steps : List ℤ} (rest : List ℤ) → steps ≡ map (λ x. stepOf n x) (instances n) ++ rest → Steps n steps
-filled-steps {n} rest e =
-    record {
-      at = λ k h.
-          ap (λ (l : List ℤ). getD l k (pos 0)) e
-          ∙ List·getD-append (map (λ x. stepOf n x) (instances n)) rest (pos 0) k
-          (omega (arith, length-map (instances n) (λ x. stepOf n x)))
-          ∙ map-at (λ x. stepOf n x) (instances n) k zero3 (pos 0) h;
-    }
 
 -- ---- lists by number
 
@@ -94,16 +80,16 @@ module _ {A : Type 0} where
   filter-same f g (x ∷ l) d e =
       ap₂ (λ (b : Bool) (t : List A). cond b (x ∷ t) t) (e 0 (omega arith)) (filter-same f g l d λ i b. e (suc i) (omega arith))
 
-  best-map : (at : ℕ → A) (b : A → A → Bool) (x : ℕ) (l : List ℕ) → best b (at x) (map at l) ≡ at (best (λ i j. b (at i) (at j)) x l)
-  unfolding best
-  best-map at b x [] = refl
-  best-map at b x (y ∷ l) = go (b (at y) (at x)) (best-map at b y l) (best-map at b x l)
+  -- the first or the last member, mapped
+  end-map : (f : ℕ → A) (last : Bool) (x : ℕ) (l : List ℕ) → endOr last (f x) (map f l) ≡ f (endOr last x l)
+  unfolding endOr
+  end-map f last x [] = refl
+  end-map f last x (y ∷ l) = go last (end-map f last y l)
     where
-      go : (t : Bool) → best b (at y) (map at l) ≡ at (best (λ i j. b (at i) (at j)) y l)
-          → best b (at x) (map at l) ≡ at (best (λ i j. b (at i) (at j)) x l)
-          → best b (cond t (at y) (at x)) (map at l) ≡ at (best (λ i j. b (at i) (at j)) (cond t y x) l)
-      go true p q = p
-      go false p q = q
+      go : (b : Bool) → endOr last (f y) (map f l) ≡ f (endOr last y l)
+          → cond b (endOr last (f y) (map f l)) (f y) ≡ f (cond b (endOr last y l) y)
+      go true ih = ih
+      go false ih = refl
 
 -- every number of a list is below n
 data Under (n : ℕ) : List ℕ → Type 0 where
@@ -119,26 +105,14 @@ visits-under p k n (q ∷ l) h = go (eqb q p) (visits-under p (suc k) n l (omega
     go true u = and {x = k} (omega arith) u
     go false u = u
 
--- the best by two tests that agree on numbers below n
-best-same : (b c : ℕ → ℕ → Bool) (n : ℕ) → ((i j : ℕ) → i < n → j < n → b i j ≡ c i j) → (x : ℕ) (l : List ℕ) → x < n → Under n l
-    → best b x l ≡ best c x l
-unfolding best
-best-same b c n e x [] h none = refl
-best-same b c n e x (y ∷ l) h (and k u) =
-    ap (λ (t : Bool). best b (cond t y x) l) (e y x k h) ∙ go (c y x) (best-same b c n e y l k u) (best-same b c n e x l h u)
+end-under : (last : Bool) (n x : ℕ) (l : List ℕ) → x < n → Under n l → endOr last x l < n
+unfolding endOr
+end-under last n x [] h none = h
+end-under last n x (y ∷ l) h (and k u) = go last (end-under last n y l k u)
   where
-    go : (t : Bool) → best b y l ≡ best c y l → best b x l ≡ best c x l → best b (cond t y x) l ≡ best c (cond t y x) l
-    go true p q = p
-    go false p q = q
-
-best-under : (b : ℕ → ℕ → Bool) (n x : ℕ) (l : List ℕ) → x < n → Under n l → best b x l < n
-unfolding best
-best-under b n x [] h none = h
-best-under b n x (y ∷ l) h (and k u) = go (b y x) (best-under b n y l k u) (best-under b n x l h u)
-  where
-    go : (t : Bool) → best b y l < n → best b x l < n → best b (cond t y x) l < n
-    go true p q = p
-    go false p q = q
+    go : (b : Bool) → endOr last y l < n → cond b (endOr last y l) y < n
+    go true ih = ih
+    go false ih = k
 
 -- ---- the instances at a point
 
@@ -174,28 +148,24 @@ module _ {n : Nest} (dirs : Directed n) (m : Matrix) where
       ∙ filter-same (λ x. eqb (rowIndex (boxOf n m) (image m x)) p) (λ x. eq2 (image m x) (point p)) (instances n) zero3
       (λ i b. by-number p (inst i) h (lies i b))
 
-  -- the best of them by number is the best of them
-  chosen-are : (better : V3 → V3 → Bool) (bynumber : ℕ → ℕ → Bool)
-      → ((i j : ℕ) → i < length (instances n) → j < length (instances n) → bynumber i j ≡ better (inst i) (inst j))
-      → (p f : ℕ) → p < length (points (boxOf n m)) → bestOf bynumber (visits p 0 (numbersOf n m)) ≡ suc f
-      → Instance n f (bestOr zero3 better (sentTo n m (point p)))
-  unfolding bestOr bestOf
-  chosen-are better bynumber same p f h e =
+  -- the last or the first of them by number is the last or the first of them
+  end-is : (last : Bool) (p f : ℕ) → p < length (points (boxOf n m)) → endIn last (numbersOf n m) p ≡ suc f
+      → Instance n f (endOr last zero3 (sentTo n m (point p)))
+  unfolding endOr
+  end-is last p f h e =
       go (visits p 0 (numbersOf n m)) (visits-under p 0 (length (instances n)) (numbersOf n m) (omega (arith, long))) (sent p h) e
     where
       long : length (numbersOf n m) ≡ length (instances n)
       long = length-map (instances n) (λ x. rowIndex (boxOf n m) (image m x))
 
-      go : (l : List ℕ) → Under (length (instances n)) l → map inst l ≡ sentTo n m (point p) → bestOf bynumber l ≡ suc f
-          → Instance n f (bestOr zero3 better (sentTo n m (point p)))
+      go : (l : List ℕ) → Under (length (instances n)) l → map inst l ≡ sentTo n m (point p) → endOr last 0 (map suc l) ≡ suc f
+          → Instance n f (endOr last zero3 (sentTo n m (point p)))
       go [] u s r = absurd (omega arith)
       go (x ∷ l) (and b u) s r =
-          let q : f ≡ best bynumber x l = omega arith in
+          let q : f ≡ endOr last x (x ∷ l) = omega (arith, r, end-map suc last x (x ∷ l)) in
           record {
-            lt = omega (arith, best-under bynumber (length (instances n)) x l b u);
-            is =
-                ap inst (q ∙ best-same bynumber (λ i j. better (inst i) (inst j)) (length (instances n)) same x l b u)
-                ∙ sym (best-map inst better x l) ∙ ap (bestOr zero3 better) s;
+            lt = omega (arith, q, end-under last (length (instances n)) x (x ∷ l) b (and b u));
+            is = ap inst q ∙ sym (end-map inst last x (x ∷ l)) ∙ ap (endOr last zero3) s;
           }
 
 -- ---- what the tables say
@@ -221,28 +191,28 @@ module _ {n : Nest} {m : Matrix} {table : List ℕ} {count size : ℕ} (dirs : D
       ∙ sym (length-map (visits p 0 (numbersOf n m)) (λ k. getD (instances n) k zero3))
       ∙ ap length (sent dirs m p (omega (arith, t .sized)))
 
-  module _ {steps : List ℤ} (s : Steps n steps) where
-    -- where entry p of the firsts or lasts is f + 1, instance f is the first or last of point p
-    pub firsts-are : (p f : ℕ) → p < size → bestIn steps false (take count table) p ≡ suc f
+  module _ {u : V3} (line : Line n m u) where
+    -- where entry p of the ends is f + 1, instance f is the first or last of point p: which of them, the line says
+    pub firsts-are : (p f : ℕ) → p < size → endIn (against (n .direction) u) (take count table) p ≡ suc f
         → Instance n f (firstOf n m (getD (points (boxOf n m)) p zero2))
-    unfolding firstOf
     firsts-are p f h e =
-        chosen-are dirs m (sooner n) (betterBy steps false) (λ i j a b. ap₂ ltZ (s .at i a) (s .at j b)) p f (omega (arith, t .sized))
-        (ap (λ (l : List ℕ). bestIn steps false l p) (sym (t .entries)) ∙ e)
+        subst (Instance n f) (sym (first-met dirs line (getD (points (boxOf n m)) p zero2)))
+        (end-is dirs m (against (n .direction) u) p f (omega (arith, t .sized))
+        (ap (λ (l : List ℕ). endIn (against (n .direction) u) l p) (sym (t .entries)) ∙ e))
 
-    pub lasts-are : (p f : ℕ) → p < size → bestIn steps true (take count table) p ≡ suc f
+    pub lasts-are : (p f : ℕ) → p < size → endIn (not (against (n .direction) u)) (take count table) p ≡ suc f
         → Instance n f (lastOf n m (getD (points (boxOf n m)) p zero2))
-    unfolding lastOf
     lasts-are p f h e =
-        chosen-are dirs m (later n) (betterBy steps true) (λ i j a b. ap₂ ltZ (s .at j b) (s .at i a)) p f (omega (arith, t .sized))
-        (ap (λ (l : List ℕ). bestIn steps true l p) (sym (t .entries)) ∙ e)
+        subst (Instance n f) (sym (last-met dirs line (getD (points (boxOf n m)) p zero2)))
+        (end-is dirs m (not (against (n .direction) u)) p f (omega (arith, t .sized))
+        (ap (λ (l : List ℕ). endIn (not (against (n .direction) u)) l p) (sym (t .entries)) ∙ e))
 
   -- where it is 0, the point has no instance
-  pub chosen-absent : (steps : List ℤ) (last : Bool) (p : ℕ) → p < size → bestIn steps last (take count table) p ≡ 0
+  pub ends-absent : (last : Bool) (p : ℕ) → p < size → endIn last (take count table) p ≡ 0
       → countOf n m (getD (points (boxOf n m)) p zero2) ≡ 0
-  unfolding bestOf
-  chosen-absent steps last p h e = sym (counts-are p h) ∙ go (visits p 0 (take count table)) e
+  unfolding endOr
+  ends-absent last p h e = sym (counts-are p h) ∙ go (visits p 0 (take count table)) e
     where
-      go : (l : List ℕ) → bestOf (betterBy steps last) l ≡ 0 → length l ≡ 0
+      go : (l : List ℕ) → endOr last 0 (map suc l) ≡ 0 → length l ≡ 0
       go [] e = refl
-      go (x ∷ l) e = absurd (omega arith)
+      go (x ∷ l) e = absurd (omega (arith, e, end-map suc last x (x ∷ l)))

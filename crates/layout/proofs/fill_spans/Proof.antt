@@ -18,36 +18,35 @@ part-fill-counts-end c = search needs
 fill-counts-requires : tie.Need-fill-counts-requires
 fill-counts-requires c κs = search needs
 
-sub-fill-firsts : tie.Need-sub-fill-firsts
-sub-fill-firsts c = search needs
+sub-fill-ends : tie.Need-sub-fill-ends
+sub-fill-ends c = search needs
 
-part-fill-firsts-start : tie.Need-part-fill-firsts-start
-part-fill-firsts-start c = search needs
+part-fill-ends-start : tie.Need-part-fill-ends-start
+part-fill-ends-start c = search needs
 
-part-fill-firsts-end : tie.Need-part-fill-firsts-end
-part-fill-firsts-end c = search needs
+part-fill-ends-end : tie.Need-part-fill-ends-end
+part-fill-ends-end c = search needs
 
-fill-firsts-requires : tie.Need-fill-firsts-requires
-fill-firsts-requires c κs = search needs
+fill-ends-requires : tie.Need-fill-ends-requires
+fill-ends-requires c κs = search needs
 
-sub-fill-lasts : tie.Need-sub-fill-lasts
-sub-fill-lasts c = search needs
+sub-fill-ends-2 : tie.Need-sub-fill-ends-2
+sub-fill-ends-2 c = search needs
 
-part-fill-lasts-start : tie.Need-part-fill-lasts-start
-part-fill-lasts-start c = search needs
+part-fill-ends-start-2 : tie.Need-part-fill-ends-start-2
+part-fill-ends-start-2 c = search needs
 
-part-fill-lasts-end : tie.Need-part-fill-lasts-end
-part-fill-lasts-end c = search needs
+part-fill-ends-end-2 : tie.Need-part-fill-ends-end-2
+part-fill-ends-end-2 c = search needs
 
-fill-lasts-requires : tie.Need-fill-lasts-requires
-fill-lasts-requires c κs =
+fill-ends-requires-2 : tie.Need-fill-ends-requires-2
+fill-ends-requires-2 c κs =
     let f = c .before .before .before in
     let s = f .before .before .before .before .before .before .before .before in
     record {
       table = s .pre .table;
-      timed = s .pre .timed;
       room = last-room _ _ (s .args .processes) (now (s .args .spans)) _ _ (s .pre .few) (s .pre .words)
-          (f .before .before .before .before .fill-counts .ensures) (f .fill-firsts .ensures);
+          (f .before .before .before .before .fill-counts .ensures) (f .fill-ends .ensures);
     }
 
 same-length : tie.Need-same-length
@@ -58,8 +57,8 @@ returns c =
     let l = c .before .before in
     let f = l .before .before .before .before in
     let s = f .before .before .before .before .before .before .before .before in
-    swept _ _ _ _ (now (s .args .spans)) _ _ _ (s .pre) (f .before .before .before .before .fill-counts .ensures) (f .fill-firsts .ensures)
-    (l .fill-lasts .ensures)
+    swept _ _ _ _ (now (s .args .spans)) _ _ _ (s .pre) (f .before .before .before .before .fill-counts .ensures) (f .fill-ends .ensures)
+    (l .fill-ends2 .ensures)
 
 pub fill-spans-spec : {M : Type 1} → statement M
 fill-spans-spec =
@@ -69,13 +68,13 @@ fill-spans-spec =
     part-fill-counts-start
     part-fill-counts-end
     fill-counts-requires
-    sub-fill-firsts
-    part-fill-firsts-start
-    part-fill-firsts-end
-    fill-firsts-requires
-    sub-fill-lasts
-    part-fill-lasts-start
-    part-fill-lasts-end
-    fill-lasts-requires
+    sub-fill-ends
+    part-fill-ends-start
+    part-fill-ends-end
+    fill-ends-requires
+    sub-fill-ends-2
+    part-fill-ends-start-2
+    part-fill-ends-end-2
+    fill-ends-requires-2
     same-length
     returns)
