@@ -10,7 +10,7 @@ use Rattle.integers.specs.declared.V3.{V3}
 use Rattle.integers.specs.declared.V2.{V2}
 use Rattle.integers.specs.declared.Matrix.{Matrix}
 use Rattle.meaning.specs.declared.Nest.{Nest}
-use Rattle.meaning.specs.Loops.{instances, stepOf}
+use Rattle.meaning.specs.Loops.{instances}
 use Rattle.meaning.specs.Space.{eq2, sentTo, sooner, later, firstOf, lastOf}
 use Rattle.meaning.specs.Accept.{against}
 use Rattle.meaning.specs.Points.{IsLine as Line, Directed, Earlier}
