@@ -6,9 +6,7 @@ use mathlib.Core.List.{List, [], _∷_, _++_}
 use Prim.Native.Nat.{ℕ, zero, suc, _+_, _≤_, _<_, _*_}
 use native.Mathlib.Omega.{arith}
 use lib.ListN.{length, getD, take}
-use borrow.Rule.Slice.PartMut.{putMid, midOf, mid-len}
 use Rattle.meaning.specs.Limits.{gaugeLimits}
-use Rattle.integers.specs.Fill.{fillBy}
 use Rattle.integers.specs.Vectors.{zero2, zero3}
 use Rattle.integers.specs.declared.V3.{V3}
 use Rattle.integers.specs.declared.V2.{V2}
@@ -19,10 +17,9 @@ use Rattle.meaning.specs.Space.{Box, points, space, processes, sentTo, countOf,
 use Rattle.meaning.specs.Accept.{against}
 use Rattle.geometry.specs.Processes.{Layout}
 use Rattle.numbering.specs.Numbers.{numbersOf}
-use Rattle.sweeps.specs.Sweep.{Listed, countIn}
 use Rattle.sweeps.specs.Met.{endIn}
+use Rattle.sweeps.specs.Turns.{Swept}
 use Rattle.sweeps.specs.Tables.{Table, filled-table, counts-are, firsts-are, lasts-are, ends-absent}
-use Rattle.layout.specs.Parts.{put-before, whole-length, part-at}
 
 -- the words of the processes: counts, first and last instances
 abbrev pub spanWords : ℕ
@@ -50,56 +47,7 @@ pub record Spans (n : Nest) (w : List ℕ) : Type 0 where
   pub lasts : (p : ℕ) → p < length (processes n) → numbered n (getD w (2048 + p) 0) ≡ last n (processOf n p)
   pub last-some : (p : ℕ) → p < length (processes n) → 0 < count n (processOf n p) → 0 < getD w (2048 + p) 0
 
--- ---- by the table of the instances' processes
-
--- what the passes over the instances are lent
-pub record Sweepable (numbers : List ℕ) (instances processes : ℕ) (spans : List ℕ) : Type 0 where
-  pub table : Listed numbers instances processes
-  pub few : processes ≤ 1024
-  pub words : length spans ≡ 3072
-
--- and what they leave
-pub record Swept (numbers : List ℕ) (instances : ℕ) (back : Bool) (processes : ℕ) (spans : List ℕ) : Type 0 where
-  pub counts : (p : ℕ) → p < processes → getD spans p 0 ≡ countIn (take instances numbers) p
-  pub firsts : (p : ℕ) → p < processes → getD spans (1024 + p) 0 ≡ endIn back (take instances numbers) p
-  pub lasts : (p : ℕ) → p < processes → getD spans (2048 + p) 0 ≡ endIn (not back) (take instances numbers) p
-
--- three parts filled one after the other
-pub swept : (numbers : List ℕ) (instances : ℕ) (back : Bool) (n : ℕ) (xs a b c : List ℕ) → Sweepable numbers instances n xs
-    → a ≡ fillBy (countIn (take instances numbers)) n (midOf 0 1024 xs)
-    → b ≡ fillBy (endIn back (take instances numbers)) n (midOf 1024 1024 (putMid 0 1024 xs a))
-    → c ≡ fillBy (endIn (not back) (take instances numbers)) n (midOf 2048 1024 (putMid 1024 1024 (putMid 0 1024 xs a) b))
-    → Swept numbers instances back n (putMid 2048 1024 (putMid 1024 1024 (putMid 0 1024 xs a) b) c)
-swept numbers instances back n xs a b c s ea eb ec =
-    let f = countIn (take instances numbers) in
-    let g = endIn back (take instances numbers) in
-    let h = endIn (not back) (take instances numbers) in
-    let xa = putMid 0 1024 xs a in
-    let xb = putMid 1024 1024 xa b in
-    let la : length xa ≡ 3072 = whole-length f n 0 1024 xs a ea (omega (arith, s .words)) ∙ s .words in
-    let lb : length xb ≡ 3072 = whole-length g n 1024 1024 xa b eb (omega arith) ∙ la in
-    record {
-      counts = λ p l.
-          let z : 0 + p ≡ p = omega arith in
-          put-before 2048 1024 xb c 0 (omega arith) p (omega (arith, s .few))
-          ∙ put-before 1024 1024 xa b 0 (omega arith) p (omega (arith, s .few))
-          ∙ sym (ap (λ (i : ℕ). getD xa i 0) z) ∙ part-at f n 0 1024 xs a ea (omega (arith, s .words)) 0 p l (s .few);
-      firsts = λ p l.
-          put-before 2048 1024 xb c 0 (omega arith) (1024 + p) (omega (arith, s .few))
-          ∙ part-at g n 1024 1024 xa b eb (omega arith) 0 p l (s .few);
-      lasts = λ p l. part-at h n 2048 1024 xb c ec (omega arith) 0 p l (s .few);
-    }
-
--- the last part has room
-pub last-room : (f g : ℕ → ℕ) (n : ℕ) (xs a b : List ℕ) → n ≤ 1024 → length xs ≡ 3072
-    → a ≡ fillBy f n (midOf 0 1024 xs) → b ≡ fillBy g n (midOf 1024 1024 (putMid 0 1024 xs a))
-    → n ≤ length (midOf 2048 1024 (putMid 1024 1024 (putMid 0 1024 xs a) b))
-last-room f g n xs a b few long ea eb =
-    let la = whole-length f n 0 1024 xs a ea (omega arith) in
-    let lb = whole-length g n 1024 1024 (putMid 0 1024 xs a) b eb (omega (arith, la)) in
-    omega (arith, mid-len 2048 3072 (putMid 1024 1024 (putMid 0 1024 xs a) b) (omega (arith, la, lb)))
-
--- ---- document 01's words
+-- ---- as the pass over the instances leaves them
 
 -- the table of the instances' processes, as the code has made it
 pub process-table : {n : Nest} {table : List ℕ} {instances size : ℕ} {k : Box} (rest : List ℕ) → table ≡ numbersOf n (n .place) ++ rest

@@ -19,19 +19,18 @@ ghost use Rattle.geometry.specs.Processes.{Layout};
 ghost use Rattle.numbering.specs.Ranges.{Bounded};
 ghost use Rattle.numbering.specs.Extents.{Spanning, boxed};
 ghost use Rattle.layout.specs.Rays.{roomOf, Along, firstRay, secondRay, Going};
-ghost use Rattle.layout.specs.Spans.{Sweepable, Swept, Spans, spanWords};
+ghost use Rattle.layout.specs.Spans.{Spans, spanWords};
 use integers::V2;
 use meaning::INSTANCES;
 use meaning::Nest;
-use meaning::PROCESSES;
 use numbering::Extent;
 
 // The words of the processes: their counts, then their first and then their last instances.
-pub const FIRSTS: usize = PROCESSES;
+pub const FIRSTS: usize = sweeps::FIRSTS;
 
-pub const LASTS: usize = 2 * PROCESSES;
+pub const LASTS: usize = sweeps::LASTS;
 
-pub const SPANS: usize = 3 * PROCESSES;
+pub const SPANS: usize = sweeps::SPANS;
 
 // One coordinate of a box, of a point in it and of the way on from there.
 struct Ray {
@@ -117,17 +116,6 @@ pub fn point_at(e: Extent, p: u32) -> V2
     }
 }
 
-// The counts, the first and the last instances, from the numbers of the instances' processes: those met first and last, or last and first
-// where the increment leads back in the written order.
-fn fill_spans(numbers: &[u32], count: u32, back: bool, processes: u32, spans: &mut [u32])
-    requires { ⌜ Sweepable (now numbers) count processes (now spans) ⌝ }
-    ensures { λ r. ⌜ Swept (now (numbers .entry)) count back processes (now (spans .exit)) ⌝ }
-{
-    sweeps::fill_counts(numbers, count, processes, &mut spans[0..FIRSTS]);
-    sweeps::fill_ends(numbers, count, back, processes, &mut spans[FIRSTS..LASTS]);
-    sweeps::fill_ends(numbers, count, !back, processes, &mut spans[LASTS..SPANS]);
-}
-
 // Of each process its count, its first and its last instance; how many processes there are.
 pub fn fill_processes(n: Nest, spans: &mut [u32]) -> u32
     requires { ⌜ (Bounded n) × (Layout n) × (length (instances n) ≤ gaugeLimits .instances)
@@ -142,6 +130,6 @@ pub fn fill_processes(n: Nest, spans: &mut [u32]) -> u32
     let count = numbering::instance_count(n);
     let mut numbers = [0u32; INSTANCES];
     numbering::fill_numbers(n, place, space, &mut numbers);
-    fill_spans(&numbers, count, back, processes, spans);
+    sweeps::fill_spans(&numbers, count, back, processes, spans);
     processes
 }

@@ -1,18 +1,25 @@
--- The instance met first or last at a point, by its number plus one, as a pass finds it. Assumes nothing.
-use mathlib.Core.Path.{_≡_, refl, sym, _∙_, ap}
+-- What a pass makes of the entries of a point: the number of its instances, and the instance met first or last, by its number plus one.
+-- Assumes nothing.
+use mathlib.Core.Path.{_≡_, refl, _∙_}
 use mathlib.Core.Bool.{Bool, true, false}
 use mathlib.Core.List.{List, [], _∷_, map}
-use Prim.Native.Nat.{ℕ, zero, suc, _+_, _≤_}
+use Prim.Native.Nat.{ℕ, zero, suc, _+_}
 use native.Mathlib.Omega.{arith}
-use lib.ListN.{length, getD, set, take}
-use lib.Seq.{set-getD}
-use Rattle.integers.specs.Fill.{fillBy}
+use lib.ListN.{length}
 use Rattle.geometry.specs.Best.{endOr}
-use Rattle.sweeps.specs.Sweep.{Listed, visits, run, sweep, sweep-is}
+use Rattle.sweeps.specs.Sweep.{visits, run}
 
--- the last or the first instance of a table at p, by its number plus one, 0 if there is none
+-- how many instances of a table are at p
+abbrev pub countIn : List ℕ → ℕ → ℕ
+countIn l p = length (visits p 0 l)
+
+-- the last or the first of them, by its number plus one, 0 if there is none
 abbrev pub endIn : Bool → List ℕ → ℕ → ℕ
 endIn last l p = endOr last 0 (map suc (visits p 0 l))
+
+-- an instance counted
+abbrev pub more : ℕ → ℕ → ℕ
+more k x = x + 1
 
 -- instance k after what was met before it: the last one is new each time, the first one stays
 unfoldable pub met : Bool → ℕ → ℕ → ℕ
@@ -20,44 +27,41 @@ met true k x = suc k
 met false k zero = suc k
 met false k (suc j) = suc j
 
--- a turn: the last is written each time, the first only where there is none
-module _ (k p : ℕ) (out : List ℕ) where
-  pub last-new : set out p (k + 1) ≡ set out p (met true k (getD out p 0))
-  unfolding met
-  last-new = ap (set out p) (omega arith)
+-- by the tests of the code
+pub met-last : {last : Bool} (k x : ℕ) → last ≡ true → k + 1 ≡ met last k x
+unfolding met
+met-last k x e = rw e (omega arith)
 
-  pub first-new : getD out p 0 ≡ 0 → set out p (k + 1) ≡ set out p (met false k (getD out p 0))
-  unfolding met
-  first-new e = ap (set out p) (rw e (omega arith))
+pub met-first : {last : Bool} (k : ℕ) {x : ℕ} → last ≡ false → x ≡ 0 → k + 1 ≡ met last k x
+unfolding met
+met-first k e f = rw (e, f) (omega arith)
 
-  pub first-stays : (getD out p 0 ≡ 0 → ⊥) → out ≡ set out p (met false k (getD out p 0))
-  unfolding met
-  first-stays f = sym (set-getD out p 0) ∙ ap (set out p) (go (getD out p 0) f)
-    where
-      go : (x : ℕ) → (x ≡ 0 → ⊥) → x ≡ met false k x
-      go zero f = absurd (f refl)
-      go (suc j) f = refl
+pub met-stays : {last : Bool} (k x : ℕ) → last ≡ false → (x ≡ 0 → ⊥) → x ≡ met last k x
+unfolding met
+met-stays k zero e f = absurd (f refl)
+met-stays k (suc j) e f = rw e
 
 -- what they make of 0
+run-on : (x : ℕ) (l : List ℕ) → run more x l ≡ x + length l
+unfolding run
+run-on x [] = omega arith
+run-on x (k ∷ l) = run-on (x + 1) l ∙ omega arith
+
+pub run-more : (l : List ℕ) → run more 0 l ≡ length l
+run-more l = run-on 0 l ∙ omega arith
+
 run-last : (x : ℕ) (l : List ℕ) → run (met true) x l ≡ endOr true x (map suc l)
 unfolding run met endOr
 run-last x [] = refl
 run-last x (k ∷ l) = run-last (suc k) l
 
-run-stays : (j : ℕ) (l : List ℕ) → run (met false) (suc j) l ≡ suc j
+run-first : (j : ℕ) (l : List ℕ) → run (met false) (suc j) l ≡ suc j
 unfolding run met
-run-stays j [] = refl
-run-stays j (k ∷ l) = run-stays j l
+run-first j [] = refl
+run-first j (k ∷ l) = run-first j l
 
-run-met : (last : Bool) (l : List ℕ) → run (met last) 0 l ≡ endOr last 0 (map suc l)
+pub run-met : (last : Bool) (l : List ℕ) → run (met last) 0 l ≡ endOr last 0 (map suc l)
 unfolding run met endOr
 run-met true l = run-last 0 l
 run-met false [] = refl
-run-met false (k ∷ l) = run-stays k l
-
-pub ends-are : (last : Bool) (numbers : List ℕ) (instances points : ℕ) (out : List ℕ) → Listed numbers instances points
-    → points ≤ length out
-    → sweep (met last) 0 (take instances numbers) (fillBy (λ p. 0) points out) ≡ fillBy (endIn last (take instances numbers)) points out
-ends-are last numbers instances points out h room =
-    sweep-is (met last) numbers instances points out h room
-    ∙ ap (λ (f : ℕ → ℕ). fillBy f points out) (λ i p. run-met last (visits p 0 (take instances numbers)) i)
+run-met false (k ∷ l) = run-first k l

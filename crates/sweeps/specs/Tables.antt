@@ -28,8 +28,8 @@ use Rattle.geometry.specs.Boxes.{box-has}
 use Rattle.geometry.specs.RowOrder.{row-at, row-lt, row-number}
 use Rattle.geometry.specs.Ends.{first-met, last-met}
 use Rattle.numbering.specs.Numbers.{numbersOf}
-use Rattle.sweeps.specs.Sweep.{visits, countIn, Listed}
-use Rattle.sweeps.specs.Met.{endIn}
+use Rattle.sweeps.specs.Sweep.{visits, Listed}
+use Rattle.sweeps.specs.Met.{countIn, endIn}
 
 -- the first entries of a list are the row numbers of all instances' images, which lie among so many points
 pub record Table (n : Nest) (m : Matrix) (table : List ℕ) (count size : ℕ) : Type 0 where

@@ -4,18 +4,29 @@
 //
 // specs/, by file:
 //
-//   Sweep       a pass that changes, for each instance, the entry of its point; `sweep-is`: what it leaves, point by point
-//   Met         the instance met first or last at a point, as the pass finds it
+//   Sweep       a pass that changes, for each instance, the words of its point; `sweep-at`: what it leaves of each word
+//   Met         instances counted, and the one met first or last, as the pass finds it
+//   Turns       one turn of the pass; `swept`: what it leaves, point by point
 //   Tables      document 01's words: `counts-are`, `firsts-are`, `lasts-are`, `ends-absent`
 ghost use mathlib.Core.Path.{_≡_};
-ghost use mathlib.Core.Bool.{true, false};
-ghost use Prim.Native.Nat.{_≤_, _<_};
+ghost use Prim.Native.Nat.{_+_, _^_, _≤_, _<_};
 ghost use lib.ListN.{length, getD, take};
 ghost use Rattle.integers.specs.Fill.{fillBy};
-ghost use Rattle.sweeps.specs.Sweep.{Listed, Countable, countIn};
-ghost use Rattle.sweeps.specs.Met.{endIn};
+ghost use Rattle.sweeps.specs.Sweep.{Listed};
+ghost use Rattle.sweeps.specs.Met.{met};
+ghost use Rattle.sweeps.specs.Turns.{turn, Turning, Sweepable, Swept};
+use meaning::PROCESSES;
 
-// Zero for each of the points.
+// The words of the points: their counts, then their first and then their last instances.
+pub const FIRSTS: usize = PROCESSES;
+
+pub const LASTS: usize = 2 * PROCESSES;
+
+pub const SPANS: usize = 3 * PROCESSES;
+
+const ALL: u32 = SPANS as u32;
+
+// Zero in each of the first words.
 pub fn clear(points: u32, out: &mut [u32])
     requires { ⌜ points ≤ length (now out) ⌝ }
     ensures { λ r. ⌜ now (out .exit) ≡ fillBy (λ p. 0) points (now (out .entry)) ⌝ }
@@ -35,58 +46,38 @@ fn point_of(numbers: &[u32], instances: u32, points: u32, k: u32) -> usize
     numbers[k as usize] as usize
 }
 
-// How many instances each point has.
-pub fn fill_counts(numbers: &[u32], instances: u32, points: u32, counts: &mut [u32])
-    requires { ⌜ Countable (now numbers) instances points (now counts) ⌝ }
-    ensures { λ r. ⌜ now (counts .exit) ≡ fillBy (countIn (take instances (now (numbers .entry)))) points (now (counts .entry)) ⌝ }
-{
-    clear(points, counts);
-    let mut k: u32 = 0;
-    while k < instances {
-        let p = point_of(numbers, instances, points, k);
-        counts[p] = counts[p] + 1;
-        k += 1;
-    }
-}
-
-// The instance met first at each point, by its number plus one; 0 where there is none.
-fn fill_firsts(numbers: &[u32], instances: u32, points: u32, out: &mut [u32])
-    requires { ⌜ Countable (now numbers) instances points (now out) ⌝ }
-    ensures { λ r. ⌜ now (out .exit) ≡ fillBy (endIn false (take instances (now (numbers .entry)))) points (now (out .entry)) ⌝ }
-{
-    clear(points, out);
-    let mut k: u32 = 0;
-    while k < instances {
-        let p = point_of(numbers, instances, points, k);
-        if out[p] == 0 {
-            out[p] = k + 1;
-        }
-        k += 1;
-    }
-}
-
-// The instance met last.
-fn fill_lasts(numbers: &[u32], instances: u32, points: u32, out: &mut [u32])
-    requires { ⌜ Countable (now numbers) instances points (now out) ⌝ }
-    ensures { λ r. ⌜ now (out .exit) ≡ fillBy (endIn true (take instances (now (numbers .entry)))) points (now (out .entry)) ⌝ }
-{
-    clear(points, out);
-    let mut k: u32 = 0;
-    while k < instances {
-        let p = point_of(numbers, instances, points, k);
-        out[p] = k + 1;
-        k += 1;
-    }
-}
-
-// The one or the other.
-pub fn fill_ends(numbers: &[u32], instances: u32, last: bool, points: u32, out: &mut [u32])
-    requires { ⌜ Countable (now numbers) instances points (now out) ⌝ }
-    ensures { λ r. ⌜ now (out .exit) ≡ fillBy (endIn last (take instances (now (numbers .entry)))) points (now (out .entry)) ⌝ }
+// Instance k, by its number plus one, as the one met last, or, if none was before it, as the one met first; 0 is none.
+fn met(last: bool, k: u32, old: u32) -> u32
+    requires { ⌜ k + 1 < 2 ^ 32 ⌝ }
+    ensures { λ r. ⌜ r ≡ met last k old ⌝ }
 {
     if last {
-        fill_lasts(numbers, instances, points, out);
-    } else {
-        fill_firsts(numbers, instances, points, out);
+        return k + 1;
+    }
+    if old == 0 { k + 1 } else { old }
+}
+
+// Instance k is met at point p.
+fn meet(back: bool, k: u32, p: usize, spans: &mut [u32])
+    requires { ⌜ Turning k p (now spans) ⌝ }
+    ensures { λ r. ⌜ now (spans .exit) ≡ turn back k p (now (spans .entry)) ⌝ }
+{
+    spans[p] = spans[p] + 1;
+    spans[FIRSTS + p] = met(back, k, spans[FIRSTS + p]);
+    spans[LASTS + p] = met(!back, k, spans[LASTS + p]);
+}
+
+// Of each point how many instances it has, and, by their numbers plus one, the ones met first and last, or last and first if the line that
+// they lie on leads back in the written order; 0 where there is none.
+pub fn fill_spans(numbers: &[u32], instances: u32, back: bool, points: u32, spans: &mut [u32])
+    requires { ⌜ Sweepable (now numbers) instances points (now spans) ⌝ }
+    ensures { λ r. ⌜ Swept (now (numbers .entry)) instances back points (now (spans .exit)) ⌝ }
+{
+    clear(ALL, spans);
+    let mut k: u32 = 0;
+    while k < instances {
+        let p = point_of(numbers, instances, points, k);
+        meet(back, k, p, spans);
+        k += 1;
     }
 }
