@@ -29,7 +29,7 @@ use Rattle.geometry.specs.Processes.{runAt, computes as run-first}
 use Rattle.geometry.specs.Pipes.{touched-in}
 use Rattle.geometry.specs.Soaks.{soak-first}
 use Rattle.numbering.specs.Extents.{Spanning, boxed, box-spanning}
-use Rattle.numbering.specs.Forms.{weigh}
+use Rattle.counting.specs.Forms.{weigh}
 use Rattle.layout.specs.Spans.{processOf, Spans}
 use Rattle.lanes.specs.declared.Flow.{Flow}
 use Rattle.lanes.specs.Held.{entryNumber, computes}

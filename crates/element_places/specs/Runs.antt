@@ -35,7 +35,7 @@ use Rattle.geometry.specs.Processes.{RunAt, runAt, instance-at, is-computing}
 use Rattle.geometry.specs.Pipes.{Accepted, still-element}
 use Rattle.geometry.specs.Soaks.{soak-first, element-index}
 use Rattle.numbering.specs.Ranges.{not-below}
-use Rattle.numbering.specs.Forms.{weigh}
+use Rattle.counting.specs.Forms.{weigh}
 use Rattle.layout.specs.Spans.{processOf}
 use Rattle.lanes.specs.Held.{entryNumber}
 use Rattle.pipe_parts.specs.Starts.{startAt}

@@ -16,7 +16,7 @@ use Rattle.meaning.specs.Loops.{instances as instancesOf, increment}
 use Rattle.meaning.specs.Space.{Box, points, space, processes, sentTo, countOf, sooner, later, firstOf, lastOf, count, first, last}
 use Rattle.meaning.specs.Accept.{against}
 use Rattle.geometry.specs.Processes.{Layout}
-use Rattle.numbering.specs.Numbers.{numbersOf}
+use Rattle.counting.specs.Numbers.{numbersOf}
 use Rattle.sweeps.specs.Met.{endIn}
 use Rattle.sweeps.specs.Turns.{Swept}
 use Rattle.sweeps.specs.Tables.{Table, filled-table, counts-are, firsts-are, lasts-are, ends-absent}

@@ -129,7 +129,7 @@ pub fn fill_processes(n: Nest, spans: &mut [u32]) -> u32
     let processes = numbering::size_of(space);
     let count = numbering::instance_count(n);
     let mut numbers = [0u32; INSTANCES];
-    numbering::fill_numbers(n, place, space, &mut numbers);
+    counting::fill_numbers(n, place, space, &mut numbers);
     sweeps::fill_spans(&numbers, count, back, processes, spans);
     processes
 }

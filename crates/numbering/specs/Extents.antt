@@ -93,18 +93,3 @@ box-spanning {n} {m} h r =
 -- the image of an instance is in it
 pub image-inside : {n : Nest} {m : Matrix} {k : ℕ} → Numbered n m k → Inside (boxOf n m) (image m (getD (instances n) k zero3))
 image-inside {n} {m} {k} h = box-has (h .bounded .directed) m (in-within (h .bounded .directed) (getD-in (instances n) k zero3 (h .lt)))
-
--- the image p of instance k lies in its box, and has its number there
-module _ (n : Nest) (m : Matrix) (e : Extent) (k : ℕ) {p : V2} (h : Numbered n m k) (b : boxed e ≡ boxOf n m)
-    (i : p ≡ image m (getD (instances n) k zero3)) where
-  pub image-lies : Spanning (boxed e) × Inside (boxed e) p
-  image-lies = rw (b, i) (box-spanning (h .bounded) (h .rows), image-inside h)
-
-  pub image-number : {r : ℕ} → r ≡ rowIndex (boxed e) p
-      → (r ≡ rowIndex (boxOf n m) (image m (getD (instances n) k zero3))) × (r < length (points (boxOf n m)))
-  image-number g =
-      let q = g ∙ ap₂ rowIndex b i in (
-        q,
-        subst (λ (r : ℕ). r < length (points (boxOf n m))) (sym q)
-            (row-lt (boxOf n m) (image m (getD (instances n) k zero3)) (image-inside h)),
-      )

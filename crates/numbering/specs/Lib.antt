@@ -1,9 +1,5 @@
--- What the range tests leave; instances by turns; boxes; the table of row numbers.
+-- What the range tests leave; instances by turns; boxes.
 pub mod Ranges
 pub mod Turns
-pub mod Course
 pub mod Corners
 pub mod Extents
-pub mod Forms
-pub mod Strides
-pub mod Numbers

@@ -23,7 +23,7 @@ fn elements_refused(n: Nest, s: Stream, walk: &[i32]) -> bool
         return true;
     }
     let mut marks = [false; INSTANCES];
-    let form = numbering::form_of(map, e);
+    let form = counting::form_of(map, e);
     untouched::untouched(form, walk, instances, elements, &mut marks)
 }
 

@@ -27,7 +27,7 @@ use Rattle.geometry.specs.Instances.{in-within}
 use Rattle.geometry.specs.Boxes.{box-has}
 use Rattle.geometry.specs.RowOrder.{row-at, row-lt, row-number}
 use Rattle.geometry.specs.Ends.{first-met, last-met}
-use Rattle.numbering.specs.Numbers.{numbersOf}
+use Rattle.counting.specs.Numbers.{numbersOf}
 use Rattle.sweeps.specs.Sweep.{visits, Listed}
 use Rattle.sweeps.specs.Met.{countIn, endIn}
 

@@ -1,5 +1,5 @@
 // What one pass over the instances leaves for each point of a box: how many instances have their image there, and which of them is met
-// first and which last. All of it over the table of numbers that `numbering::fill_numbers` leaves: of each instance, in the written
+// first and which last. All of it over the table of numbers that `counting::fill_numbers` leaves: of each instance, in the written
 // order, the row number of its image.
 //
 // specs/, by file:

@@ -25,7 +25,7 @@ use Rattle.meaning.specs.Calls.{refusedBy, answer, rowOf, table}
 use Rattle.lists.specs.Members.{map-at}
 use Rattle.numbering.specs.Ranges.{Bounded}
 use Rattle.numbering.specs.Extents.{Spanning, boxed, box-spanning}
-use Rattle.numbering.specs.Numbers.{filled}
+use Rattle.counting.specs.Numbers.{filled}
 use Rattle.layout.specs.Spans.{processOf, numbered, Spans}
 use Rattle.pipes.specs.Elements.{rowDrain}
 use Rattle.declines.specs.Tests.{tableLengths}

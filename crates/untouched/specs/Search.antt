@@ -30,9 +30,9 @@ use Rattle.geometry.specs.Accept.{touch, touched-few}
 use Rattle.geometry.specs.Walk.{walk-length, any-on-walk}
 use Rattle.vectors.specs.Within.{Rows}
 use Rattle.numbering.specs.Ranges.{Bounded, point-small}
-use Rattle.numbering.specs.declared.Form.{Form}
+use Rattle.counting.specs.declared.Form.{Form}
 use Rattle.numbering.specs.Extents.{box-spanning}
-use Rattle.numbering.specs.Forms.{Numbers, formOf, formAt, form-number, form-small}
+use Rattle.counting.specs.Forms.{Numbers, formOf, formAt, form-number, form-small}
 use Rattle.walk.specs.Words.{vectorAt}
 use Rattle.walk.specs.Walked.{Walked, Along, is-instance}
 use Rattle.untouched.specs.Touched.{Touch, Misses, Misses.untouched, Misses.all-touched}
@@ -107,7 +107,8 @@ module _ {n : Nest} (bounded : Bounded n) (layout : Layout n) (s : Stream) {w : 
   touched-by p h t =
       let x = vectorAt w (t .by) in
       let q : image (s .map) x ≡ p =
-      sym (row-at box (image (s .map) x) zero2 (inside (t .by) (t .lt))) ∙ ap (λ (i : ℕ). getD (points box) i zero2) (sym (number-is (t .by) (t .lt)) ∙ t .is)
+      sym (row-at box (image (s .map) x) zero2 (inside (t .by) (t .lt))) ∙ ap (λ (i : ℕ). getD (points box) i zero2) (sym (number-is (t
+      .by) (t .lt)) ∙ t .is)
       ∙ row-at box p zero2 h in
       yes-any (λ v. touches s v p) (within-in (layout .dirs) (is-instance layout walked (t .by) (t .lt))) (eq-eq2 (image (s .map) x) p q)
 

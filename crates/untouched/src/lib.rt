@@ -7,18 +7,19 @@
 ghost use mathlib.Core.Path.{_≡_};
 ghost use Rattle.untouched.specs.Touched.{Misses};
 ghost use Rattle.untouched.specs.Search.{numberOn, Numberable, Searching};
-use numbering::Form;
+use counting::Form;
 
 // The number of the element that instance k of the walk touches.
 fn number_at(f: Form, walk: &[i32], k: usize) -> usize
     requires { ⌜ Numberable f (now walk) k ⌝ }
     ensures { λ r. ⌜ r ≡ numberOn f (now (walk .entry)) k ⌝ }
 {
-    numbering::number_by(f, walk::instance_at(walk, k)) as usize
+    counting::number_by(f, walk::instance_at(walk, k)) as usize
 }
 
-// Whether some element of the box is touched by no instance of the walk; f gives each instance the number of its element. For each element in turn the search goes on along the walk from
-// where it stopped, marking the elements that it passes, until this one is marked or the walk is over.
+// Whether some element of the box is touched by no instance of the walk; f gives each instance the number of its element. For each element
+// in turn the search goes on along the walk from where it stopped, marking the elements that it passes, until this one is marked or the
+// walk is over.
 pub fn untouched(
     f: Form,
     walk: &[i32],

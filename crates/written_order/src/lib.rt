@@ -29,13 +29,13 @@ fn fill_column(n: Nest, m: Matrix, e: Extent, start: u32, i: u32, table: &mut [u
     ensures { λ r. ⌜ now (table .exit) ≡ column i (numberFrom n m start) (length (instances n)) (now (table .entry)) ⌝ }
 {
     let count = numbering::instance_count(n);
-    let form = numbering::form_of(m, e);
-    let course = numbering::course_of(n);
+    let form = counting::form_of(m, e);
+    let course = counting::course_of(n);
     let mut x = course.first;
     let mut k: u32 = 0;
     while k < count {
-        table[(6 * k + i) as usize] = start + numbering::number_by(form, x);
-        x = numbering::next(course, x);
+        table[(6 * k + i) as usize] = start + counting::number_by(form, x);
+        x = counting::next(course, x);
         k += 1;
     }
 }
@@ -88,12 +88,12 @@ fn run_instances(d: Description, table: &[u32], store: &mut [u32])
 {
     let n = d.nest;
     let last = numbering::instance_count(n) - 1;
-    let course = numbering::course_of(n);
+    let course = counting::course_of(n);
     let mut x = course.first;
     let mut k: u32 = 0;
     while k <= last {
         run_instance(d, k, x, table, store);
-        x = numbering::next(course, x);
+        x = counting::next(course, x);
         k += 1;
     }
 }

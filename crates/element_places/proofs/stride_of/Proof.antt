@@ -3,7 +3,7 @@ use borrow.Author.Needs.{needs}
 use mathlib.Core.Path.{_∙_}
 use Rattle.integers.specs.Words.{leaf, at, box, mul, add, fits}
 use Rattle.numbering.specs.Ranges.{apart-words}
-use Rattle.numbering.specs.Forms.{columns-are, columns-held}
+use Rattle.counting.specs.Forms.{columns-are, columns-held}
 use Rattle.element_places.specs.Lent.{elements-spanning, stride-is}
 use Rattle.element_places.proofs.stride_of.Statement.{statement}
 use Rattle.element_places.proofs.stride_of.Tie as tie

@@ -12,7 +12,8 @@ use Rattle.numbering.proofs.corner.Statement.{statement}
 use Rattle.numbering.proofs.corner.Tie as tie
 
 -- the end by words is that of the numbers they hold
-of : {w f t r : ℤ} → Abs w 4 → Abs f 64 → Abs t 64 → r ≡ endOf (toZ w32 (ofZ w32 w)) (toZ w32 (ofZ w32 f)) (toZ w32 (ofZ w32 t)) → r ≡ endOf w f t
+of : {w f t r : ℤ} → Abs w 4 → Abs f 64 → Abs t 64 → r ≡ endOf (toZ w32 (ofZ w32 w)) (toZ w32 (ofZ w32 f)) (toZ w32 (ofZ w32 t)) → r ≡
+    endOf w f t
 of h k l e =
     e ∙ λ i. endOf (at tt h .eq i) (at tt k .eq i) (at tt l .eq i)
 
@@ -20,7 +21,8 @@ end-of-requires : tie.Need-end-of-requires
 end-of-requires c κs = let p = c .before .before .before .pre in (bounded (at tt (p .1 .xs)), bounded (at tt (p .2 .xs)))
 
 end-of-requires-2 : tie.Need-end-of-requires-2
-end-of-requires-2 c κs = let p = c .before .before .before .before .before .before .before .pre in (bounded (at tt (p .1 .ys)), bounded (at tt (p .2 .ys)))
+end-of-requires-2 c κs =
+    let p = c .before .before .before .before .before .before .before .pre in (bounded (at tt (p .1 .ys)), bounded (at tt (p .2 .ys)))
 
 end-of-requires-3 : tie.Need-end-of-requires-3
 end-of-requires-3 c κs =

@@ -41,8 +41,15 @@ untouched-requires : tie.Need-untouched-requires
 untouched-requires c κs =
     let s = c .before .before .before .before .before .before .before in
     let e = c .before .before .before .before .before .extent-of .ensures .0 in
-    let z = box-sized (s .args .s) e (c .before .before .before .instance-count .ensures .0) (c .before .before .before .before .size-of .ensures .0) in
-    let b : c .before .before .before .before .size-of .result ≤ 4096 = omega (arith, z .counted, s .pre .1 .few, c .before .before .if1 .left) in
+    let z = box-sized (s .args .s) e (c .before .before .before .instance-count .ensures .0) (c .before .before .before .before .size-of
+    .ensures .0) in
+    let b : c .before .before .before .before .size-of .result ≤ 4096 = omega (
+      arith,
+      z .counted,
+      s .pre .1 .few,
+      c .before .before .if1
+          .left,
+    ) in
     searching-by z (c .before .form-of .ensures) (s .pre .0 .nest) (s .pre .1) (s .pre .0 .map) b
     (λ e h. getD-replicate 4096 e false false (omega (arith, b, h)))
 

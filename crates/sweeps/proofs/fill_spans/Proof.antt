@@ -62,7 +62,8 @@ loop-again c =
     let h = taken-length (s .pre .table) in (
       omega arith,
       ap length e ∙ turn-length (s .args .back) (l .k) (p .result) (l .spans) ∙ l .inv .1,
-      rw e (most-turn (s .args .back) (p .result) (s .pre .few) (p .ensures .1) (l .inv .1 ∙ w .clear .kept .1 .0 ∙ s .pre .words) (l .inv .2)),
+      rw e (most-turn (s .args .back) (p .result) (s .pre .few) (p .ensures .1) (l .inv .1 ∙ w .clear .kept .1 .0 ∙ s .pre .words) (l .inv
+          .2)),
       rw (e, p .ensures .0) (sweep-step (turn (s .args .back)) _ _ _ (omega arith)) ∙ l .inv .3,
     )
 

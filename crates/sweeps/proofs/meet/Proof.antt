@@ -60,7 +60,8 @@ mul-spans-4 : tie.Need-mul-spans-4
 mul-spans-4 c = search needs
 
 slice-write-spans-3 : tie.Need-slice-write-spans-3
-slice-write-spans-3 c = let p = c .before .before .before .before .before .before .pre in simp length-set (omega (arith, p .point, p .words))
+slice-write-spans-3 c =
+    let p = c .before .before .before .before .before .before .pre in simp length-set (omega (arith, p .point, p .words))
 
 same-length : tie.Need-same-length
 same-length c = search needs

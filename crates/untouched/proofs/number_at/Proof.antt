@@ -3,7 +3,7 @@ use mathlib.Core.Path.{sym, _∙_, ap, subst}
 use borrow.Author.Needs.{needs}
 use Rattle.integers.specs.Differences.{up}
 use Rattle.integers.specs.declared.V3.{V3}
-use Rattle.numbering.specs.Forms.{Numbers, formAt}
+use Rattle.counting.specs.Forms.{Numbers, formAt}
 use Rattle.untouched.proofs.number_at.Statement.{statement}
 use Rattle.untouched.proofs.number_at.Tie as tie
 

@@ -27,7 +27,8 @@ retest-named-requires-2 c κs = let p = c .before .before .before .before .befor
 retest-gives-requires : tie.Need-retest-gives-requires
 retest-gives-requires c κs =
     let s = c .before .before .before .before .before .before .before .before .before in
-    let f = own-fire (s .args .z) (s .args .r) (s .args .n) (s .pre .2) (s .pre .3) (c .before .before .before .before .before .match .keys2) in
+    let f = own-fire (s .args .z) (s .args .r) (s .args .n) (s .pre .2) (s .pre .3) (c .before .before .before .before .before .match
+    .keys2) in
     (s .pre .0, s .pre .1, f .0, c .before .before .before .retest-named2 .ensures .words)
 
 retest-port-requires : tie.Need-retest-port-requires
@@ -43,7 +44,8 @@ same-length c = search needs
 returns : tie.Need-returns
 returns c =
     let s = c .before .before .before .before .before .before .before .before in
-    renewed-less (own-alone (s .args .z) (s .args .r) (s .args .n) (s .pre .2) (s .pre .3) (fourth (c .before .before .before .before .match .keys1)))
+    renewed-less (own-alone (s .args .z) (s .args .r) (s .args .n) (s .pre .2) (s .pre .3) (fourth (c .before .before .before .before
+    .match .keys1)))
     (c .before .before .retest-named .ensures)
 
 same-length-2 : tie.Need-same-length-2
@@ -52,7 +54,8 @@ same-length-2 c = search needs
 returns-2 : tie.Need-returns-2
 returns-2 c =
     let s = c .before .before .before .before .before .before .before .before .before .before .before .before in
-    renewed-then (own-fire (s .args .z) (s .args .r) (s .args .n) (s .pre .2) (s .pre .3) (c .before .before .before .before .before .before .before .before .match .keys2) .1)
+    renewed-then (own-fire (s .args .z) (s .args .r) (s .args .n) (s .pre .2) (s .pre .3) (c .before .before .before .before .before
+    .before .before .before .match .keys2) .1)
     (c .before .before .before .before .before .before .retest-named2 .ensures) (c .before .before .retest-gives .ensures)
 
 same-length-3 : tie.Need-same-length-3

@@ -8,9 +8,9 @@ use Rattle.integers.specs.Differences.{up}
 use Rattle.integers.specs.declared.V3.{V3}
 use Rattle.meaning.specs.Loops.{instances}
 use Rattle.geometry.specs.RowOrder.{row-lt}
-use Rattle.numbering.specs.Course.{nextOf, after, after-zero, after-next, reached, reached-small}
+use Rattle.counting.specs.Course.{nextOf, after, after-zero, after-next, reached, reached-small}
 use Rattle.numbering.specs.Extents.{Spanning, Numbered, box-spanning, image-inside}
-use Rattle.numbering.specs.Forms.{formAt, form-ready, form-is}
+use Rattle.counting.specs.Forms.{formAt, form-ready, form-is}
 use Rattle.written_order.specs.Columns.{column, column-zero, column-step, column-same}
 use Rattle.written_order.specs.Places.{numberFrom}
 use Rattle.written_order.proofs.fill_column.Statement.{statement}
@@ -38,14 +38,16 @@ loop-holds c = (omega arith, sym (column-zero _ _ _), sym (after-zero _))
 number-by-requires : tie.Need-number-by-requires Inv-loop μ-loop
 number-by-requires c κs =
     let p = c .before .before .before .before .before .before .pre in
-    form-ready (record { bounded = p .bounded; rows = p .rows; lt = omega arith }) (p .box) (c .before .before .before .before .form-of .ensures)
+    form-ready (record { bounded = p .bounded; rows = p .rows; lt = omega arith }) (p .box) (c .before .before .before .before .form-of
+    .ensures)
     (reached (p .bounded) (c .before .before .before .course-of .ensures .0) (c .before .loop .inv .2) (omega arith))
 
 add-table : tie.Need-add-table Inv-loop μ-loop
 add-table c =
     let p = c .before .before .before .before .before .before .before .pre in
     let l = c .before .before .loop in
-    let h : Numbered (c .before .before .before .before .before .before .before .args .n) (c .before .before .before .before .before .before .before .args .m) (l .k) = record { bounded = p .bounded; rows = p .rows; lt = omega arith } in
+    let h : Numbered (c .before .before .before .before .before .before .before .args .n) (c .before .before .before .before .before
+    .before .before .args .m) (l .k) = record { bounded = p .bounded; rows = p .rows; lt = omega arith } in
     let e = form-is h (p .box) (c .before .before .before .before .before .form-of .ensures)
     (reached (p .bounded) (c .before .before .before .before .course-of .ensures .0) (l .inv .2) (omega arith)) (c .number-by .ensures) in
     record { fits = omega (arith, e, row-lt _ _ (image-inside h), p .fits) }
@@ -67,8 +69,11 @@ element-write-table c = search needs
 
 next-requires : tie.Need-next-requires Inv-loop μ-loop
 next-requires c κs =
-    let w = c .before .before .before .before .course-of .ensures in
-    (w .1, reached-small (c .before .before .before .before .before .before .before .pre .bounded) (w .0) (c .before .before .loop .inv .2) (omega arith))
+    let w = c .before .before .before .before .course-of .ensures in (
+      w .1,
+      reached-small (c .before .before .before .before .before .before .before .pre .bounded) (w .0) (c .before .before .loop .inv
+          .2) (omega arith),
+    )
 
 add-k : tie.Need-add-k Inv-loop μ-loop
 add-k c = search needs
@@ -92,8 +97,14 @@ returns c =
     let s = c .before .before .before .before .before .before in
     let a = s .args in
     let p = s .pre in
-    let e : l .k ≡ length (instances (a .n)) = omega (arith, l .inv .0, c .before .before .before .before .before .instance-count .ensures .0) in
-    let f : (ℕ → ℕ) = λ k. a .start + up (formAt (c .before .before .before .before .form-of .result) (after (c .before .before .before .course-of .result) k)) in
+    let e : l .k ≡ length (instances (a .n)) = omega (
+      arith,
+      l .inv .0,
+      c .before .before .before .before .before .instance-count .ensures
+          .0,
+    ) in
+    let f : (ℕ → ℕ) = λ k. a .start + up (formAt (c .before .before .before .before .form-of .result) (after (c .before .before .before
+    .course-of .result) k)) in
     l .inv .1 ∙ ap (λ (k : ℕ). column (a .i) f k (a .table .now)) e
     ∙ column-same (a .i) f (numberFrom (a .n) (a .m) (a .start)) (length (instances (a .n))) (a .table .now)
     (λ k l.

@@ -7,7 +7,7 @@ use borrow.Author.Needs.{needs}
 use Rattle.meaning.specs.Loops.{instances}
 use Rattle.meaning.specs.Body.{executeAll, finalValues}
 use Rattle.meaning.specs.Calls.{lengthOf}
-use Rattle.numbering.specs.Course.{nextOf, after, after-zero, after-next, reached, reached-small}
+use Rattle.counting.specs.Course.{nextOf, after, after-zero, after-next, reached, reached-small}
 use Rattle.stream_lines.specs.InRange.{nest-bounded}
 use Rattle.written_order.specs.Run.{run-next, run-end}
 use Rattle.written_order.proofs.run_instances.Statement.{statement}
@@ -42,14 +42,19 @@ run-instance-requires c κs =
       p .1,
       omega (arith, c .before .before .before .before .before .instance-count .ensures),
       l .inv .1,
-      reached (nest-bounded (p .0 .few .ranged .nest)) w (l .inv .3) (omega (arith, c .before .before .before .before .before .instance-count .ensures)),
+      reached (nest-bounded (p .0 .few .ranged .nest)) w (l .inv .3) (omega (
+        arith,
+        c .before .before .before .before .before
+            .instance-count .ensures,
+      )),
     )
 
 next-requires : tie.Need-next-requires Inv-loop μ-loop
 next-requires c κs =
     let w = c .before .before .before .before .before .before .before .course-of .ensures in (
       w .1,
-      reached-small (nest-bounded (c .before .before .before .before .before .before .before .before .before .before .before .before .pre .0 .few .ranged .nest)) (w .0) (c .before .before .before .before .before .loop .inv .3)
+      reached-small (nest-bounded (c .before .before .before .before .before .before .before .before .before .before .before .before .pre
+          .0 .few .ranged .nest)) (w .0) (c .before .before .before .before .before .loop .inv .3)
           (omega (arith, c .before .before .before .before .before .before .before .before .instance-count .ensures)),
     )
 
@@ -80,7 +85,8 @@ returns : tie.Need-returns Inv-loop μ-loop
 returns c =
     let l = c .before .loop in
     let d = c .before .before .before .before .before .before .before .before .args .d in
-    run-end d (instances (d .nest)) (l .k) (l .store) (omega (arith, c .before .before .before .before .instance-count .ensures)) ∙ l .inv .2
+    run-end d (instances (d .nest)) (l .k) (l .store) (omega (arith, c .before .before .before .before .instance-count .ensures)) ∙ l .inv
+    .2
 
 pub run-instances-spec : {M : Type 1} → statement M
 run-instances-spec =
