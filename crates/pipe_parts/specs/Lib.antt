@@ -1,3 +1,4 @@
--- Entries by the lanes; starts of the parts.
+-- Entries by the lanes; starts of the parts; the heads of the pipes.
 pub mod Entries
 pub mod Starts
+pub mod Heads

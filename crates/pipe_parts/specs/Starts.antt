@@ -73,6 +73,13 @@ entering-entry n s y e = go (isEntry n s y) e
     go true e = refl
     go false e = e
 
+pub entering-pipe : (n : Nest) (s : Stream) (y : V2) → entering n s y ≡ true → isPipe n s y ≡ true
+entering-pipe n s y e = go (isEntry n s y) e
+  where
+    go : (b : Bool) → b && isPipe n s y ≡ true → isPipe n s y ≡ true
+    go true e = e
+    go false e = absurd (subst (λ (b : Bool). T (not b)) e tt)
+
 -- ---- where parts begin
 
 abbrev lengthOn : Nest → Stream → V2 → ℕ

@@ -1,20 +1,30 @@
-// A stream's pipes one by one, in row order of their entries: which processes are entries, and where the parts of the lists begin.
+// A stream's pipes one by one, in row order of their entries: which processes are entries, where the parts of the lists begin, and what the
+// rows of a pipe's processes read at its entry.
 //
 // specs/, by file:
 //
 //   Entries   an entry of a pipe by the lanes
 //   Starts    the entries before a process, and the elements of their pipes
+//   Heads     what the heads say of a pipe, by its entry: `pipe-elements`
 ghost use mathlib.Core.Path.{_≡_};
 ghost use mathlib.Core.Bool.{_&&_};
-ghost use Prim.Native.Nat.{_≤_};
+ghost use Prim.Native.Nat.{_≤_, _<_};
 ghost use lib.ListN.{length};
 ghost use Rattle.meaning.specs.Limits.{gaugeLimits};
 ghost use Rattle.integers.specs.Fill.{fillBy};
 ghost use Rattle.meaning.specs.Pipes.{isEntry, isPipe};
 ghost use Rattle.layout.specs.Spans.{processOf};
 ghost use Rattle.pipes.specs.Elements.{Near};
-ghost use Rattle.pipe_parts.specs.Starts.{enteringLength, enteringOne, Counting, Parting, startAt, enteredAt};
+ghost use Rattle.pipe_parts.specs.Starts.{enteringLength, Parting, startAt};
+ghost use Rattle.pipe_parts.specs.Heads.{headWords, headed};
 use lanes::Flow;
+use meaning::PROCESSES;
+
+// The words of the heads: for each process how many pipes enter before it, and from this word on how many elements the pipe has that enters
+// there.
+pub const TOTALS: usize = PROCESSES;
+
+pub const HEADS: usize = 2 * PROCESSES;
 
 // Whether process p is the entry of a pipe.
 pub fn is_entry(f: Flow, spans: &[u32], lanes: &[u32], p: usize) -> bool
@@ -29,7 +39,7 @@ pub fn is_entry(f: Flow, spans: &[u32], lanes: &[u32], p: usize) -> bool
 }
 
 // The elements that the pipe of process p has, if p is its entry.
-fn entering_length(f: Flow, spans: &[u32], lanes: &[u32], p: usize) -> u32
+pub fn entering_length(f: Flow, spans: &[u32], lanes: &[u32], p: usize) -> u32
     requires { ⌜ Near f (now spans) (now lanes) p ⌝ }
     ensures { λ r. ⌜ (r ≡ enteringLength (f .nest) (f .stream) p) × (r ≤ gaugeLimits .instances) ⌝ }
 {
@@ -61,24 +71,11 @@ pub fn fill_starts(
     }
 }
 
-// One, if process p is the entry of a pipe.
-fn entering_one(f: Flow, spans: &[u32], lanes: &[u32], p: usize) -> u32
-    requires { ⌜ Near f (now spans) (now lanes) p ⌝ }
-    ensures { λ r. ⌜ r ≡ enteringOne (f .nest) (f .stream) p ⌝ }
+// At process p: so many pipes enter before it, and the pipe that enters there has so many elements.
+pub fn put_head(heads: &mut [u32], p: usize, count: u32, total: u32)
+    requires { ⌜ (p < gaugeLimits .processes) × (length (now heads) ≡ headWords) ⌝ }
+    ensures { λ r. ⌜ now (heads .exit) ≡ headed (now (heads .entry)) p count total ⌝ }
 {
-    if is_entry(f, spans, lanes, p) { 1 } else { 0 }
-}
-
-// For each process how many pipes enter before it.
-pub fn fill_entered(f: Flow, processes: u32, spans: &[u32], lanes: &[u32], out: &mut [u32])
-    requires { ⌜ (Counting f processes (now spans) (now lanes)) × (processes ≤ length (now out)) ⌝ }
-    ensures { λ r. ⌜ now (out .exit) ≡ fillBy (enteredAt (f .nest) (f .stream)) processes (now (out .entry)) ⌝ }
-{
-    let mut count: u32 = 0;
-    let mut p: u32 = 0;
-    while p < processes {
-        out[p as usize] = count;
-        count += entering_one(f, spans, lanes, p as usize);
-        p += 1;
-    }
+    heads[p] = count;
+    heads[TOTALS + p] = total;
 }

@@ -145,18 +145,27 @@ pub fn total_at(f: Flow, spans: &[u32], lanes: &[u32], p: usize) -> u32
     }
 }
 
-// Its soak as the table has it: of a null process the number of its pipe's elements.
-pub fn soak_of(f: Flow, spans: &[u32], lanes: &[u32], p: usize) -> u32
-    requires { ⌜ Near f (now spans) (now lanes) p ⌝ }
-    ensures { λ r. ⌜ r ≡ rowSoak (f .nest) (f .stream) (processOf (f .nest) p) ⌝ }
+// Its soak, if it computes.
+pub fn own_soak(f: Flow, spans: &[u32], lanes: &[u32], p: usize) -> u32
+    requires { ⌜ (Near f (now spans) (now lanes) p) × (At f (now spans) p) ⌝ }
+    ensures { λ r. ⌜ r ≡ soak (f .nest) (f .stream) (processOf (f .nest) p) ⌝ }
 {
-    if spans[p] == 0 {
-        return total_at(f, spans, lanes, p);
-    }
     if f.moving {
         soak_at(f, spans, p)
     } else {
         rank_at(f, spans, lanes, p)
+    }
+}
+
+// Its soak as the table has it: of a null process the number of its pipe's elements.
+fn soak_of(f: Flow, spans: &[u32], lanes: &[u32], p: usize) -> u32
+    requires { ⌜ Near f (now spans) (now lanes) p ⌝ }
+    ensures { λ r. ⌜ r ≡ rowSoak (f .nest) (f .stream) (processOf (f .nest) p) ⌝ }
+{
+    if spans[p] == 0 {
+        total_at(f, spans, lanes, p)
+    } else {
+        own_soak(f, spans, lanes, p)
     }
 }
 

@@ -201,10 +201,10 @@ module _ (d : Description) (h : Described d) where
     first = streamStart nest (streamsOf d) i
 
     abbrev ys : List ℕ
-    ys = portRows nest s g i P xs
+    ys = endRows nest s g first b P xs
 
     abbrev zs : List ℕ
-    zs = endRows nest s g first b P ys
+    zs = portRows nest s g i P ys
 
     hi : i < length (streamsOf d)
     hi = omega (arith, h .in-use)
@@ -212,18 +212,24 @@ module _ (d : Description) (h : Described d) where
     below : i < 6
     below = omega (arith, six)
 
-    low-stays : (a : ℕ) → a < 61440 → getD zs a 0 ≡ getD ys a 0
-    low-stays a k = marks-other (onEnd nest s) (endLine nest s g first) (endSpot nest s b) 9 P a ys (λ p _ _. inl (omega arith))
+    -- the rows of processes lie below those of pipes
+    low-stays : (a : ℕ) → a < 61440 → getD ys a 0 ≡ getD xs a 0
+    low-stays a k = marks-other (onEnd nest s) (endLine nest s g first) (endSpot nest s b) 9 P a xs (λ p _ _. inl (omega arith))
+
+    high-stays : (a : ℕ) → 61440 ≤ a → getD zs a 0 ≡ getD ys a 0
+    high-stays a k = marks-other always (portLine nest s g) (portPlace i) 10 P a ys (λ r m _. inr (omega (arith, h .processes, below)))
 
     row-stays : (p k v : ℕ) → p < P → k < i → v < 10 → getD zs (60 * p + 10 * k + v) 0 ≡ getD xs (60 * p + 10 * k + v) 0
     row-stays p k v hp m hv =
-        low-stays (60 * p + 10 * k + v) (omega (arith, h .processes, below))
-        ∙ marks-other always (portLine nest s g) (portPlace i) 10 P (60 * p + 10 * k + v) xs (λ r _ _. rows-apart p k v r i m below hv)
+        marks-other always (portLine nest s g) (portPlace i) 10 P (60 * p + 10 * k + v) ys (λ r _ _. rows-apart p k v r i m below hv)
+        ∙ low-stays (60 * p + 10 * k + v) (omega (arith, h .processes, below))
+
+    ends-words : length ys ≡ 116736
+    ends-words = marks-length (onEnd nest s) (endLine nest s g first) (endSpot nest s b) 9 P xs ∙ done .words
 
     own-port : (p : ℕ) → p < P → (v : ℕ) → v < 10 → getD zs (60 * p + 10 * i + v) 0 ≡ getD (portWords (rowOf A p i)) v 0
     own-port p hp v hv =
-        low-stays (60 * p + 10 * i + v) (omega (arith, h .processes, below))
-        ∙ marks-at always (portLine nest s g) (portPlace i) 10 P p v xs hp refl hv (omega (arith, done .words, h .processes, below))
+        marks-at always (portLine nest s g) (portPlace i) 10 P p v ys hp refl hv (omega (arith, ends-words, h .processes, below))
         (λ r k _ _. inl (omega arith))
         ∙ ap (λ (k : Port). getD (portWords k) v 0) (row-is laid sg p hp)
 
@@ -261,16 +267,9 @@ module _ (d : Description) (h : Described d) where
         let start : startAt nest s first p ≡ partStart A (b + j) =
         sym (part-start d i j hi hj laid ∙ ap (λ (c : ℕ). first + partOf nest s c) (sym count)
         ∙ ap (λ (m : List V2). first + total (λ y. length (pipeElements nest s y)) m) (take-filter (entering nest s) p (processes nest))) in
-        ap (λ (c : ℕ). getD zs (61440 + 9 * (b + c) + v) 0) (sym count)
-        ∙ marks-at (onEnd nest s) (endLine nest s g first) (endSpot nest s b) 9 P p v ys lt on hv
-        (omega (
-          arith,
-          marks-length always (portLine nest s g) (portPlace i) 10 P xs,
-          done .words,
-          base-most i l,
-          entered-few nest s p,
-          h .processes,
-        ))
+        high-stays (61440 + 9 * (b + j) + v) (omega arith) ∙ ap (λ (c : ℕ). getD ys (61440 + 9 * (b + c) + v) 0) (sym count)
+        ∙ marks-at (onEnd nest s) (endLine nest s g first) (endSpot nest s b) 9 P p v xs lt on hv
+        (omega (arith, done .words, base-most i l, entered-few nest s p, h .processes))
         (λ r m k _. inl (omega (arith, up (suc p) r m (omega arith), entered-next nest s p lt 1 (one-yes nest s p on))))
         ∙ ap (λ (c : ℕ). getD (endWords (endFrom nest s g (startAt nest s first p) c p)) v 0) count
         ∙ ap (λ (k : End). getD (endWords k) v 0) (end-is laid sg j hj start)
@@ -280,9 +279,8 @@ module _ (d : Description) (h : Described d) where
       where
         go : Dec (suc q ≤ b) → getD zs (61440 + 9 * q + v) 0 ≡ getD (endWords (endOf A q)) v 0
         go (yes k) =
-            marks-other (onEnd nest s) (endLine nest s g first) (endSpot nest s b) 9 P (61440 + 9 * q + v) ys (λ p _ _. inl (omega arith))
-            ∙ marks-other always (portLine nest s g) (portPlace i) 10 P (61440 + 9 * q + v) xs
-            (λ r m _. inr (omega (arith, h .processes, below)))
+            high-stays (61440 + 9 * q + v) (omega arith)
+            ∙ marks-other (onEnd nest s) (endLine nest s g first) (endSpot nest s b) 9 P (61440 + 9 * q + v) xs (λ p _ _. inl (omega arith))
             ∙ done .ends q k v hv
         go (no k) =
             let e : b + (q - b) ≡ q = omega arith in
@@ -292,9 +290,7 @@ module _ (d : Description) (h : Described d) where
     stream-filled : Filled d (suc i) zs
     stream-filled =
         record {
-          words =
-              marks-length (onEnd nest s) (endLine nest s g first) (endSpot nest s b) 9 P ys
-              ∙ marks-length always (portLine nest s g) (portPlace i) 10 P xs ∙ done .words;
+          words = marks-length always (portLine nest s g) (portPlace i) 10 P ys ∙ ends-words;
           ports = ports-next;
           ends = ends-next;
         }

@@ -1,28 +1,32 @@
 -- The rows of a stream, what its rows share, and what the functions are lent. Assumes nothing.
-use mathlib.Core.Path.{_≡_, sym, _∙_, ap, ap₂, subst₂}
-use mathlib.Core.Bool.{Bool, true, false, cond}
+use mathlib.Core.Path.{_≡_, sym, _∙_, ap, ap₂, subst, subst₂}
+use mathlib.Core.Bool.{Bool, true, false, not, cond}
 use mathlib.Core.List.{List}
 use Prim.Native.Nat.{ℕ, _+_, _*_, _≤_, _<_}
 use native.Mathlib.Omega.{arith}
-use lib.ListN.{length, getD, take, length-take}
+use lib.Dec.{eqb}
+use lib.ListN.{length, take, length-take}
 use lib.Seq.{take-length}
-use Rattle.integers.specs.Fill.{fillBy, fill-length, fill-at}
+use borrow.Author.Tests.{eq-eqb, ne-eqb}
+use Rattle.integers.specs.Vectors.{zero2}
 use Rattle.integers.specs.declared.V2.{V2}
 use Rattle.meaning.specs.declared.Nest.{Nest}
 use Rattle.meaning.specs.declared.Stream.{Stream}
 use Rattle.meaning.specs.Limits.{processWordsMost, endWordsMost}
 use Rattle.meaning.specs.Lists.{filter}
-use Rattle.meaning.specs.Space.{processes}
+use Rattle.meaning.specs.Space.{space, processes}
 use Rattle.meaning.specs.Streams.{elements}
-use Rattle.meaning.specs.Pipes.{entries}
+use Rattle.meaning.specs.Pipes.{entries, pipeElements}
 use Rattle.lists.specs.Tests.{filter-fewer}
+use Rattle.geometry.specs.Places.{getD-in}
+use Rattle.geometry.specs.Boxes.{points-inside}
 use Rattle.layout.specs.Spans.{processOf, Spans}
 use Rattle.ports.specs.declared.Port.{Port}
 use Rattle.ports.specs.declared.End.{End}
 use Rattle.lanes.specs.declared.Flow.{Flow}
 use Rattle.lanes.specs.Flow.{Flows, Seen}
-use Rattle.pipes.specs.Elements.{Near}
-use Rattle.pipe_parts.specs.Starts.{entering, startAt, enteredAt, start-most}
+use Rattle.pipe_parts.specs.Starts.{entering, enteringLength, startAt, enteredAt, start-most}
+use Rattle.pipe_parts.specs.Heads.{Heads, entering-some}
 use Rattle.figures.specs.Shares.{Sharing}
 use Rattle.port_rows.specs.declared.Strand.{Strand}
 use Rattle.port_rows.specs.Strands.{Narrow, PortGiven, rowFrom, endFrom}
@@ -83,42 +87,41 @@ abbrev pub endRows : Nest → Stream → Strand → ℕ → ℕ → ℕ → List
 endRows n s g first base k l = marks (onEnd n s) (endLine n s g first) (endSpot n s base) 9 k l
 
 abbrev pub streamRows : Nest → Stream → Strand → ℕ → ℕ → ℕ → List ℕ → List ℕ
-streamRows n s g i first base l = endRows n s g first base (length (processes n)) (portRows n s g i (length (processes n)) l)
+streamRows n s g i first base l = portRows n s g i (length (processes n)) (endRows n s g first base (length (processes n)) l)
 
 -- ---- what the functions are lent
 
-pub record PortFillable (f : Flow) (g : Strand) (spans lanes entered : List ℕ) (i p : ℕ) : Type 0 where
-  pub has-port : PortGiven f spans lanes entered p
+pub record EndFillable (f : Flow) (g : Strand) (total start base j p : ℕ) : Type 0 where
+  pub flows : Flows f
+  pub lt : p < length (processes (f .nest))
   pub narrow : Narrow g
   pub small : length (elements (f .nest) (f .stream)) ≤ 4096
-  pub stream : i < 6
-
-pub record EndFillable (f : Flow) (g : Strand) (spans lanes : List ℕ) (start base j p : ℕ) : Type 0 where
-  pub near : Near f spans lanes p
-  pub narrow : Narrow g
-  pub small : length (elements (f .nest) (f .stream)) ≤ 4096
+  pub entering : total ≡ enteringLength (f .nest) (f .stream) p
   pub begins : start ≤ 28672
   pub based : base ≤ 5120
   pub pipe : j < 1024
 
-pub record PortsFillable (f : Flow) (g : Strand) (count : ℕ) (spans lanes entered : List ℕ) (i : ℕ) : Type 0 where
+pub record EndsFillable (f : Flow) (g : Strand) (count : ℕ) (spans lanes : List ℕ) (first base : ℕ) : Type 0 where
   pub seen : Seen f spans lanes
   pub counted : count ≡ length (processes (f .nest))
-  pub counts : (e : ℕ) → e < length (processes (f .nest)) → getD entered e 0 ≡ enteredAt (f .nest) (f .stream) e
-  pub long : 1024 ≤ length entered
-  pub narrow : Narrow g
-  pub small : length (elements (f .nest) (f .stream)) ≤ 4096
-  pub stream : i < 6
-
-pub record EndsFillable (f : Flow) (g : Strand) (count : ℕ) (spans lanes starts : List ℕ) (first base : ℕ) : Type 0 where
-  pub seen : Seen f spans lanes
-  pub counted : count ≡ length (processes (f .nest))
-  pub long : 1024 ≤ length starts
-  pub begins : (e : ℕ) → e < length (processes (f .nest)) → getD starts e 0 ≡ startAt (f .nest) (f .stream) first e
   pub narrow : Narrow g
   pub small : length (elements (f .nest) (f .stream)) ≤ 4096
   pub early : first ≤ 24576
   pub based : base ≤ 5120
+
+pub record PortFillable (f : Flow) (g : Strand) (spans lanes heads : List ℕ) (i p : ℕ) : Type 0 where
+  pub has-port : PortGiven f spans lanes heads p
+  pub narrow : Narrow g
+  pub small : length (elements (f .nest) (f .stream)) ≤ 4096
+  pub stream : i < 6
+
+pub record PortsFillable (f : Flow) (g : Strand) (count : ℕ) (spans lanes heads : List ℕ) (i : ℕ) : Type 0 where
+  pub seen : Seen f spans lanes
+  pub counted : count ≡ length (processes (f .nest))
+  pub of-heads : Heads (f .nest) (f .stream) (length (processes (f .nest))) heads
+  pub narrow : Narrow g
+  pub small : length (elements (f .nest) (f .stream)) ≤ 4096
+  pub stream : i < 6
 
 pub record StreamFillable (n : Nest) (s : Stream) (g : Strand) (i first base : ℕ) (spans : List ℕ) : Type 0 where
   pub sharing : Sharing n s
@@ -131,17 +134,12 @@ pub record StreamFillable (n : Nest) (s : Stream) (g : Strand) (i first base : �
 
 -- ---- a turn
 
-module _ {f : Flow} {g : Strand} {count : ℕ} {spans lanes entered : List ℕ} {i : ℕ}
-    (h : PortsFillable f g count spans lanes entered i) where
-  pub port-fillable : (p : ℕ) → p < count → PortFillable f g spans lanes entered i p
+module _ {f : Flow} {g : Strand} {count : ℕ} {spans lanes heads : List ℕ} {i : ℕ}
+    (h : PortsFillable f g count spans lanes heads i) where
+  pub port-fillable : (p : ℕ) → p < count → PortFillable f g spans lanes heads i p
   port-fillable p l =
       record {
-        has-port =
-            record {
-              near = record { seen = h .seen; lt = omega (arith, h .counted) };
-              counts = h .counts;
-              long = h .long;
-            };
+        has-port = record { near = record { seen = h .seen; lt = omega (arith, h .counted) }; of-heads = h .of-heads };
         narrow = h .narrow;
         small = h .small;
         stream = h .stream;
@@ -155,25 +153,42 @@ pub entered-all : (n : Nest) (s : Stream) (p : ℕ) → p ≡ length (processes 
 entered-all n s p e =
     ap (enteredAt n s) e ∙ ap (λ (l : List V2). length (filter (entering n s) l)) (take-length (processes n))
 
-module _ {f : Flow} {g : Strand} {count : ℕ} {spans lanes starts : List ℕ} {first base : ℕ}
-    (h : EndsFillable f g count spans lanes starts first base) where
-  pub end-fillable : (p : ℕ) → p < count → {j : ℕ} → j ≡ enteredAt (f .nest) (f .stream) p
-      → EndFillable f g spans lanes (getD starts p 0) base j p
-  end-fillable p l e =
+module _ {f : Flow} {g : Strand} {count : ℕ} {spans lanes : List ℕ} {first base : ℕ}
+    (h : EndsFillable f g count spans lanes first base) where
+  pub start-few : (p : ℕ) {start : ℕ} → start ≡ startAt (f .nest) (f .stream) first p → start ≤ 28672
+  start-few p e = omega (arith, e, start-most (h .seen .flows .laid .accepted) (h .small) first p, h .early)
+
+  pub end-fillable : (p : ℕ) → p < count → {total start j : ℕ} → total ≡ enteringLength (f .nest) (f .stream) p
+      → start ≡ startAt (f .nest) (f .stream) first p → j ≡ enteredAt (f .nest) (f .stream) p → EndFillable f g total start base j p
+  end-fillable p l et es ej =
       record {
-        near = record { seen = h .seen; lt = omega (arith, h .counted) };
+        flows = h .seen .flows;
+        lt = omega (arith, h .counted);
         narrow = h .narrow;
         small = h .small;
-        begins =
-            omega (
-              arith,
-              h .begins p (omega (arith, h .counted)),
-              start-most (h .seen .flows .laid .accepted) (h .small) first p,
-              h .early,
-            );
+        entering = et;
+        begins = start-few p es;
         based = h .based;
-        pipe = omega (arith, e, entered-few (f .nest) (f .stream) p, h .counted, h .seen .flows .laid .processes);
+        pipe = omega (arith, ej, entered-few (f .nest) (f .stream) p, h .counted, h .seen .flows .laid .processes);
       }
+
+-- the test of the code: a pipe enters at a process exactly if it has elements there
+module _ {f : Flow} {g : Strand} {total start base j p : ℕ} (h : EndFillable f g total start base j p) where
+  on-total : onEnd (f .nest) (f .stream) p ≡ not (eqb total 0)
+  on-total =
+      entering-some (h .flows .laid .accepted)
+      (points-inside (space (f .nest)) (processOf (f .nest) p) (getD-in (processes (f .nest)) p zero2 (h .lt)))
+      ∙ ap (λ (k : ℕ). not (eqb k 0)) (sym (h .entering))
+
+  pub end-on : (total ≡ 0 → ⊥) → onEnd (f .nest) (f .stream) p ≡ true
+  end-on z = on-total ∙ ap not (ne-eqb total 0 z)
+
+  pub end-off : total ≡ 0 → onEnd (f .nest) (f .stream) p ≡ false
+  end-off z = on-total ∙ ap not (eq-eqb total 0 z)
+
+  pub end-elements : (total ≡ 0 → ⊥) → total ≡ length (pipeElements (f .nest) (f .stream) (processOf (f .nest) p))
+  end-elements z =
+      h .entering ∙ ap (λ (b : Bool). cond b (length (pipeElements (f .nest) (f .stream) (processOf (f .nest) p))) 0) (end-on z)
 
 -- ---- one row
 
@@ -215,49 +230,36 @@ module _ (n : Nest) (s : Stream) (g : Strand) (first base p : ℕ) (l : List ℕ
 
 module _ {f : Flow} (flows : Flows f) {n : Nest} {s : Stream} (en : f .nest ≡ n)
     (es : f .stream ≡ s) {g : Strand} {i first base : ℕ} {spans : List ℕ} (h : StreamFillable n s g i first base spans) where
-  pub small-here : length (elements (f .nest) (f .stream)) ≤ 4096
+  small-here : length (elements (f .nest) (f .stream)) ≤ 4096
   small-here = subst₂ (λ (n : Nest) (s : Stream). length (elements n s) ≤ 4096) (sym en) (sym es) (h .sharing .elements)
 
-  module _ {lanes : List ℕ} (seen : Seen f spans lanes) {count : ℕ} (c : count ≡ length (processes (f .nest))) (xs : List ℕ)
-      (w : length xs ≡ 1024) where
-    filled-at : (v : ℕ → ℕ) {out : List ℕ} → out ≡ fillBy v count xs → (e : ℕ) → e < length (processes (f .nest)) → getD out e 0 ≡ v e
-    filled-at v o e l =
-        ap (λ (m : List ℕ). getD m e 0) o ∙ fill-at v count e xs 0 (omega (arith, c)) (omega (arith, c, w, flows .laid .processes))
-
-    filled-long : (v : ℕ → ℕ) {out : List ℕ} → out ≡ fillBy v count xs → 1024 ≤ length out
-    filled-long v o = omega (arith, ap length o, fill-length v count xs, w)
-
-    pub ports-fillable : {entered : List ℕ} → entered ≡ fillBy (enteredAt (f .nest) (f .stream)) count xs
-        → PortsFillable f g count spans lanes entered i
-    ports-fillable o =
+  module _ {lanes : List ℕ} (seen : Seen f spans lanes) {count : ℕ} (c : count ≡ length (processes (f .nest))) where
+    pub ends-fillable : EndsFillable f g count spans lanes first base
+    ends-fillable =
         record {
           seen = seen;
           counted = c;
-          counts = filled-at (enteredAt (f .nest) (f .stream)) o;
-          long = filled-long (enteredAt (f .nest) (f .stream)) o;
-          narrow = h .narrow;
-          small = small-here;
-          stream = h .stream;
-        }
-
-    pub ends-fillable : {starts : List ℕ} → starts ≡ fillBy (startAt (f .nest) (f .stream) first) count xs
-        → EndsFillable f g count spans lanes starts first base
-    ends-fillable o =
-        record {
-          seen = seen;
-          counted = c;
-          begins = filled-at (startAt (f .nest) (f .stream) first) o;
-          long = filled-long (startAt (f .nest) (f .stream) first) o;
           narrow = h .narrow;
           small = small-here;
           early = h .early;
           based = h .based;
         }
 
+    pub ports-fillable : {heads : List ℕ} → Heads (f .nest) (f .stream) count heads → PortsFillable f g count spans lanes heads i
+    ports-fillable {heads} o =
+        record {
+          seen = seen;
+          counted = c;
+          of-heads = subst (λ (k : ℕ). Heads (f .nest) (f .stream) k heads) c o;
+          narrow = h .narrow;
+          small = small-here;
+          stream = h .stream;
+        }
+
   pub strung : {count : ℕ} → count ≡ length (processes (f .nest)) → (l : List ℕ) {x out : List ℕ}
-      → x ≡ portRows (f .nest) (f .stream) g i count l
-      → out ≡ endRows (f .nest) (f .stream) g first base count x → out ≡ streamRows n s g i first base l
+      → x ≡ endRows (f .nest) (f .stream) g first base count l
+      → out ≡ portRows (f .nest) (f .stream) g i count x → out ≡ streamRows n s g i first base l
   strung {count} c l ex eo =
-      eo ∙ ap (endRows (f .nest) (f .stream) g first base count) ex
-      ∙ ap (λ (k : ℕ). endRows (f .nest) (f .stream) g first base k (portRows (f .nest) (f .stream) g i k l)) c
+      eo ∙ ap (portRows (f .nest) (f .stream) g i count) ex
+      ∙ ap (λ (k : ℕ). portRows (f .nest) (f .stream) g i k (endRows (f .nest) (f .stream) g first base k l)) c
       ∙ ap₂ (λ (n : Nest) (s : Stream). streamRows n s g i first base l) en es

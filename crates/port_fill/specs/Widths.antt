@@ -1,11 +1,11 @@
 -- The rows of a stream fit words. Assumes nothing.
 use mathlib.Core.Path.{_≡_, refl}
 use mathlib.Core.Bool.{Bool, true, false, cond}
-use mathlib.Core.List.{List}
 use Prim.Native.Nat.{ℕ, _+_, _≤_, _<_}
 use native.Mathlib.Omega.{arith}
 use lib.Dec.{eqb}
 use lib.ListN.{length}
+use Rattle.integers.specs.Vectors.{zero2}
 use Rattle.integers.specs.declared.V2.{V2}
 use Rattle.meaning.specs.declared.Nest.{Nest}
 use Rattle.meaning.specs.declared.Stream.{Stream}
@@ -14,29 +14,31 @@ use Rattle.meaning.specs.Space.{rowIndex, boxOf, space, processes, count, compu
 use Rattle.meaning.specs.Streams.{move, elements}
 use Rattle.meaning.specs.Pipes.{reach, before, isPipe, uses, pipeElements, soak}
 use Rattle.meaning.specs.Array.{rowSoak}
+use Rattle.meaning.specs.Points.{Inside}
 use Rattle.lists.specs.Tests.{position-most}
 use Rattle.geometry.specs.Sorting.{fewer}
-use Rattle.geometry.specs.Boxes.{inside-points}
+use Rattle.geometry.specs.Places.{getD-in}
+use Rattle.geometry.specs.Boxes.{inside-points, points-inside}
 use Rattle.geometry.specs.RowOrder.{row-lt}
 use Rattle.geometry.specs.Segments.{at-box}
-use Rattle.geometry.specs.Pipes.{in-on}
+use Rattle.geometry.specs.Pipes.{Accepted, in-on}
 use Rattle.geometry.specs.Elements.{elements-distinct}
 use Rattle.addresses.specs.Ends.{backOf, onOf, exitOf, back-inside, on-inside, last-inside}
 use Rattle.layout.specs.Spans.{processOf}
 use Rattle.lanes.specs.declared.Flow.{Flow}
 use Rattle.lanes.specs.Held.{entryNumber}
-use Rattle.pipes.specs.Elements.{Near, good, inside, few}
+use Rattle.lanes.specs.Flow.{Flows}
 use Rattle.pipe_parts.specs.Starts.{entered-le}
 use Rattle.port_rows.specs.declared.Strand.{Strand}
 use Rattle.stream_lines.specs.StateWords.{process-words, end-words}
 use Rattle.port_rows.specs.Strands.{Narrow, portIndex, endIndex, beforeFrom, afterFrom, roomFrom, pipeOf, portFrom, offFrom, rowFrom}
-use Rattle.port_rows.specs.Strands.{endFrom, some-before, count-fits}
+use Rattle.port_rows.specs.Strands.{endFrom, some-before, count-most}
 use Rattle.port_table.specs.Rows.{PortWide, EndWide}
 
 wide : {a : ℕ} → a ≤ stateWordsMost + endWordsMost + 2 → a < 4294967296
 wide h = omega arith
 
-module _ {g : Strand} (w : Narrow g) {f : Flow} {spans lanes : List ℕ} {p : ℕ} (h : Near f spans lanes p)
+module _ {g : Strand} (w : Narrow g) {f : Flow} (h : Flows f) {p : ℕ} (lt : p < length (processes (f .nest)))
     (small : length (elements (f .nest) (f .stream)) ≤ 4096) where
   abbrev n : Nest
   n = f .nest
@@ -47,8 +49,14 @@ module _ {g : Strand} (w : Narrow g) {f : Flow} {spans lanes : List ℕ} {p : �
   abbrev y : V2
   y = processOf n p
 
+  good : Accepted n s
+  good = h .laid .accepted
+
+  inside : Inside (space n) y
+  inside = points-inside (space n) y (getD-in (processes n) p zero2 lt)
+
   port-low : (q : ℕ) → q < length (processes n) → portIndex g q ≤ stateWordsMost
-  port-low q l = omega (arith, process-words {p = q} {w = g .stride} (omega (arith, few h)) (w .stride), w .offset)
+  port-low q l = omega (arith, process-words {p = q} {w = g .stride} (omega (arith, h .laid .processes)) (w .stride), w .offset)
 
   sent-low : (j : ℕ) → j ≤ 1024 → endIndex g j ≤ stateWordsMost + endWordsMost
   sent-low j l = omega (arith, end-words {j = j} {h = g .hop} l (w .hop), w .tail)
@@ -58,8 +66,8 @@ module _ {g : Strand} (w : Narrow g) {f : Flow} {spans lanes : List ℕ} {p : �
       omega (
         arith,
         small,
-        fewer (elements-distinct (good h) y)
-            (λ e i. inside-points (boxOf n (s .map)) e (at-box (good h .layout .dirs) (in-on (good h) (inside h) i .at))),
+        fewer (elements-distinct good y)
+            (λ e i. inside-points (boxOf n (s .map)) e (at-box (good .layout .dirs) (in-on good inside i .at))),
       )
 
   soak-low : rowSoak n s y ≤ 4096
@@ -70,7 +78,7 @@ module _ {g : Strand} (w : Narrow g) {f : Flow} {spans lanes : List ℕ} {p : �
       go false = total-low
 
   count-low : count n y ≤ 4096
-  count-low = omega (arith, count-fits h, h .seen .of-spans .counts p (h .lt))
+  count-low = omega (arith, count-most n y, h .laid .instances)
 
   module _ (sent : ℕ) (l : sent ≤ stateWordsMost + endWordsMost) where
     before-low : beforeFrom n s g sent p ≤ stateWordsMost + endWordsMost + 2
@@ -83,11 +91,11 @@ module _ {g : Strand} (w : Narrow g) {f : Flow} {spans lanes : List ℕ} {p : �
             omega (
               arith,
               port-low (rowIndex (space n) (backOf n s y))
-                  (row-lt (space n) (backOf n s y) (back-inside (good h) (inside h) (some-before e))),
+                  (row-lt (space n) (backOf n s y) (back-inside good inside (some-before e))),
             )
 
     next-low : eqb (reach (space n) (move n s) y) 0 ≡ false → portIndex g (rowIndex (space n) (onOf n s y)) ≤ stateWordsMost
-    next-low e = port-low (rowIndex (space n) (onOf n s y)) (row-lt (space n) (onOf n s y) (on-inside (good h) (inside h) (some-before e)))
+    next-low e = port-low (rowIndex (space n) (onOf n s y)) (row-lt (space n) (onOf n s y) (on-inside good inside (some-before e)))
 
     after-low : afterFrom n s g sent p ≤ stateWordsMost + endWordsMost + 2
     after-low = go (eqb (reach (space n) (move n s) y) 0) refl
@@ -106,17 +114,17 @@ module _ {g : Strand} (w : Narrow g) {f : Flow} {spans lanes : List ℕ} {p : �
         go false e = omega (arith, next-low e)
 
   own-low : endIndex g (pipeOf n s p) ≤ stateWordsMost + endWordsMost
-  own-low = sent-low (pipeOf n s p) (omega (arith, entered-le n s (entryNumber n s p), few h))
+  own-low = sent-low (pipeOf n s p) (omega (arith, entered-le n s (entryNumber n s p), h .laid .processes))
 
   port-wide : PortWide (portFrom n s g p)
   port-wide =
       let sent = endIndex g (pipeOf n s p) in
       record {
-        at = wide (omega (arith, port-low p (h .lt)));
+        at = wide (omega (arith, port-low p lt));
         before = wide (before-low sent own-low);
         after = wide (after-low sent own-low);
         room = wide (room-low sent own-low);
-        fired = wide (omega (arith, port-low p (h .lt)));
+        fired = wide (omega (arith, port-low p lt));
         hop = wide (omega (arith, w .hop));
         soak = wide (omega (arith, soak-low));
         count = wide (omega (arith, count-low));
@@ -126,11 +134,11 @@ module _ {g : Strand} (w : Narrow g) {f : Flow} {spans lanes : List ℕ} {p : �
   off-wide : PortWide (offFrom g (count n y) p)
   off-wide =
       record {
-        at = wide (omega (arith, port-low p (h .lt)));
-        before = wide (omega (arith, port-low p (h .lt)));
-        after = wide (omega (arith, port-low p (h .lt)));
-        room = wide (omega (arith, port-low p (h .lt)));
-        fired = wide (omega (arith, port-low p (h .lt)));
+        at = wide (omega (arith, port-low p lt));
+        before = wide (omega (arith, port-low p lt));
+        after = wide (omega (arith, port-low p lt));
+        room = wide (omega (arith, port-low p lt));
+        fired = wide (omega (arith, port-low p lt));
         hop = wide (omega arith);
         soak = wide (omega arith);
         count = wide (omega (arith, count-low));
@@ -148,11 +156,11 @@ module _ {g : Strand} (w : Narrow g) {f : Flow} {spans lanes : List ℕ} {p : �
   end-wide start j a b =
       record {
         sent = wide (omega (arith, sent-low j b));
-        after = wide (omega (arith, port-low p (h .lt)));
-        room = wide (omega (arith, port-low p (h .lt)));
+        after = wide (omega (arith, port-low p lt));
+        room = wide (omega (arith, port-low p lt));
         before =
             wide (omega
-            (arith, port-low (rowIndex (space n) (exitOf n s y)) (row-lt (space n) (exitOf n s y) (last-inside (good h) (inside h)))));
+            (arith, port-low (rowIndex (space n) (exitOf n s y)) (row-lt (space n) (exitOf n s y) (last-inside good inside))));
         received = wide (omega (arith, sent-low j b));
         last = wide (omega (arith, sent-low j b));
         hop = wide (omega (arith, w .hop));

@@ -1,5 +1,5 @@
 // The port table of a description filled: the rows of all its ports and of all its pipes' ends. Stream by stream: what its rows share, by
-// the sums over the streams before it; then the row of each process, and the row of each pipe, by its entry.
+// the sums over the streams before it; then the row of each pipe, by its entry, and the row of each process, by the entry of its line.
 //
 // specs/, by file:
 //
@@ -18,6 +18,7 @@ ghost use Rattle.geometry.specs.Descriptions.{Laid};
 ghost use Rattle.addresses.specs.Indices.{strideOf};
 ghost use Rattle.layout.specs.Spans.{Spans, spanWords};
 ghost use Rattle.pipe_parts.specs.Starts.{enteringOne};
+ghost use Rattle.pipe_parts.specs.Heads.{headWords, Heads};
 ghost use Rattle.figures.specs.Shares.{Described, Sharing};
 ghost use Rattle.port_rows.specs.Strands.{Narrow};
 ghost use Rattle.port_table.specs.PortsOf.{PortsOf, portTableWords};
@@ -28,8 +29,8 @@ use lanes::Flow;
 use lanes::LANES;
 use meaning::Description;
 use meaning::Nest;
-use meaning::PROCESSES;
 use meaning::Stream;
+use pipe_parts::HEADS;
 use port_rows::Strand;
 use port_table::PORT;
 use port_table::PROCESS;
@@ -89,21 +90,76 @@ fn stride_of(d: Description) -> u32
 
 // ---- the rows of a stream
 
+// The row of the stream's pipe j, if a pipe of so many elements enters at process p, and then one; else none. The pipes of the streams
+// before it are `base`.
+fn put_end(
+    f: Flow,
+    g: Strand,
+    total: u32,
+    start: u32,
+    base: u32,
+    j: u32,
+    p: u32,
+    ports: &mut [u32],
+) -> u32
+    requires { ⌜ (EndFillable f g total start base j p) × (length (now ports) ≡ portTableWords) ⌝ }
+    ensures { λ r. ⌜ (r ≡ enteringOne (f .nest) (f .stream) p)
+        × (now (ports .exit) ≡ endRow (f .nest) (f .stream) g start base j p (now (ports .entry))) ⌝ }
+{
+    if total == 0 {
+        0
+    } else {
+        let e = port_rows::end_of(f, g, total, start, j, p);
+        port_table::put_end(ports, (PIPE_ROWS + END * (base + j)) as usize, e);
+        1
+    }
+}
+
+// The rows of all pipes, with their heads, and how many there are.
+fn put_ends(
+    f: Flow,
+    g: Strand,
+    processes: u32,
+    spans: &[u32],
+    lanes: &[u32],
+    first: u32,
+    base: u32,
+    heads: &mut [u32],
+    ports: &mut [u32],
+) -> u32
+    requires { ⌜ (EndsFillable f g processes (now spans) (now lanes) first base) × (length (now heads) ≡ headWords)
+        × (length (now ports) ≡ portTableWords) ⌝ }
+    ensures { λ r. ⌜ (r ≡ length (entries (f .nest) (f .stream))) × (Heads (f .nest) (f .stream) processes (now (heads .exit)))
+        × (now (ports .exit) ≡ endRows (f .nest) (f .stream) g first base processes (now (ports .entry))) ⌝ }
+{
+    let mut start = first;
+    let mut j: u32 = 0;
+    let mut p: u32 = 0;
+    while p < processes {
+        let total = pipe_parts::entering_length(f, spans, lanes, p as usize);
+        pipe_parts::put_head(heads, p as usize, j, total);
+        j += put_end(f, g, total, start, base, j, p, ports);
+        start += total;
+        p += 1;
+    }
+    j
+}
+
 // The row of process p of stream i.
 fn put_port(
     f: Flow,
     g: Strand,
     spans: &[u32],
     lanes: &[u32],
-    entered: &[u32],
+    heads: &[u32],
     i: usize,
     p: usize,
     ports: &mut [u32],
 )
-    requires { ⌜ (PortFillable f g (now spans) (now lanes) (now entered) i p) × (length (now ports) ≡ portTableWords) ⌝ }
+    requires { ⌜ (PortFillable f g (now spans) (now lanes) (now heads) i p) × (length (now ports) ≡ portTableWords) ⌝ }
     ensures { λ r. ⌜ now (ports .exit) ≡ portRow (f .nest) (f .stream) g i p (now (ports .entry)) ⌝ }
 {
-    let k = port_rows::row_of(f, g, spans, lanes, entered, p);
+    let k = port_rows::row_of(f, g, spans, lanes, heads, p);
     port_table::put_port(ports, PROCESS * p + PORT * i, k);
 }
 
@@ -114,69 +170,18 @@ fn put_ports(
     processes: u32,
     spans: &[u32],
     lanes: &[u32],
-    entered: &[u32],
+    heads: &[u32],
     i: usize,
     ports: &mut [u32],
 )
-    requires { ⌜ (PortsFillable f g processes (now spans) (now lanes) (now entered) i) × (length (now ports) ≡ portTableWords) ⌝ }
+    requires { ⌜ (PortsFillable f g processes (now spans) (now lanes) (now heads) i) × (length (now ports) ≡ portTableWords) ⌝ }
     ensures { λ r. ⌜ now (ports .exit) ≡ portRows (f .nest) (f .stream) g i processes (now (ports .entry)) ⌝ }
 {
     let mut p: u32 = 0;
     while p < processes {
-        put_port(f, g, spans, lanes, entered, i, p as usize, ports);
+        put_port(f, g, spans, lanes, heads, i, p as usize, ports);
         p += 1;
     }
-}
-
-// The row of the stream's pipe j, if it enters at process p, and then one; else none. The pipes of the streams before it are `base`.
-fn put_end(
-    f: Flow,
-    g: Strand,
-    spans: &[u32],
-    lanes: &[u32],
-    start: u32,
-    base: u32,
-    j: u32,
-    p: usize,
-    ports: &mut [u32],
-) -> u32
-    requires { ⌜ (EndFillable f g (now spans) (now lanes) start base j p) × (length (now ports) ≡ portTableWords) ⌝ }
-    ensures { λ r. ⌜ (r ≡ enteringOne (f .nest) (f .stream) p)
-        × (now (ports .exit) ≡ endRow (f .nest) (f .stream) g start base j p (now (ports .entry))) ⌝ }
-{
-    if pipe_parts::is_entry(f, spans, lanes, p) {
-        let e = port_rows::end_of(f, g, spans, lanes, start, j, p);
-        port_table::put_end(ports, (PIPE_ROWS + END * (base + j)) as usize, e);
-        1
-    } else {
-        0
-    }
-}
-
-// The rows of all pipes, and how many there are.
-fn put_ends(
-    f: Flow,
-    g: Strand,
-    processes: u32,
-    spans: &[u32],
-    lanes: &[u32],
-    starts: &[u32],
-    first: u32,
-    base: u32,
-    ports: &mut [u32],
-) -> u32
-    requires { ⌜ (EndsFillable f g processes (now spans) (now lanes) (now starts) first base) × (length (now ports) ≡ portTableWords) ⌝ }
-    ensures { λ r. ⌜ (r ≡ length (entries (f .nest) (f .stream)))
-        × (now (ports .exit) ≡ endRows (f .nest) (f .stream) g first base processes (now (ports .entry))) ⌝ }
-{
-    let mut j: u32 = 0;
-    let mut p: u32 = 0;
-    while p < processes {
-        let start = starts[p as usize];
-        j += put_end(f, g, spans, lanes, start, base, j, p as usize, ports);
-        p += 1;
-    }
-    j
 }
 
 // All rows of stream i, whose elements have the numbers from `first` on and whose pipes those from `base` on; how many pipes there are.
@@ -198,12 +203,20 @@ fn fill_stream(
     let processes = numbering::size_of(space);
     let mut lanes = [0u32; LANES];
     lanes::fill_lanes(f, processes, spans, &mut lanes);
-    let mut entered = [0u32; PROCESSES];
-    pipe_parts::fill_entered(f, processes, spans, &lanes, &mut entered);
-    put_ports(f, g, processes, spans, &lanes, &entered, i, ports);
-    let mut starts = [0u32; PROCESSES];
-    pipe_parts::fill_starts(f, processes, spans, &lanes, first, &mut starts);
-    put_ends(f, g, processes, spans, &lanes, &starts, first, base, ports)
+    let mut heads = [0u32; HEADS];
+    let pipes = put_ends(
+        f,
+        g,
+        processes,
+        spans,
+        &lanes,
+        first,
+        base,
+        &mut heads,
+        ports,
+    );
+    put_ports(f, g, processes, spans, &lanes, &heads, i, ports);
+    pipes
 }
 
 // ---- all streams

@@ -31,11 +31,11 @@ use Rattle.ports.specs.declared.Port.{Port}
 use Rattle.ports.specs.declared.End.{End}
 use Rattle.ports.specs.Ports.{same-port}
 use Rattle.pipe_parts.specs.Starts.{enteredAt, entered-le}
-use Rattle.pipe_parts.specs.Entries.{pipe-test}
+use Rattle.pipe_parts.specs.Heads.{Heads, pipe-some}
 use Rattle.lanes.specs.declared.Flow.{Flow}
 use Rattle.lanes.specs.Held.{entryNumber}
 use Rattle.lanes.specs.Flow.{Flows, point-is, inside-space, going-on, reach-on}
-use Rattle.pipes.specs.Elements.{Near, computes-is, entry-lt}
+use Rattle.pipes.specs.Elements.{Near, computes-is, good, inside, entry-lt}
 use Rattle.port_rows.specs.declared.Strand.{Strand}
 
 -- small numbers
@@ -187,24 +187,23 @@ module _ (n : Nest) (s : Stream) (g : Strand) (sent p : ℕ) where
         ap (λ (a : ℕ). a + 4) e ∙ sym (ap (λ (b : Bool). cond b (sent + 2) (next + 4)) t),
       )
 
--- what the row of a port is read off: the lanes, and how many pipes enter before each process
-pub record PortGiven (f : Flow) (spans lanes entered : List ℕ) (p : ℕ) : Type 0 where
+-- what the row of a port is read off: the lanes, and the heads of the pipes
+pub record PortGiven (f : Flow) (spans lanes heads : List ℕ) (p : ℕ) : Type 0 where
   pub near : Near f spans lanes p
-  pub counts : (e : ℕ) → e < length (processes (f .nest)) → getD entered e 0 ≡ enteredAt (f .nest) (f .stream) e
-  pub long : 1024 ≤ length entered
+  pub of-heads : Heads (f .nest) (f .stream) (length (processes (f .nest))) heads
 
-pub number-is : {f : Flow} {spans lanes entered : List ℕ} {p e : ℕ} → PortGiven f spans lanes entered p → e ≡ getD lanes p 0
-    → (getD entered e 0 ≡ pipeOf (f .nest) (f .stream) p) × (getD entered e 0 ≤ 1024)
-number-is {f} {lanes} {entered} {p} {e} h q =
+pub number-is : {f : Flow} {spans lanes heads : List ℕ} {p e : ℕ} → PortGiven f spans lanes heads p → e ≡ getD lanes p 0
+    → (getD heads e 0 ≡ pipeOf (f .nest) (f .stream) p) × (getD heads e 0 ≤ 1024)
+number-is {f} {p} {e} h q =
     let z = q ∙ h .near .seen .of-lanes .entries p (h .near .lt) in
-    let r = h .counts e (omega (arith, q, entry-lt (h .near))) in (
+    let r = h .of-heads .counts e (omega (arith, q, entry-lt (h .near))) in (
       r ∙ ap (enteredAt (f .nest) (f .stream)) z,
       omega (arith, r, entered-le (f .nest) (f .stream) e, h .near .seen .flows .laid .processes),
     )
 
 -- ---- the row of a port, part by part
 
-count-most : (n : Nest) (y : V2) → count n y ≤ length (instances n)
+pub count-most : (n : Nest) (y : V2) → count n y ≤ length (instances n)
 unfolding sentTo
 count-most n y = filter-fewer (λ x. eq2 (image (n .place) x) y) (instances n)
 
@@ -232,19 +231,22 @@ port-row {f} g {p} h sent e a b c d k l m o q s =
     same-port a (b ∙ ap (λ (x : ℕ). beforeFrom (f .nest) (f .stream) g x p) e) (c ∙ ap (λ (x : ℕ). afterFrom (f .nest) (f .stream) g x p) e)
     (d ∙ ap (λ (x : ℕ). roomFrom (f .nest) (f .stream) g x p) e) k l m (o ∙ h .seen .of-spans .counts p (h .lt)) q (s ∙ keeps-is h)
 
--- on a pipe where its line holds elements, off every one where it holds none
-module _ {f : Flow} {spans lanes : List ℕ} {p : ℕ} (h : Near f spans lanes p) {k : ℕ} (e : k ≡ getD lanes (2048 + getD lanes p 0) 0)
-    (g : Strand) where
+-- on a pipe where its line has elements, off every one where it has none
+module _ {f : Flow} {spans lanes : List ℕ} {p : ℕ} (h : Near f spans lanes p) {k : ℕ}
+    (e : k ≡ length (pipeElements (f .nest) (f .stream) (processOf (f .nest) p))) (g : Strand) where
   abbrev own : Bool → Port
   own b = cond b (portFrom (f .nest) (f .stream) g p) (offFrom g (count (f .nest) (processOf (f .nest) p)) p)
 
+  test : not (eqb k 0) ≡ isPipe (f .nest) (f .stream) (processOf (f .nest) p)
+  test = ap (λ (k : ℕ). not (eqb k 0)) e ∙ sym (pipe-some (good h) (inside h))
+
   pub row-held : (k ≡ 0 → ⊥) → {r : Port} → r ≡ portFrom (f .nest) (f .stream) g p → r ≡ rowFrom (f .nest) (f .stream) g p
-  row-held t er = er ∙ ap own (sym (ap not (ne-eqb k 0 t)) ∙ pipe-test h e)
+  row-held t er = er ∙ ap own (sym (ap not (ne-eqb k 0 t)) ∙ test)
 
   pub row-bare : k ≡ 0 → {r : Port} → r ≡ offFrom g (getD spans p 0) p → r ≡ rowFrom (f .nest) (f .stream) g p
   row-bare z er =
       er ∙ ap (λ (c : ℕ). offFrom g c p) (h .seen .of-spans .counts p (h .lt))
-      ∙ ap own (sym (ap not (eq-eqb k 0 z)) ∙ pipe-test h e)
+      ∙ ap own (sym (ap not (eq-eqb k 0 z)) ∙ test)
 
 -- ---- the row of a pipe's ends
 

@@ -14,7 +14,8 @@ ghost use Rattle.integers.specs.Vectors.{shift2};
 ghost use Rattle.meaning.specs.Limits.{endWordsMost, stateWordsMost, gaugeLimits};
 ghost use Rattle.meaning.specs.Space.{rowIndex, space, processes};
 ghost use Rattle.meaning.specs.Streams.{move};
-ghost use Rattle.meaning.specs.Pipes.{reach, before};
+ghost use Rattle.meaning.specs.Pipes.{reach, before, pipeElements};
+ghost use Rattle.meaning.specs.Array.{rowSoak};
 ghost use Rattle.addresses.specs.Ends.{backOf};
 ghost use Rattle.layout.specs.Spans.{processOf};
 ghost use Rattle.lanes.specs.Flow.{Flows};
@@ -22,6 +23,7 @@ ghost use Rattle.pipes.specs.Elements.{Near};
 ghost use Rattle.port_rows.specs.Strands.{Narrow, beforeFrom, afterFrom, roomFrom, pipeOf, PortGiven, portFrom, offFrom, rowFrom};
 ghost use Rattle.port_rows.specs.Strands.{endFrom};
 use lanes::Flow;
+use pipe_parts::TOTALS;
 use ports::End;
 use ports::Port;
 
@@ -92,13 +94,33 @@ pub fn number_back(f: Flow, p: u32) -> u32
     numbering::row_number(space, vectors::moved(y, back, 1))
 }
 
-// The number of the pipe of process p in the stream.
-fn pipe_number(f: Flow, spans: &[u32], lanes: &[u32], entered: &[u32], p: usize) -> u32
-    requires { ⌜ PortGiven f (now spans) (now lanes) (now entered) p ⌝ }
+// The number of the pipe of process p in the stream, and how many elements it has, 0 without a pipe: both at the entry of its line.
+fn pipe_number(f: Flow, spans: &[u32], lanes: &[u32], heads: &[u32], p: usize) -> u32
+    requires { ⌜ PortGiven f (now spans) (now lanes) (now heads) p ⌝ }
     ensures { λ r. ⌜ (r ≡ pipeOf (f .nest) (f .stream) p) × (r ≤ gaugeLimits .processes) ⌝ }
 {
     let e = pipes::entry_at(f, spans, lanes, p);
-    entered[e]
+    heads[e]
+}
+
+fn pipe_total(f: Flow, spans: &[u32], lanes: &[u32], heads: &[u32], p: usize) -> u32
+    requires { ⌜ PortGiven f (now spans) (now lanes) (now heads) p ⌝ }
+    ensures { λ r. ⌜ r ≡ length (pipeElements (f .nest) (f .stream) (processOf (f .nest) p)) ⌝ }
+{
+    let e = pipes::entry_at(f, spans, lanes, p);
+    heads[TOTALS + e]
+}
+
+// The soak of process p, whose pipe has so many elements: of a null process all of them.
+fn soak_of(f: Flow, spans: &[u32], lanes: &[u32], total: u32, p: usize) -> u32
+    requires { ⌜ (Near f (now spans) (now lanes) p) × (total ≡ length (pipeElements (f .nest) (f .stream) (processOf (f .nest) p))) ⌝ }
+    ensures { λ r. ⌜ r ≡ rowSoak (f .nest) (f .stream) (processOf (f .nest) p) ⌝ }
+{
+    if spans[p] == 0 {
+        total
+    } else {
+        pipes::own_soak(f, spans, lanes, p)
+    }
 }
 
 // What was put into the link into process p, where the words of its pipe's ends stand at `sent`.
@@ -142,12 +164,21 @@ fn keeps(moving: bool, count: u32) -> bool
     if moving { false } else { count != 0 }
 }
 
-// The row of process p, which is on a pipe.
-fn port_of(f: Flow, g: Strand, spans: &[u32], lanes: &[u32], entered: &[u32], p: usize) -> Port
-    requires { ⌜ (PortGiven f (now spans) (now lanes) (now entered) p) × (Narrow g) ⌝ }
+// The row of process p, which is on a pipe of so many elements.
+fn port_of(
+    f: Flow,
+    g: Strand,
+    spans: &[u32],
+    lanes: &[u32],
+    heads: &[u32],
+    total: u32,
+    p: usize,
+) -> Port
+    requires { ⌜ (PortGiven f (now spans) (now lanes) (now heads) p)
+        × (total ≡ length (pipeElements (f .nest) (f .stream) (processOf (f .nest) p))) × (Narrow g) ⌝ }
     ensures { λ r. ⌜ r ≡ portFrom (f .nest) (f .stream) g p ⌝ }
 {
-    let sent = end_at(g, pipe_number(f, spans, lanes, entered, p));
+    let sent = end_at(g, pipe_number(f, spans, lanes, heads, p));
     let link = link_of(f, g, sent, p as u32);
     let count = spans[p];
     let moving = f.moving;
@@ -158,9 +189,9 @@ fn port_of(f: Flow, g: Strand, spans: &[u32], lanes: &[u32], entered: &[u32], p:
         room: link.room as usize,
         fired: p * g.stride as usize,
         hop: g.hop as usize,
-        soak: pipes::soak_of(f, spans, lanes, p) as usize,
+        soak: soak_of(f, spans, lanes, total, p) as usize,
         count: count as usize,
-        total: pipes::total_at(f, spans, lanes, p) as usize,
+        total: total as usize,
         keeps: keeps(moving, count),
     }
 }
@@ -186,28 +217,30 @@ fn off_of(g: Strand, count: u32, p: u32) -> Port
 }
 
 // The row of process p.
-pub fn row_of(f: Flow, g: Strand, spans: &[u32], lanes: &[u32], entered: &[u32], p: usize) -> Port
-    requires { ⌜ (PortGiven f (now spans) (now lanes) (now entered) p) × (Narrow g) ⌝ }
+pub fn row_of(f: Flow, g: Strand, spans: &[u32], lanes: &[u32], heads: &[u32], p: usize) -> Port
+    requires { ⌜ (PortGiven f (now spans) (now lanes) (now heads) p) × (Narrow g) ⌝ }
     ensures { λ r. ⌜ r ≡ rowFrom (f .nest) (f .stream) g p ⌝ }
 {
-    if pipes::held_at(f, spans, lanes, p) == 0 {
+    let total = pipe_total(f, spans, lanes, heads, p);
+    if total == 0 {
         off_of(g, spans[p], p as u32)
     } else {
-        port_of(f, g, spans, lanes, entered, p)
+        port_of(f, g, spans, lanes, heads, total, p)
     }
 }
 
-// The row of the stream's pipe j, which enters at process p; its part of the lists begins at `start`.
-pub fn end_of(f: Flow, g: Strand, spans: &[u32], lanes: &[u32], start: u32, j: u32, p: usize) -> End
-    requires { ⌜ (Near f (now spans) (now lanes) p) × (Narrow g) × (j ≤ gaugeLimits .processes) ⌝ }
+// The row of the stream's pipe j, which enters at process p and has so many elements; its part of the lists begins at `start`.
+pub fn end_of(f: Flow, g: Strand, total: u32, start: u32, j: u32, p: u32) -> End
+    requires { ⌜ (Flows f) × (p < length (processes (f .nest))) × (Narrow g) × (j ≤ gaugeLimits .processes)
+        × (total ≡ length (pipeElements (f .nest) (f .stream) (processOf (f .nest) p))) ⌝ }
     ensures { λ r. ⌜ r ≡ endFrom (f .nest) (f .stream) g start j p ⌝ }
 {
     let space = f.space;
     let way = f.way;
-    let y = layout::point_at(space, p as u32);
+    let y = layout::point_at(space, p);
     let sent = end_at(g, j);
-    let first = port_at(g, p as u32);
-    let last = port_at(g, number_on(f, p as u32, layout::reach_of(space, way, y)));
+    let first = port_at(g, p);
+    let last = port_at(g, number_on(f, p, layout::reach_of(space, way, y)));
     End {
         sent: sent as usize,
         after: first as usize,
@@ -216,7 +249,7 @@ pub fn end_of(f: Flow, g: Strand, spans: &[u32], lanes: &[u32], start: u32, j: u
         received: sent as usize + 1,
         last: sent as usize + 2,
         hop: g.hop as usize,
-        total: pipes::total_at(f, spans, lanes, p) as usize,
+        total: total as usize,
         offset: start as usize,
     }
 }

@@ -1,5 +1,5 @@
--- `port_fill::fill_stream` meets its contract: counts and starts are filled at all processes before the rows that are made of them, and the
--- first rows leave the table its length. Assumes nothing.
+-- `port_fill::fill_stream` meets its contract: the heads are filled at all processes before the rows that are made of them, and the first
+-- rows leave the table its length. Assumes nothing.
 use borrow.Author.Needs.{needs}
 use mathlib.Core.Path.{refl, sym, _∙_, ap₂, subst}
 use native.Mathlib.Omega.{arith}
@@ -11,7 +11,7 @@ use Rattle.meaning.specs.declared.Stream.{Stream}
 use Rattle.meaning.specs.Pipes.{entries}
 use Rattle.layout.specs.Spans.{Spans}
 use Rattle.lanes.specs.Flow.{spanning, counted-is}
-use Rattle.port_fill.specs.Strung.{small-here, ports-fillable, ends-fillable, ports-length, strung}
+use Rattle.port_fill.specs.Strung.{ends-fillable, ports-fillable, ends-length, strung}
 use Rattle.port_fill.proofs.fill_stream.Statement.{statement}
 use Rattle.port_fill.proofs.fill_stream.Tie as tie
 
@@ -36,18 +36,20 @@ fill-lanes-requires c κs =
       words = refl;
     }
 
-slice-aggregate-fill-entered : tie.Need-slice-aggregate-fill-entered
-slice-aggregate-fill-entered c = search needs
+slice-aggregate-put-ends : tie.Need-slice-aggregate-put-ends
+slice-aggregate-put-ends c = search needs
 
-slice-aggregate-fill-entered-2 : tie.Need-slice-aggregate-fill-entered-2
-slice-aggregate-fill-entered-2 c = search needs
+slice-aggregate-put-ends-2 : tie.Need-slice-aggregate-put-ends-2
+slice-aggregate-put-ends-2 c = search needs
 
-fill-entered-requires : tie.Need-fill-entered-requires
-fill-entered-requires c κs =
-    let f = c .before .before .before .before .before .before .before .flow-of in
-    let e = counted-is (f .ensures .2) (c .before .before .before .before .before .size-of .ensures .0) in (
-      record { seen = c .before .before .before .fill-lanes .ensures; counted = e },
-      omega (arith, e, f .ensures .2 .laid .processes, length-replicate {A = ℕ} 1024 0),
+put-ends-requires : tie.Need-put-ends-requires
+put-ends-requires c κs =
+    let k = c .before .before .before .before in
+    let s = k .before .before .before .before .before .before .before in
+    let f = k .before .before .before .before .flow-of .ensures in (
+      ends-fillable (f .2) (f .0) (f .1) (s .pre .0) (k .fill-lanes .ensures) (counted-is (f .2) (k .before .before .size-of .ensures .0)),
+      length-replicate {A = ℕ} 2048 0,
+      s .pre .1,
     )
 
 slice-aggregate-put-ports : tie.Need-slice-aggregate-put-ports
@@ -58,50 +60,17 @@ slice-aggregate-put-ports-2 c = search needs
 
 put-ports-requires : tie.Need-put-ports-requires
 put-ports-requires c κs =
-    let k = c .before .before .before .before .before .before .before .before in
+    let u = c .before .before .before .before .before .before in
+    let k = u .before .before .before .before .before in
     let s = k .before .before .before .before .before .before .before in
     let f = k .before .before .before .before .flow-of .ensures in (
-      ports-fillable (f .2) (f .0) (f .1) (s .pre .0) (k .fill-lanes .ensures)
-          (counted-is (f .2) (k .before .before .size-of .ensures .0)) _
-          (length-replicate {A = ℕ} 1024 0) (c .before .before .before .before .fill-entered .ensures),
-      s .pre .1,
-    )
-
-slice-aggregate-fill-starts : tie.Need-slice-aggregate-fill-starts
-slice-aggregate-fill-starts c = search needs
-
-slice-aggregate-fill-starts-2 : tie.Need-slice-aggregate-fill-starts-2
-slice-aggregate-fill-starts-2 c = search needs
-
-fill-starts-requires : tie.Need-fill-starts-requires
-fill-starts-requires c κs =
-    let k = c .before .before .before .before .before .before .before .before .before .before .before .before .before in
-    let s = k .before .before .before .before .before .before .before in
-    let f = k .before .before .before .before .flow-of .ensures in
-    let e = counted-is (f .2) (k .before .before .size-of .ensures .0) in (
-      record {
-        of = record { seen = k .fill-lanes .ensures; counted = e };
-        small = small-here (f .2) (f .0) (f .1) (s .pre .0);
-        before = s .pre .0 .early;
-      },
-      omega (arith, e, f .2 .laid .processes, length-replicate {A = ℕ} 1024 0),
-    )
-
-slice-aggregate-put-ends : tie.Need-slice-aggregate-put-ends
-slice-aggregate-put-ends c = search needs
-
-slice-aggregate-put-ends-2 : tie.Need-slice-aggregate-put-ends-2
-slice-aggregate-put-ends-2 c = search needs
-
-put-ends-requires : tie.Need-put-ends-requires
-put-ends-requires c κs =
-    let u = c .before .before .before .before .before .before .before .before .before in
-    let k = u .before .before .before .before .before .before .before .before .before in
-    let s = k .before .before .before .before .before .before .before in
-    let f = k .before .before .before .before .flow-of .ensures in (
-      ends-fillable (f .2) (f .0) (f .1) (s .pre .0) (k .fill-lanes .ensures) (counted-is (f .2) (k .before .before .size-of .ensures .0)) _
-          (length-replicate {A = ℕ} 1024 0) (c .before .before .before .before .fill-starts .ensures),
-      omega (arith, s .pre .1, ports-length _ _ (s .args .g) (s .args .i) _ (now (s .args .ports)) (u .put-ports .ensures)),
+      ports-fillable (f .2) (f .0) (f .1) (s .pre .0) (k .fill-lanes .ensures) (counted-is (f .2) (k .before .before .size-of .ensures .0))
+          (u .put-ends .ensures .1),
+      omega (
+        arith,
+        s .pre .1,
+        ends-length _ _ (s .args .g) (s .args .first) (s .args .base) _ (now (s .args .ports)) (u .put-ends .ensures .2),
+      ),
     )
 
 same-length : tie.Need-same-length
@@ -109,21 +78,19 @@ same-length c = search needs
 
 returns : tie.Need-returns
 returns c =
-    let u = c .before .before .before .before .before .before .before .before .before .before .before .before in
-    let k = u .before .before .before .before .before .before .before .before .before in
+    let u = c .before .before .before .before .before .before .before .before .before in
+    let k = u .before .before .before .before .before in
     let s = k .before .before .before .before .before .before .before in
     let f = k .before .before .before .before .flow-of .ensures in
-    let o = c .before .before .put-ends .ensures in (
+    let o = u .put-ends .ensures in (
       o .0 ∙ ap₂ (λ (n : Nest) (s : Stream). length (entries n s)) (f .0) (f .1),
       strung (f .2) (f .0) (f .1) (s .pre .0) (counted-is (f .2) (k .before .before .size-of .ensures .0)) (now (s .args .ports))
-          (u .put-ports .ensures) (o .1),
+          (o .2) (c .before .before .put-ports .ensures),
     )
 
 pub fill-stream-spec : {M : Type 1} → statement M
 fill-stream-spec =
     tie.close
-    (tie.spec flow-of-requires size-of-requires slice-aggregate-fill-lanes fill-lanes-requires slice-aggregate-fill-entered
-    slice-aggregate-fill-entered-2
-    fill-entered-requires slice-aggregate-put-ports slice-aggregate-put-ports-2 put-ports-requires slice-aggregate-fill-starts
-    slice-aggregate-fill-starts-2 fill-starts-requires slice-aggregate-put-ends slice-aggregate-put-ends-2 put-ends-requires
-    same-length returns)
+    (tie.spec flow-of-requires size-of-requires slice-aggregate-fill-lanes fill-lanes-requires slice-aggregate-put-ends
+    slice-aggregate-put-ends-2 put-ends-requires slice-aggregate-put-ports slice-aggregate-put-ports-2 put-ports-requires same-length
+    returns)

@@ -31,7 +31,8 @@ put-port-requires : tie.Need-put-port-requires
 put-port-requires c κs =
     let p = c .before .before .before .before .before .before .pre in (
       omega (arith, p .1, p .0 .has-port .near .lt, few (p .0 .has-port .near), p .0 .stream),
-      subst PortWide (sym (c .before .row-of .ensures)) (row-wide (p .0 .narrow) (p .0 .has-port .near) (p .0 .small)),
+      subst PortWide (sym (c .before .row-of .ensures))
+          (row-wide (p .0 .narrow) (p .0 .has-port .near .seen .flows) (p .0 .has-port .near .lt) (p .0 .small)),
     )
 
 same-length : tie.Need-same-length

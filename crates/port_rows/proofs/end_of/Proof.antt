@@ -14,44 +14,37 @@ use Rattle.port_rows.specs.Strands.{portIndex}
 use Rattle.port_rows.proofs.end_of.Statement.{statement}
 use Rattle.port_rows.proofs.end_of.Tie as tie
 
-cast-point-at : tie.Need-cast-point-at
-cast-point-at c = search needs
-
 point-at-requires : tie.Need-point-at-requires
-point-at-requires c κs = let p = c .before .before .before .before .pre .0 in (spanning (p .seen .flows), point-lt (p .seen .flows) (p .lt))
+point-at-requires c κs = let p = c .before .before .pre in (spanning (p .0), point-lt (p .0) (p .1))
 
 end-at-requires : tie.Need-end-at-requires
 end-at-requires c κs = search needs
 
-cast-port-at : tie.Need-cast-port-at
-cast-port-at c = search needs
-
 port-at-requires : tie.Need-port-at-requires
 port-at-requires c κs = search needs
 
-cast-number-on : tie.Need-cast-number-on
-cast-number-on c = search needs
-
 reach-of-requires : tie.Need-reach-of-requires
-reach-of-requires c κs = let p = c .before .before .before .before .before .before .before .pre .0 in
-    going-on (p .seen .flows) (p .lt) (c .before .before .point-at .ensures)
+reach-of-requires c κs =
+    let p = c .before .before .before .before .before .pre in going-on (p .0) (p .1) (c .before .before .point-at .ensures)
 
 number-on-requires : tie.Need-number-on-requires
-number-on-requires c κs =
-    let p = c .before .before .before .before .before .before .before .before .pre .0 in (
-      p .seen .flows,
-      p .lt,
-      omega (arith, reach-on (p .seen .flows) (p .lt) (c .before .before .before .point-at .ensures) (c .reach-of .ensures .0)),
-    )
+number-on-requires c κs = let p = c .before .before .before .before .before .before .pre in
+    (p .0, p .1, omega (arith, reach-on (p .0) (p .1) (c .before .before .before .point-at .ensures) (c .reach-of .ensures .0)))
 
 port-at-requires-2 : tie.Need-port-at-requires-2
 port-at-requires-2 c κs = search needs
 
+cast-t15 : tie.Need-cast-t15
+cast-t15 c = search needs
+
+cast-t16 : tie.Need-cast-t16
+cast-t16 c = search needs
+
 cast-t17 : tie.Need-cast-t17
 cast-t17 c = search needs
 
-cast-t18 : tie.Need-cast-t18
-cast-t18 c = search needs
+add-t18 : tie.Need-add-t18
+add-t18 c = search needs
 
 cast-t19 : tie.Need-cast-t19
 cast-t19 c = search needs
@@ -74,49 +67,35 @@ add-t24 c = search needs
 cast-t25 : tie.Need-cast-t25
 cast-t25 c = search needs
 
-add-t26 : tie.Need-add-t26
-add-t26 c = search needs
-
-cast-t27 : tie.Need-cast-t27
-cast-t27 c = search needs
-
-total-at-requires : tie.Need-total-at-requires
-total-at-requires c κs = search needs
-
-cast-t28 : tie.Need-cast-t28
-cast-t28 c = search needs
-
 returns : tie.Need-returns
 returns c =
-    let s = c .before .before .before .before .before .before .before .before .before .before .before .before in
-    let p = s .pre .0 in
+    let s = c .before .before .before .before .before .before .before .before .before in
     let n = s .args .f .nest in
     let t = s .args .f .stream in
-    let e = reach-on (p .seen .flows) (p .lt) (c .before .before .before .before .before .before .before .point-at .ensures)
-    (c .before .before .before .before .reach-of .ensures .0) in
-    let l = c .before .before .port-at2 .ensures .0
-    ∙ ap (portIndex (s .args .g)) (c .before .before .before .number-on .ensures .0
+    let e = reach-on (s .pre .0) (s .pre .1) (c .before .before .before .before .before .before .point-at .ensures)
+    (c .before .before .before .reach-of .ensures .0) in
+    let l = c .before .port-at2 .ensures .0
+    ∙ ap (portIndex (s .args .g)) (c .before .before .number-on .ensures .0
     ∙ ap (λ (k : ℕ). rowIndex (space n) (shift2 (processOf n (s .args .p)) (pos k) (move n t))) e) in
-    let a = c .before .before .before .before .before .port-at .ensures .0 in
-    let b = c .before .before .before .before .before .before .end-at .ensures .0 in
+    let a = c .before .before .before .before .port-at .ensures .0 in
+    let b = c .before .before .before .before .before .end-at .ensures .0 in
     same-end b a (ap (λ (k : ℕ). k + 4) a) (ap (λ (k : ℕ). k + 1) l) (ap (λ (k : ℕ). k + 1) b) (ap (λ (k : ℕ). k + 2) b) refl
-    (c .total-at .ensures .0) refl
+    (s .pre .4) refl
 
 pub end-of-spec : {M : Type 1} → statement M
 end-of-spec =
     tie.close
     (tie.spec
-    cast-point-at
     point-at-requires
     end-at-requires
-    cast-port-at
     port-at-requires
-    cast-number-on
     reach-of-requires
     number-on-requires
     port-at-requires-2
+    cast-t15
+    cast-t16
     cast-t17
-    cast-t18
+    add-t18
     cast-t19
     add-t20
     cast-t21
@@ -124,8 +103,4 @@ end-of-spec =
     cast-t23
     add-t24
     cast-t25
-    add-t26
-    cast-t27
-    total-at-requires
-    cast-t28
     returns)

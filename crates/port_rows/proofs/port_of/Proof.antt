@@ -3,6 +3,7 @@
 use borrow.Author.Needs.{needs}
 use mathlib.Core.Path.{refl, _∙_, ap}
 use native.Mathlib.Omega.{arith}
+use Rattle.pipes.specs.Elements.{few}
 use Rattle.port_rows.specs.Strands.{endIndex, count-fits, port-row}
 use Rattle.port_rows.proofs.port_of.Statement.{statement}
 use Rattle.port_rows.proofs.port_of.Tie as tie
@@ -23,22 +24,22 @@ mul-count : tie.Need-mul-count
 mul-count c = search needs
 
 shared-slice-read-count : tie.Need-shared-slice-read-count
-shared-slice-read-count c = search needs
+shared-slice-read-count c =
+    let p = c .before .before .before .before .before .before .before .pre .0 .near in omega (arith, p .lt, few p, p .seen .long)
 
 cast-port-at : tie.Need-cast-port-at
-cast-port-at c = search needs
+cast-port-at c =
+    let p = c .before .before .before .before .before .before .before .pre .0 .near in record { fits = omega (arith, p .lt, few p) }
 
 port-at-requires : tie.Need-port-at-requires
-port-at-requires c κs = search needs
+port-at-requires c κs =
+    let p = c .before .before .before .before .before .before .before .pre in (p .2, omega (arith, p .0 .near .lt, few (p .0 .near)))
 
-cast-t12 : tie.Need-cast-t12
-cast-t12 c = search needs
+cast-t13 : tie.Need-cast-t13
+cast-t13 c = search needs
 
 before-of-requires : tie.Need-before-of-requires
 before-of-requires c κs = search needs
-
-cast-t16 : tie.Need-cast-t16
-cast-t16 c = search needs
 
 cast-t17 : tie.Need-cast-t17
 cast-t17 c = search needs
@@ -49,51 +50,40 @@ cast-t18 c = search needs
 cast-t19 : tie.Need-cast-t19
 cast-t19 c = search needs
 
-mul-t20 : tie.Need-mul-t20
-mul-t20 c = search needs
+cast-t20 : tie.Need-cast-t20
+cast-t20 c = search needs
 
-cast-t21 : tie.Need-cast-t21
-cast-t21 c = search needs
+mul-t21 : tie.Need-mul-t21
+mul-t21 c = search needs
+
+cast-t22 : tie.Need-cast-t22
+cast-t22 c = search needs
 
 soak-of-requires : tie.Need-soak-of-requires
-soak-of-requires c κs = search needs
-
-cast-t23 : tie.Need-cast-t23
-cast-t23 c = search needs
+soak-of-requires c κs =
+    let p = c .before .before .before .before .before .before .before .before .before .before .before .before .before .pre in
+    (p .0 .near, p .1)
 
 cast-t24 : tie.Need-cast-t24
-cast-t24 c = record {
-  fits = omega (
-    arith,
-    count-fits
-        (c .before .before .before .before .before .before .before .before .before .before .before .before .before .before .pre .0 .near),
-  );
-}
+cast-t24 c = search needs
 
-total-at-requires : tie.Need-total-at-requires
-total-at-requires c κs =
-    c .before .before .before .before .before .before .before .before .before .before .before .before .before .before .pre .0 .near
-
-cast-t26 : tie.Need-cast-t26
-cast-t26 c = search needs
+cast-t25 : tie.Need-cast-t25
+cast-t25 c =
+    let s = c .before .before .before .before .before .before .before .before .before .before .before .before .before .before in
+    record { fits = omega (arith, count-fits (s .pre .0 .near)) }
 
 keeps-requires : tie.Need-keeps-requires
 keeps-requires c κs = search needs
 
 returns : tie.Need-returns
 returns c =
-    let s =
-    c .before .before .before .before .before .before .before .before .before .before .before .before .before .before .before .before in
-    port-row (s .args .g)
-    (s .pre .0 .near) (c .before .before .before .before .before .before .before .before .before .before .before .end-at .result)
-    (c .before .before .before .before .before .before .before .before .before .before .before .end-at .ensures .0
-    ∙ ap (endIndex (s .args .g))
-    (c .before .before .before .before .before .before .before .before .before .before .before .before .pipe-number .ensures .0))
-    (c .before .before .before .before .before .before .before .before .port-at .ensures .0)
-    (c .before .before .before .before .before .before .before .before-of .ensures)
-    (c .before .before .before .before .before .before .before .before .before .before .link-of .ensures .0)
-    (c .before .before .before .before .before .before .before .before .before .before .link-of .ensures .1) refl refl
-    (c .before .before .soak-of .ensures) refl (c .before .total-at .ensures .0) (c .keeps .ensures)
+    let u = c .before .before .before .before .before .before .before .before .before in
+    let s = u .before .before .before .before .before .before in
+    port-row (s .args .g) (s .pre .0 .near) (u .before .end-at .result)
+    (u .before .end-at .ensures .0 ∙ ap (endIndex (s .args .g)) (u .before .before .pipe-number .ensures .0))
+    (c .before .before .before .before .before .before .before .port-at .ensures .0)
+    (c .before .before .before .before .before .before .before-of .ensures)
+    (u .link-of .ensures .0) (u .link-of .ensures .1) refl refl (c .before .soak-of .ensures) refl (s .pre .1) (c .keeps .ensures)
 
 pub port-of-spec : {M : Type 1} → statement M
 port-of-spec =
@@ -107,18 +97,16 @@ port-of-spec =
     shared-slice-read-count
     cast-port-at
     port-at-requires
-    cast-t12
+    cast-t13
     before-of-requires
-    cast-t16
     cast-t17
     cast-t18
     cast-t19
-    mul-t20
-    cast-t21
+    cast-t20
+    mul-t21
+    cast-t22
     soak-of-requires
-    cast-t23
     cast-t24
-    total-at-requires
-    cast-t26
+    cast-t25
     keeps-requires
     returns)
