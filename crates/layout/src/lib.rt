@@ -68,12 +68,12 @@ fn second_ray(e: Extent, d: V2, p: V2) -> Ray
     }
 }
 
-// How often so far a way has so many steps in it; most often each is of one, and then there is nothing to divide.
-fn steps_in(way: u32, steps: u32) -> u32
-    requires { ⌜ 0 < steps ⌝ }
-    ensures { λ r. ⌜ r ≡ way / steps ⌝ }
+// How many steps of a size a way has in it; most are of one, and then there is nothing to divide.
+fn steps_in(way: u32, size: u32) -> u32
+    requires { ⌜ 0 < size ⌝ }
+    ensures { λ r. ⌜ r ≡ way / size ⌝ }
 {
-    if steps == 1 { way } else { way / steps }
+    if size == 1 { way } else { way / size }
 }
 
 // How often one coordinate allows to go on; 4,096 where it does not change, more than any box is wide.
