@@ -1,5 +1,5 @@
 -- The instances counted on: the first one, and the one after another. Assumes nothing.
-use mathlib.Core.Path.{_≡_, refl, sym, _∙_, ap, ap₂, subst}
+use mathlib.Core.Path.{_≡_, refl, sym, _∙_, ap, subst}
 use mathlib.Core.Bool.{Bool, true, false, cond}
 use Prim.Native.Nat.{ℕ, zero, suc, _+_, _*_, _-_, _≤_, _<_}
 use native.Mathlib.Decide.{decLe}
@@ -8,16 +8,16 @@ use native.Mathlib.Numerals.{add-one}
 use native.Mathlib.Omega.{arith}
 use lib.Dec.{T}
 use lib.ListN.{length, getD}
-use lib.IntN.{ℤ, pos, negsuc, _+ℤ_, _-ℤ_, _*ℤ_}
+use lib.IntN.{ℤ, pos, negsuc, _+ℤ_, _*ℤ_}
 use lib.Signed.{_≤ℤ_, ltZ}
-use Rattle.integers.specs.Differences.{Abs, gaps, parts}
+use Rattle.integers.specs.Differences.{gaps, parts}
 use Rattle.integers.specs.Variables.{linear}
 use Rattle.integers.specs.Words.{eqZ, eqZ→eq}
 use Rattle.integers.specs.Vectors.{zero3, same3}
 use Rattle.integers.specs.declared.V3.{V3}
 use Rattle.meaning.specs.declared.Nest.{Nest}
-use Rattle.meaning.specs.Loops.{size, loop, instances}
-use Rattle.meaning.specs.Points.{Direction, Direction.onward, Direction.back, Directed}
+use Rattle.meaning.specs.Loops.{size, instances}
+use Rattle.meaning.specs.Points.{Direction, Direction.onward, Direction.back}
 use Rattle.vectors.specs.Within.{Within}
 use Rattle.geometry.specs.Numbers.{eq-eqZ}
 use Rattle.geometry.specs.Instances.{progression-at}
@@ -25,21 +25,22 @@ use Rattle.numbering.specs.declared.Loop.{Loop}
 use Rattle.numbering.specs.declared.Turns.{Turns}
 use Rattle.counting.specs.declared.Course.{Course}
 use Rattle.numbering.specs.Ranges.{Bounded, turns, values, outerOf, middleOf, innerOf, instance-small}
+use Rattle.numbering.specs.Corners.{endOf, cornerOf}
 use Rattle.numbering.specs.Turns.{Turned, Turning, turnsOf, turning, turned, pointAfter, instance-is, instances-length}
 
 -- the values at which a loop begins and ends
-abbrev pub firstValue : Loop → ℤ
-firstValue l = cond (ltZ (l .direction) (pos 0)) (l .right) (l .left)
+abbrev firstValue : Loop → ℤ
+firstValue l = endOf (l .direction) (l .left) (l .right)
 
-abbrev pub lastValue : Loop → ℤ
-lastValue l = cond (ltZ (l .direction) (pos 0)) (l .left) (l .right)
+abbrev lastValue : Loop → ℤ
+lastValue l = endOf (l .direction) (l .right) (l .left)
 
 -- the first and the last instance
 abbrev pub firstPoint : Nest → V3
-firstPoint n = record { x = firstValue (outerOf n); y = firstValue (middleOf n); z = firstValue (innerOf n) }
+firstPoint n = cornerOf (n .direction) (n .left) (n .right)
 
-abbrev pub lastPoint : Nest → V3
-lastPoint n = record { x = lastValue (outerOf n); y = lastValue (middleOf n); z = lastValue (innerOf n) }
+abbrev lastPoint : Nest → V3
+lastPoint n = cornerOf (n .direction) (n .right) (n .left)
 
 abbrev pub courseOf : Nest → Course
 courseOf n = record { first = firstPoint n; last = lastPoint n; direction = n .direction }
@@ -70,14 +71,6 @@ pub record Runs (c : Course) : Type 0 where
   pub first : Within 64 (c .first)
   pub last : Within 64 (c .last)
   pub direction : Within 1 (c .direction)
-
--- directions are small
-pub directed-small : {n : Nest} → Directed n → Within 1 (n .direction)
-directed-small h = record { xs = small (h .outer); ys = small (h .middle); zs = small (h .inner) }
-  where
-    small : {d : ℤ} → Direction d → Abs d 1
-    small onward = record { abs = omega arith }
-    small back = record { abs = omega arith }
 
 -- ---- one loop
 

@@ -1,9 +1,8 @@
 -- The row number of an instance's image as a form of the instance: rows times columns and the rest, in one sum. Assumes nothing.
-use mathlib.Core.Path.{_≡_, refl, sym, _∙_, ap, subst}
-use Prim.Native.Nat.{ℕ, _+_, _*_, _<_}
-use native.Mathlib.Nat.{mul-comm}
+use mathlib.Core.Path.{_≡_, sym, _∙_, ap, subst}
+use Prim.Native.Nat.{ℕ, _+_, _*_}
 use native.Mathlib.Omega.{arith}
-use lib.ListN.{length, getD}
+use lib.ListN.{getD}
 use lib.IntN.{ℤ, pos, negsuc, _+ℤ_, _-ℤ_, _*ℤ_}
 use lib.Signed.{_≤ℤ_}
 use mir.Syntax.{w32}
@@ -15,7 +14,6 @@ use Rattle.integers.specs.Bounds.{Abs-add, Abs-mul, Abs-wider}
 use Rattle.integers.specs.Words.{bits}
 use Rattle.integers.specs.Vectors.{zero3, dot, image}
 use Rattle.integers.specs.declared.V3.{V3}
-use Rattle.integers.specs.declared.V2.{V2}
 use Rattle.integers.specs.declared.Matrix.{Matrix}
 use Rattle.meaning.specs.declared.Nest.{Nest}
 use Rattle.meaning.specs.Loops.{size, instances}
@@ -24,7 +22,7 @@ use Rattle.meaning.specs.Points.{Inside}
 use Rattle.vectors.specs.Within.{Within, Rows}
 use Rattle.numbering.specs.declared.Extent.{Extent}
 use Rattle.counting.specs.declared.Form.{Form}
-use Rattle.numbering.specs.Ranges.{Bounded, Apart, not-below, size-words, instance-small}
+use Rattle.numbering.specs.Ranges.{Apart, not-below, size-words, instance-small}
 use Rattle.numbering.specs.Extents.{Spanning, Numbered, boxed, box-spanning, image-inside}
 
 -- columns times the one and the other

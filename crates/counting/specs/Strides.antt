@@ -1,5 +1,5 @@
 -- Row numbers counted on: a turn of a loop adds the stride of that loop. Assumes nothing.
-use mathlib.Core.Path.{_≡_, refl, sym, _∙_, ap, ap₂, subst, subst₂}
+use mathlib.Core.Path.{_≡_, refl, sym, _∙_, ap, subst, subst₂}
 use Prim.Native.Nat.{ℕ, _+_, _*_, _≤_, _<_}
 use native.Mathlib.Nat.{mul-le-mul-right}
 use native.Mathlib.Omega.{arith}
@@ -82,6 +82,18 @@ module _ {rows count : ℕ} {first : ℤ} {s : V3} (h : PlaneFits rows count fir
 
 -- ---- the numbers of a nest's instances
 
+-- the row number of the image of instance k
+abbrev pub numberAt : Nest → Matrix → ℕ → ℕ
+numberAt n m k = rowIndex (boxOf n m) (image m (getD (instances n) k zero3))
+
+-- what is known of turns, strides and a first number by which the row numbers of all instances are counted on
+pub record Counted (n : Nest) (m : Matrix) (T : Turns) (S : V3) (N : ℤ) : Type 0 where
+  pub whole : length (instances n) ≡ T .outer * (T .middle * T .inner)
+  pub small : (i : ℕ) → i ≤ T .outer → Abs (along N (S .x) i) 3500000
+  pub fits : (i : ℕ) → i < T .outer → PlaneFits (T .middle) (T .inner) (along N (S .x) i) S
+  pub agrees : (i : ℕ) → i < T .outer
+      → AgreesAll (numberAt n m) (i * (T .middle * T .inner)) (T .middle) (T .inner) (along N (S .x) i) S
+
 strides-on : (w a d : V3) (i j k b : ℤ)
     → dot w (record { x = a .x +ℤ i *ℤ d .x; y = a .y +ℤ j *ℤ d .y; z = a .z +ℤ k *ℤ d .z }) -ℤ b
     ≡ ((dot w a -ℤ b) +ℤ i *ℤ (w .x *ℤ d .x) +ℤ j *ℤ (w .y *ℤ d .y)) +ℤ k *ℤ (w .z *ℤ d .z)
@@ -97,9 +109,6 @@ module _ {n : Nest} {m : Matrix} {e : Extent} {f : Form} (bounded : Bounded n) (
 
   abbrev start : ℤ
   start = formAt f (firstPoint n)
-
-  abbrev numberAt : ℕ → ℕ
-  numberAt k = rowIndex (boxOf n m) (image m (getD (instances n) k zero3))
 
   module _ (i j k : ℕ) (hi : i < t .outer) (hj : j < t .middle) (hk : k < t .inner) where
     abbrev at : ℕ
@@ -124,7 +133,7 @@ module _ {n : Nest} {m : Matrix} {e : Extent} {f : Form} (bounded : Bounded n) (
         (same3 (value-at (outerOf n) i hi) (value-at (middleOf n) j hj) (value-at (innerOf n) k hk))
         ∙ strides-on (f .weight) (firstPoint n) (n .direction) (pos i) (pos j) (pos k) (f .base)
 
-    number-counts : numberAt at ≡ up (along (along (along start (s .x) i) (s .y) j) (s .z) k)
+    number-counts : numberAt n m at ≡ up (along (along (along start (s .x) i) (s .y) j) (s .z) k)
     number-counts = sym (form-is numbered b g (instance-is n at u turned) refl) ∙ ap up counted
 
     number-some : pos 0 ≤ℤ along (along (along start (s .x) i) (s .y) j) (s .z) k
@@ -141,8 +150,9 @@ module _ {n : Nest} {m : Matrix} {e : Extent} {f : Form} (bounded : Bounded n) (
       (form-light rows (subst Spanning (sym b) (box-spanning bounded rows)))
 
   pub start-ready : Numbers f (firstPoint n)
-  start-ready = form-ready (numbered 0 0 0 (turns-few .some-outer) (turns-few .some-middle) (turns-few .some-inner)) b g (sym (at-zero ∙
-      course-first bounded))
+  start-ready =
+      form-ready (numbered 0 0 0 (turns-few .some-outer) (turns-few .some-middle) (turns-few .some-inner)) b g
+      (sym (at-zero ∙ course-first bounded))
     where
       at-zero : getD (instances n) (0 * (t .middle * t .inner) + 0 * t .inner + 0) zero3 ≡ getD (instances n) 0 zero3
       at-zero = ap (λ (k : ℕ). getD (instances n) k zero3) (none (t .middle * t .inner) (t .inner))
@@ -154,8 +164,8 @@ module _ {n : Nest} {m : Matrix} {e : Extent} {f : Form} (bounded : Bounded n) (
   start-small =
       let w = start-ready .weight in
       let x = start-ready .point in
-      Abs-wider tt (Abs-sub (Abs-add (Abs-add (Abs-mul (w .xs) (x .xs)) (Abs-mul (w .ys) (x .ys))) (Abs-mul (w .zs) (x .zs))) (start-ready
-      .base))
+      Abs-wider tt
+      (Abs-sub (Abs-add (Abs-add (Abs-mul (w .xs) (x .xs)) (Abs-mul (w .ys) (x .ys))) (Abs-mul (w .zs) (x .zs))) (start-ready .base))
 
   strides-small : Within 6916 s → (i : ℕ) → i ≤ t .outer → Abs (along start (s .x) i) 3500000
   strides-small w i l = Abs-wider tt (along-small start-small (w .xs) (omega (arith, turns-few .most-outer)))
@@ -170,7 +180,8 @@ module _ {n : Nest} {m : Matrix} {e : Extent} {f : Form} (bounded : Bounded n) (
         some = λ j k m o. number-some i j k l m o;
       }
 
-  plane-agrees : (i : ℕ) → i < t .outer → AgreesAll numberAt (i * (t .middle * t .inner)) (t .middle) (t .inner) (along start (s .x) i) s
+  plane-agrees : (i : ℕ) → i < t .outer
+      → AgreesAll (numberAt n m) (i * (t .middle * t .inner)) (t .middle) (t .inner) (along start (s .x) i) s
   plane-agrees i l j k m o = number-counts i j k l m o
 
   -- the word in which the first number is counted on
@@ -186,28 +197,9 @@ module _ {n : Nest} {m : Matrix} {e : Extent} {f : Form} (bounded : Bounded n) (
       back : (z : ℤ) → pos 0 ≤ℤ z → pos (up z) ≡ z
       back = linear 0 1 _ λ p m. simp (gaps, parts) (omega arith)
 
-  -- the same by the turns, strides and first number that code has found
-  module _ {T : Turns} {S : V3} {N : ℤ} (eT : T ≡ turnsOf n) (eS : S ≡ s) (eN : N ≡ start) where
-    pub counted-small : Within 6916 S → (i : ℕ) → i ≤ T .outer → Abs (along N (S .x) i) 3500000
-    counted-small =
-        subst (λ (T : Turns). Within 6916 S → (i : ℕ) → i ≤ T .outer → Abs (along N (S .x) i) 3500000) (sym eT)
-        (subst₂ (λ (S : V3) (N : ℤ). Within 6916 S → (i : ℕ) → i ≤ t .outer → Abs (along N (S .x) i) 3500000) (sym eS) (sym eN)
-        strides-small)
-
-    pub counted-fits : Within 6916 S → (i : ℕ) → i < T .outer → PlaneFits (T .middle) (T .inner) (along N (S .x) i) S
-    counted-fits =
-        subst (λ (T : Turns). Within 6916 S → (i : ℕ) → i < T .outer → PlaneFits (T .middle) (T .inner) (along N (S .x) i) S) (sym eT)
-        (subst₂ (λ (S : V3) (N : ℤ). Within 6916 S → (i : ℕ) → i < t .outer → PlaneFits (t .middle) (t .inner) (along N (S .x) i) S) (sym
-        eS)
-        (sym eN) plane-fits)
-
-    pub counted-agrees : (i : ℕ) → i < T .outer
-        → AgreesAll numberAt (i * (T .middle * T .inner)) (T .middle) (T .inner) (along N (S .x) i) S
-    counted-agrees =
-        subst (λ (T : Turns). (i : ℕ) → i < T .outer
-        → AgreesAll numberAt (i * (T .middle * T .inner)) (T .middle) (T .inner) (along N (S .x) i) S) (sym eT)
-        (subst₂ (λ (S : V3) (N : ℤ). (i : ℕ) → i < t .outer
-        → AgreesAll numberAt (i * (t .middle * t .inner)) (t .middle) (t .inner) (along N (S .x) i) S) (sym eS) (sym eN) plane-agrees)
-
-    pub counted-length : length (instances n) ≡ T .outer * (T .middle * T .inner)
-    counted-length = subst (λ (T : Turns). length (instances n) ≡ T .outer * (T .middle * T .inner)) (sym eT) (instances-length n)
+  -- the turns, strides and first number that code has found
+  pub counted-by : {T : Turns} {S : V3} {N : ℤ} → T ≡ t → S ≡ s → N ≡ start → Within 6916 S → Counted n m T S N
+  counted-by {T} {S} {N} eT eS eN w =
+      subst (λ (T : Turns). Counted n m T S N) (sym eT)
+      (subst₂ (λ (S : V3) (N : ℤ). Within 6916 S → Counted n m t S N) (sym eS) (sym eN)
+      (λ w. record { whole = instances-length n; small = strides-small w; fits = plane-fits w; agrees = plane-agrees }) w)

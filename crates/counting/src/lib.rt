@@ -5,7 +5,7 @@
 //
 //   Course      the instances counted on: `reached`
 //   Forms       a row number as a form of the instance: `form-number`
-//   Strides     row numbers counted on by the loops' strides: `counted-agrees`
+//   Strides     row numbers counted on by the loops' strides: `counted-by`
 //   Numbers     the table of row numbers
 ghost use mathlib.Core.Path.{_≡_};
 ghost use mathlib.Core.List.{List, _++_};
@@ -16,9 +16,9 @@ ghost use Rattle.integers.specs.Differences.{Abs, up};
 ghost use Rattle.integers.specs.Fill.{fillBy};
 ghost use Rattle.meaning.specs.Loops.{instances};
 ghost use Rattle.vectors.specs.Within.{Within, Rows};
-ghost use Rattle.numbering.specs.Ranges.{Bounded, Ranged};
+ghost use Rattle.numbering.specs.Ranges.{Bounded};
 ghost use Rattle.numbering.specs.Extents.{Spanning, boxed};
-ghost use Rattle.counting.specs.Course.{Runs, firstValue, lastValue, firstPoint, lastPoint, courseOf, nextOf};
+ghost use Rattle.counting.specs.Course.{Runs, courseOf, nextOf};
 ghost use Rattle.counting.specs.Forms.{Light, Numbers, formOf, formAt};
 ghost use Rattle.counting.specs.Strides.{strides, RowFits, Agrees, PlaneFits, AgreesAll};
 ghost use Rattle.counting.specs.Numbers.{Fillable, numbersOf};
@@ -26,7 +26,6 @@ use integers::Matrix;
 use integers::V3;
 use meaning::Nest;
 use numbering::Extent;
-use numbering::Loop;
 
 // Where each loop begins and ends, and which way it runs.
 pub struct Course {
@@ -41,53 +40,17 @@ pub struct Form {
     pub base: i32,
 }
 
-// The values at which a loop begins and ends.
-fn first_value(l: Loop) -> i32
-    requires { ⌜ Ranged l ⌝ }
-    ensures { λ r. ⌜ (r ≡ firstValue l) × (Abs r 64) ⌝ }
-{
-    if l.direction < 0 { l.right } else { l.left }
-}
-
-fn last_value(l: Loop) -> i32
-    requires { ⌜ Ranged l ⌝ }
-    ensures { λ r. ⌜ (r ≡ lastValue l) × (Abs r 64) ⌝ }
-{
-    if l.direction < 0 { l.left } else { l.right }
-}
-
-// The first instance; the last one.
-fn first_point(n: Nest) -> V3
-    requires { ⌜ Bounded n ⌝ }
-    ensures { λ r. ⌜ (r ≡ firstPoint n) × (Within 64 r) ⌝ }
-{
-    V3 {
-        x: first_value(numbering::outer(n)),
-        y: first_value(numbering::middle(n)),
-        z: first_value(numbering::inner(n)),
-    }
-}
-
-fn last_point(n: Nest) -> V3
-    requires { ⌜ Bounded n ⌝ }
-    ensures { λ r. ⌜ (r ≡ lastPoint n) × (Within 64 r) ⌝ }
-{
-    V3 {
-        x: last_value(numbering::outer(n)),
-        y: last_value(numbering::middle(n)),
-        z: last_value(numbering::inner(n)),
-    }
-}
-
 // The course of the loops.
 pub fn course_of(n: Nest) -> Course
     requires { ⌜ Bounded n ⌝ }
     ensures { λ r. ⌜ (r ≡ courseOf n) × (Runs r) ⌝ }
 {
+    let left = n.left;
+    let right = n.right;
     let direction = n.direction;
     Course {
-        first: first_point(n),
-        last: last_point(n),
+        first: numbering::corner(direction, left, right),
+        last: numbering::corner(direction, right, left),
         direction: direction,
     }
 }
@@ -123,7 +86,7 @@ pub fn next(c: Course, x: V3) -> V3
     }
 }
 
-// So many times a row's word and another's.
+// Columns times the one and the other.
 fn weight_of(columns: i32, top: i32, low: i32) -> i32
     requires { ⌜ (Abs columns 1537) × (Abs top 768) × (Abs low 768) ⌝ }
     ensures { λ r. ⌜ r ≡ columns *ℤ top +ℤ low ⌝ }
@@ -214,8 +177,10 @@ pub fn fill_numbers(n: Nest, m: Matrix, e: Extent, out: &mut [u32])
 {
     let turns = numbering::turns_of(n);
     let form = form_of(m, e);
-    let first = first_point(n);
+    let left = n.left;
+    let right = n.right;
     let direction = n.direction;
+    let first = numbering::corner(direction, left, right);
     let strides = strides_of(form, direction);
     let rows = turns.middle;
     let count = turns.inner;

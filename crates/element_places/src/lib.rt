@@ -69,16 +69,6 @@ fn put_run(r: Run, places: &mut [u32])
 
 // ---- a computing process
 
-// The element that its first instance uses.
-fn first_element(f: Flow, spans: &[u32], p: usize) -> V2
-    requires { ⌜ At f (now spans) p ⌝ }
-    ensures { λ r. ⌜ r ≡ image (f .stream .map) (first (f .nest) (processOf (f .nest) p)) ⌝ }
-{
-    let n = f.nest;
-    let map = f.stream.map;
-    vectors::image_of(map, numbering::instance(n, spans[FIRSTS + p] - 1))
-}
-
 // How far apart the numbers of the elements lie that it uses one after the other.
 fn stride_of(f: Flow) -> i32
     requires { ⌜ Flows f ⌝ }
@@ -118,7 +108,7 @@ fn run_of(f: Flow, spans: &[u32], lanes: &[u32], starts: &[u32], first: u32, p: 
     ensures { λ r. ⌜ RunOf (f .nest) (f .stream) first (processOf (f .nest) p) r ⌝ }
 {
     let elements = f.elements;
-    let e = first_element(f, spans, p);
+    let e = pipes::first_element(f, spans, p);
     let entry = pipes::entry_at(f, spans, lanes, p);
     Run {
         number: (first + numbering::row_number(elements, e)) as i32,

@@ -4,14 +4,13 @@ use mathlib.Core.Bool.{true, false, true≢false}
 use Prim.Native.Nat.{ℕ, zero, suc, _*_, _/_, _≤_, _<_}
 use native.Mathlib.Nat.{le-div-iff-mul-le, div-le-self}
 use native.Mathlib.Omega.{arith}
-use lib.Dec.{eqb}
 use lib.IntN.{ℤ, pos, negsuc, natAbs, ℤ-discrete, _+ℤ_, _-ℤ_, _*ℤ_}
 use lib.Signed.{_≤ℤ_, _<ℤ_}
 use mir.Syntax.{w32}
 use mir.Val.{toZ, ofZ}
 use Rattle.integers.specs.Differences.{Abs, gaps, parts, up, le-out, lt-out}
 use Rattle.integers.specs.Variables.{linear}
-use Rattle.integers.specs.Words.{at, leaf, lit, eqZ, eqZ→eq, eq-test}
+use Rattle.integers.specs.Words.{at, eqZ, eqZ→eq}
 use Rattle.integers.specs.Vectors.{zero2, shift2, same2}
 use Rattle.integers.specs.declared.V2.{V2}
 use Rattle.meaning.specs.Space.{Box}
@@ -53,10 +52,7 @@ room-up r e h = go (r .by) e h
     go (pos (suc c)) e h = refl
     go (negsuc c) e h = absurd (omega (arith, le-out h))
 
--- the step as the code holds it: its test against zero, and its magnitude
-pub step-test : {b : ℤ} → Abs b 4800 → eqb (ofZ w32 b) 0 ≡ eqZ b (pos 0)
-step-test h = eq-test tt tt (leaf h) (lit (pos 0))
-
+-- the step as the code holds it: its magnitude
 pub step-size : {b : ℤ} {m : ℕ} → Abs b 4800 → m ≡ natAbs (toZ w32 (ofZ w32 b)) → m ≡ natAbs b
 step-size h e = e ∙ ap natAbs (at tt h .eq)
 

@@ -85,13 +85,6 @@ module _ (f g : ℕ → Bool) where
   same-any i (suc n) h =
       ap₂ (λ (a b : Bool). cond a true b) (h i (le-refl i) (omega arith)) (same-any (suc i) n (λ j l m. h j (omega arith) (omega arith)))
 
-  pub same-position : (i n : ℕ) → ((j : ℕ) → i ≤ j → j < i + n → f j ≡ g j) → position f (numbersFrom i n) ≡ position g (numbersFrom i n)
-  unfolding position numbersFrom
-  same-position i zero h = refl
-  same-position i (suc n) h =
-      ap₂ (λ (b : Bool) (t : ℕ). cond b 0 (suc t)) (h i (le-refl i) (omega arith))
-      (same-position (suc i) n (λ j l m. h j (omega arith) (omega arith)))
-
 -- ---- the first number that passes
 
 pub position-le : (f : ℕ → Bool) (i n : ℕ) → position f (numbersFrom i n) ≤ n

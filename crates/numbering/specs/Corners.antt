@@ -1,8 +1,8 @@
 -- The least and the greatest value of a row over the bounds, by the signs of its words, and with them the box around the images of all
 -- instances. Assumes nothing.
-use mathlib.Core.Path.{_≡_, refl, sym, _∙_, ap, subst, subst₂}
+use mathlib.Core.Path.{_≡_, refl, sym, ap, subst}
 use mathlib.Core.Bool.{Bool, true, false, cond}
-use Prim.Native.Nat.{ℕ, suc}
+use Prim.Native.Nat.{suc}
 use native.Mathlib.Nat.{mul-le-mul-left}
 use native.Mathlib.Omega.{arith}
 use lib.IntN.{ℤ, pos, negsuc, _+ℤ_, _*ℤ_}
@@ -16,7 +16,7 @@ use Rattle.integers.specs.declared.Matrix.{Matrix}
 use Rattle.meaning.specs.declared.Nest.{Nest}
 use Rattle.meaning.specs.Space.{Box, boxOf}
 use Rattle.meaning.specs.Points.{Between, Within as InBounds}
-use Rattle.geometry.specs.Boxes.{Least, Greatest, box-basis, le-trans}
+use Rattle.geometry.specs.Boxes.{Least, Greatest, box-basis}
 use Rattle.numbering.specs.Ranges.{Bounded}
 
 -- of two ends the one at which w times it is least, where the first is the left one; greatest, where it is the right one
@@ -76,32 +76,29 @@ end-in w l r h =
     (end-case (Between l r) w l r (λ _. left) (λ _. right), end-case (Between l r) w r l (λ _. right) (λ _. left))
 
 module _ {n : Nest} (h : Bounded n) (row : V3) where
-  pub row-least : Least n (dot row) (dot row (cornerOf row (n .left) (n .right)))
+  corners-in : InBounds n (cornerOf row (n .left) (n .right)) × InBounds n (cornerOf row (n .right) (n .left))
+  corners-in =
+      let x = end-in (row .x) _ _ (h .outer) in
+      let y = end-in (row .y) _ _ (h .middle) in
+      let z = end-in (row .z) _ _ (h .inner) in
+      (record { inx = x .0; iny = y .0; inz = z .0 }, record { inx = x .1; iny = y .1; inz = z .1 })
+
+  row-least : Least n (dot row) (dot row (cornerOf row (n .left) (n .right)))
   row-least =
       record {
         by = cornerOf row (n .left) (n .right);
-        within =
-            record {
-              inx = end-in (row .x) _ _ (h .outer) .0;
-              iny = end-in (row .y) _ _ (h .middle) .0;
-              inz = end-in (row .z) _ _ (h .inner) .0;
-            };
+        within = corners-in .0;
         is = refl;
         bound = λ x w.
             three _ _ _ _ _ _ (term-least (row .x) _ _ (x .x) (w .inx)) (term-least (row .y) _ _ (x .y) (w .iny))
             (term-least (row .z) _ _ (x .z) (w .inz));
       }
 
-  pub row-greatest : Greatest n (dot row) (dot row (cornerOf row (n .right) (n .left)))
+  row-greatest : Greatest n (dot row) (dot row (cornerOf row (n .right) (n .left)))
   row-greatest =
       record {
         by = cornerOf row (n .right) (n .left);
-        within =
-            record {
-              inx = end-in (row .x) _ _ (h .outer) .1;
-              iny = end-in (row .y) _ _ (h .middle) .1;
-              inz = end-in (row .z) _ _ (h .inner) .1;
-            };
+        within = corners-in .1;
         is = refl;
         bound = λ x w.
             three _ _ _ _ _ _ (term-greatest (row .x) _ _ (x .x) (w .inx)) (term-greatest (row .y) _ _ (x .y) (w .iny))

@@ -1,10 +1,8 @@
 -- The bounds of the box around the images of all instances. Assumes nothing.
-use mathlib.Core.Path.{_≡_, refl, sym, _∙_, ap₂, subst}
-use mathlib.Core.List.{List, [], _∷_, map}
-use Prim.Native.Nat.{ℕ, suc, _+_, _≤_, _<_}
+use mathlib.Core.Path.{_≡_, refl}
+use Prim.Native.Nat.{ℕ, suc, _≤_, _<_}
 use native.Mathlib.Omega.{arith}
-use lib.ListN.{length, getD, drop, drop-of-length-le}
-use lib.Seq.{drop-cons}
+use lib.ListN.{length, getD}
 use lib.IntN.{ℤ, pos, negsuc}
 use lib.Signed.{_≤ℤ_, ≤ℤ-refl}
 use Rattle.integers.specs.Differences.{Abs, gaps, parts}
@@ -15,10 +13,8 @@ use Rattle.integers.specs.declared.V3.{V3}
 use Rattle.integers.specs.declared.Matrix.{Matrix}
 use Rattle.meaning.specs.declared.Nest.{Nest}
 use Rattle.meaning.specs.Loops.{instances}
-use Rattle.meaning.specs.Space.{Box, points, rowIndex, widen, widenAll, around, boxOf}
+use Rattle.meaning.specs.Space.{Box, boxOf}
 use Rattle.meaning.specs.Points.{Between, Within as InBounds, Inside}
-use Rattle.integers.specs.declared.V2.{V2}
-use Rattle.geometry.specs.RowOrder.{row-lt}
 use Rattle.geometry.specs.Places.{getD-in}
 use Rattle.geometry.specs.Instances.{in-within}
 use Rattle.geometry.specs.Boxes.{box-has, box-least, le-trans}

@@ -177,8 +177,8 @@ fn end_of(weight: i32, from: i32, to: i32) -> i32
     if weight < 0 { to } else { from }
 }
 
-// The corner of the bounds at which a row is least.
-fn corner(row: V3, from: V3, to: V3) -> V3
+// The corner of the bounds at which a row is least; with the bounds exchanged, greatest. The directions' is where the loops begin, and end.
+pub fn corner(row: V3, from: V3, to: V3) -> V3
     requires { ⌜ (Within 4 row) × (Within 64 from) × (Within 64 to) ⌝ }
     ensures { λ r. ⌜ (r ≡ cornerOf row from to) × (Within 64 r) ⌝ }
 {

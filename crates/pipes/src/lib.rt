@@ -38,7 +38,7 @@ pub const BLOCK: usize = 2 * PROCESSES;
 // ---- a computing process
 
 // The element that its first instance uses; its last one.
-fn first_element(f: Flow, spans: &[u32], p: usize) -> V2
+pub fn first_element(f: Flow, spans: &[u32], p: usize) -> V2
     requires { ⌜ At f (now spans) p ⌝ }
     ensures { λ r. ⌜ r ≡ image (f .stream .map) (first (f .nest) (processOf (f .nest) p)) ⌝ }
 {

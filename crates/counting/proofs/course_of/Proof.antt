@@ -1,32 +1,22 @@
--- `counting::course_of` meets its contract. Assumes nothing.
-use mathlib.Core.Path.{_≡_, refl, sym, subst}
-use borrow.Author.Needs.{needs}
-use Rattle.counting.specs.declared.Course.{Course}
-use Rattle.counting.specs.Course.{directed-small}
+-- `counting::course_of` meets its contract: the loops begin and end at the corners of the directions. Assumes nothing.
+use Rattle.vectors.specs.Within.{wider, directions-small}
 use Rattle.counting.proofs.course_of.Statement.{statement}
 use Rattle.counting.proofs.course_of.Tie as tie
 
-first-point-requires : tie.Need-first-point-requires
-first-point-requires c κs = search needs
+corner-requires : tie.Need-corner-requires
+corner-requires c κs = let p = c .before .before .before .pre in (wider tt (directions-small (p .directed)), p .left, p .right)
 
-last-point-requires : tie.Need-last-point-requires
-last-point-requires c κs = search needs
+corner-requires-2 : tie.Need-corner-requires-2
+corner-requires-2 c κs = let p = c .before .before .before .before .pre in (wider tt (directions-small (p .directed)), p .right, p .left)
 
 returns : tie.Need-returns
-returns c = (
-  λ i. record {
-    first = c .before .first-point .ensures .0 i;
-    last = c .last-point .ensures .0 i;
-    direction = c .before .before .before
-        .args .n .direction;
-  },
-  record {
-    first = c .before .first-point .ensures .1;
-    last = c .last-point .ensures .1;
-    direction =
-        directed-small (c .before .before .before .pre .directed);
-  },
-)
+returns c =
+    let a = c .before .corner .ensures in
+    let b = c .corner2 .ensures in
+    let s = c .before .before .before .before .before in (
+      λ i. record { first = a .0 i; last = b .0 i; direction = s .args .n .direction },
+      record { first = a .1; last = b .1; direction = directions-small (s .pre .directed) },
+    )
 
 pub course-of-spec : {M : Type 1} → statement M
-course-of-spec = tie.close (tie.spec first-point-requires last-point-requires returns)
+course-of-spec = tie.close (tie.spec corner-requires corner-requires-2 returns)

@@ -9,7 +9,7 @@ use lib.ListN.{length}
 use mir.Syntax.{w32}
 use mir.Val.{toZ, ofZ}
 use borrow.Author.Needs.{needs}
-use Rattle.integers.specs.Differences.{Abs, up}
+use Rattle.integers.specs.Differences.{up}
 use Rattle.integers.specs.Fill.{fillBy}
 use Rattle.integers.specs.Words.{Holds, at, leaf, box, add, fits}
 use Rattle.integers.specs.declared.V3.{V3}

@@ -1,5 +1,4 @@
 -- `counting::strides_of` meets its contract: a direction is 1 or −1. Assumes nothing.
-use Rattle.integers.specs.Bounds.{Abs-wider}
 use Rattle.integers.specs.Words.{at, box, mul, fits, bounded}
 use Rattle.integers.specs.Vectors.{same3}
 use Rattle.counting.proofs.strides_of.Statement.{statement}

@@ -7,13 +7,14 @@ use borrow.Author.Needs.{needs}
 use borrow.Author.Tests.{eq-eqb, ne-eqb}
 use Rattle.integers.specs.Words.{at, less-of, not-less-of}
 use Rattle.numbering.specs.Ranges.{apart-words, words-up}
-use Rattle.layout.specs.Rays.{room-free, room-down, room-up, some-step, step-test, step-size}
+use Rattle.vectors.specs.Within.{zero-bits}
+use Rattle.layout.specs.Rays.{room-free, room-down, room-up, some-step, step-size}
 use Rattle.layout.proofs.room.Statement.{statement}
 use Rattle.layout.proofs.room.Tie as tie
 
 returns : tie.Need-returns
 returns c =
-    let s = c .before .before .before in room-free (s .args .r) (sym (step-test (s .pre .by)) ∙ eq-eqb _ _ (c .if1 .taken))
+    let s = c .before .before .before in room-free (s .args .r) (sym (zero-bits tt (s .pre .by)) ∙ eq-eqb _ _ (c .if1 .taken))
 
 magnitude-requires : tie.Need-magnitude-requires
 magnitude-requires c κs = search needs
@@ -29,7 +30,7 @@ steps-in-requires c κs =
     omega (
       arith,
       step-size (s .pre .by) (m .magnitude .ensures),
-      some-step (s .args .r .by) (sym (step-test (s .pre .by)) ∙ ne-eqb _ _ (i .if1 .left)),
+      some-step (s .args .r .by) (sym (zero-bits tt (s .pre .by)) ∙ ne-eqb _ _ (i .if1 .left)),
     )
 
 distance-requires-2 : tie.Need-distance-requires-2
@@ -43,7 +44,7 @@ steps-in-requires-2 c κs =
     omega (
       arith,
       step-size (s .pre .by) (m .magnitude .ensures),
-      some-step (s .args .r .by) (sym (step-test (s .pre .by)) ∙ ne-eqb _ _ (i .if1 .left)),
+      some-step (s .args .r .by) (sym (zero-bits tt (s .pre .by)) ∙ ne-eqb _ _ (i .if1 .left)),
     )
 
 returns-2 : tie.Need-returns-2
@@ -63,7 +64,7 @@ returns-3 c =
     let s = i .before .before .before in
     c .steps-in2 .ensures
     ∙ ap₂ _/_ (words-up (s .pre .high) (b .distance2 .ensures .0)) (step-size (s .pre .by) (m .magnitude .ensures))
-    ∙ room-up (s .args .r) (sym (step-test (s .pre .by)) ∙ ne-eqb _ _ (i .if1 .left))
+    ∙ room-up (s .args .r) (sym (zero-bits tt (s .pre .by)) ∙ ne-eqb _ _ (i .if1 .left))
     (not-less-of (at tt (s .pre .by) .eq) refl (b .before .before .before .if2 .left))
 
 pub room-spec : {M : Type 1} → statement M

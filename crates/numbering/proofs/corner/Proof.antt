@@ -1,12 +1,11 @@
 -- `numbering::corner` meets its contract, component by component. Assumes nothing.
-use mathlib.Core.Path.{_≡_, _∙_, ap, sym, subst}
+use mathlib.Core.Path.{_≡_, _∙_}
 use lib.IntN.{ℤ}
 use mir.Syntax.{w32}
 use mir.Val.{toZ, ofZ}
 use Rattle.integers.specs.Differences.{Abs}
 use Rattle.integers.specs.Words.{at, bounded, held, held-abs}
 use Rattle.integers.specs.Vectors.{same3}
-use Rattle.vectors.specs.Within.{Within}
 use Rattle.numbering.specs.Corners.{endOf}
 use Rattle.numbering.proofs.corner.Statement.{statement}
 use Rattle.numbering.proofs.corner.Tie as tie
