@@ -55,7 +55,7 @@ pub fn distance(a: i32, b: i32) -> u32
 }
 
 // Loop 0.
-pub fn outer(n: Nest) -> Loop
+fn outer(n: Nest) -> Loop
     requires { ⌜ Bounded n ⌝ }
     ensures { λ r. ⌜ (r ≡ outerOf n) × (Ranged r) ⌝ }
 {
@@ -70,7 +70,7 @@ pub fn outer(n: Nest) -> Loop
 }
 
 // Loop 1.
-pub fn middle(n: Nest) -> Loop
+fn middle(n: Nest) -> Loop
     requires { ⌜ Bounded n ⌝ }
     ensures { λ r. ⌜ (r ≡ middleOf n) × (Ranged r) ⌝ }
 {
@@ -85,7 +85,7 @@ pub fn middle(n: Nest) -> Loop
 }
 
 // Loop 2.
-pub fn inner(n: Nest) -> Loop
+fn inner(n: Nest) -> Loop
     requires { ⌜ Bounded n ⌝ }
     ensures { λ r. ⌜ (r ≡ innerOf n) × (Ranged r) ⌝ }
 {

@@ -8,7 +8,7 @@ use lib.Dec.{eqb}
 use lib.IntN.{pos}
 use lib.ListN.{length, getD}
 use borrow.Author.Tests.{eq-eqb, ne-eqb, eqb-false}
-use Rattle.integers.specs.Vectors.{zero2, neg2, shift2, image}
+use Rattle.integers.specs.Vectors.{zero2, shift2, image}
 use Rattle.integers.specs.declared.V2.{V2}
 use Rattle.meaning.specs.declared.Nest.{Nest}
 use Rattle.meaning.specs.declared.Stream.{Stream}
@@ -74,11 +74,6 @@ module _ {f : Flow} (h : Flows f) {p : ℕ} (lt : p < length (processes (f .nest
     on-number e =
         let e' = e ∙ ap (λ (b : Box). rowIndex b z) (h .space-is) in
         (e' ∙ ap (rowIndex (space (f .nest))) on-eq, omega (arith, e', row-lt (space (f .nest)) z on-in, h .laid .processes))
-
-  pub position-is : {k : ℕ} → k ≡ reach (boxed (f .space)) (f .back) y → k ≡ before (f .nest) (f .stream) (processOf (f .nest) p)
-  position-is e =
-      e ∙ ap₂ (λ (b : Box) (d : V2). reach b d y) (h .space-is) (h .back-is)
-      ∙ ap (reach (space (f .nest)) (neg2 (move (f .nest) (f .stream)))) (point-is h lt ey)
 
   module _ (l : 0 < before (f .nest) (f .stream) (processOf (f .nest) p)) {z : V2} (ez : z ≡ shift2 y (pos 1) (f .back)) where
     back-eq : z ≡ backOf (f .nest) (f .stream) (processOf (f .nest) p)

@@ -58,19 +58,8 @@ fn end_at(g: Strand, j: u32) -> u32
     g.tail + j * (2 + g.hop)
 }
 
-// How many processes stand before process p on its line: its position there.
-pub fn position(f: Flow, p: u32) -> u32
-    requires { ⌜ (Flows f) × (p < length (processes (f .nest))) ⌝ }
-    ensures { λ r. ⌜ r ≡ before (f .nest) (f .stream) (processOf (f .nest) p) ⌝ }
-{
-    let space = f.space;
-    let back = f.back;
-    let y = layout::point_at(space, p);
-    layout::reach_of(space, back, y)
-}
-
 // The number of the process that lies k moves on from process p: the next one where k is 1.
-pub fn number_on(f: Flow, p: u32, k: u32) -> u32
+fn number_on(f: Flow, p: u32, k: u32) -> u32
     requires { ⌜ (Flows f) × (p < length (processes (f .nest)))
         × (k ≤ reach (space (f .nest)) (move (f .nest) (f .stream)) (processOf (f .nest) p)) ⌝ }
     ensures { λ r. ⌜ (r ≡ rowIndex (space (f .nest)) (shift2 (processOf (f .nest) p) (pos k) (move (f .nest) (f .stream))))
@@ -83,7 +72,7 @@ pub fn number_on(f: Flow, p: u32, k: u32) -> u32
 }
 
 // The number of the process before process p, which is no entry.
-pub fn number_back(f: Flow, p: u32) -> u32
+fn number_back(f: Flow, p: u32) -> u32
     requires { ⌜ (Flows f) × (p < length (processes (f .nest))) × (0 < before (f .nest) (f .stream) (processOf (f .nest) p)) ⌝ }
     ensures { λ r. ⌜ (r ≡ rowIndex (space (f .nest)) (backOf (f .nest) (f .stream) (processOf (f .nest) p)))
         × (r < gaugeLimits .processes) ⌝ }
