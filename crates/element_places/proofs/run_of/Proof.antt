@@ -6,7 +6,8 @@ use Prim.Native.Nat.{ℕ, _+_, _≤_}
 use native.Mathlib.Omega.{arith}
 use lib.IntN.{pos}
 use Rattle.integers.specs.Words.{bits, held}
-use Rattle.element_places.specs.Lent.{near-using, at-using, elements-spanning, inside-elements, soaking, number-is, number-fits, part-low, part-here, run-is}
+use Rattle.element_places.specs.Lent.{near-using, at-using, elements-spanning, inside-elements, soaking}
+use Rattle.element_places.specs.Lent.{number-is, number-fits, part-low, part-here, run-is}
 use Rattle.element_places.proofs.run_of.Statement.{statement}
 use Rattle.element_places.proofs.run_of.Tie as tie
 
