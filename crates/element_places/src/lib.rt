@@ -89,7 +89,7 @@ fn used_by(f: Flow, spans: &[u32], p: usize) -> u32
 }
 
 // Its soak, by its first element e.
-fn soak_by(f: Flow, spans: &[u32], lanes: &[u32], p: usize, e: V2) -> u32
+fn soak_by(f: Flow, spans: &[u32], lanes: &[u16], p: usize, e: V2) -> u32
     requires { ⌜ Soaking f (now spans) (now lanes) p e ⌝ }
     ensures { λ r. ⌜ (r ≡ soak (f .nest) (f .stream) (processOf (f .nest) p)) × (r ≤ 1536) ⌝ }
 {
@@ -103,7 +103,7 @@ fn soak_by(f: Flow, spans: &[u32], lanes: &[u32], p: usize, e: V2) -> u32
 }
 
 // The elements that it uses, by the starts of the parts; the stream's elements have the numbers from `first` on.
-fn run_of(f: Flow, spans: &[u32], lanes: &[u32], starts: &[u32], first: u32, p: usize) -> Run
+fn run_of(f: Flow, spans: &[u32], lanes: &[u16], starts: &[u32], first: u32, p: usize) -> Run
     requires { ⌜ Using f first (now spans) (now lanes) (now starts) p ⌝ }
     ensures { λ r. ⌜ RunOf (f .nest) (f .stream) first (processOf (f .nest) p) r ⌝ }
 {
@@ -124,7 +124,7 @@ fn run_of(f: Flow, spans: &[u32], lanes: &[u32], starts: &[u32], first: u32, p: 
 fn put_process(
     f: Flow,
     spans: &[u32],
-    lanes: &[u32],
+    lanes: &[u16],
     starts: &[u32],
     first: u32,
     p: usize,
@@ -146,7 +146,7 @@ fn put_places(
     f: Flow,
     processes: u32,
     spans: &[u32],
-    lanes: &[u32],
+    lanes: &[u16],
     starts: &[u32],
     first: u32,
     places: &mut [u32],
@@ -168,7 +168,7 @@ fn fill_stream(n: Nest, s: Stream, first: u32, spans: &[u32], places: &mut [u32]
     let f = lanes::flow_of(n, s);
     let space = f.space;
     let processes = numbering::size_of(space);
-    let mut lanes = [0u32; LANES];
+    let mut lanes = [0u16; LANES];
     lanes::fill_lanes(f, processes, spans, &mut lanes);
     let mut starts = [0u32; PROCESSES];
     pipe_parts::fill_starts(f, processes, spans, &lanes, first, &mut starts);

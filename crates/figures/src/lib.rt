@@ -45,7 +45,7 @@ struct Totals {
 // ---- one stream
 
 // The steps of the pipe that enters at process p: twice its elements times one more than its processes.
-fn pipe_steps(f: Flow, spans: &[u32], lanes: &[u32], p: usize) -> u32
+fn pipe_steps(f: Flow, spans: &[u32], lanes: &[u16], p: usize) -> u32
     requires { ⌜ (Near f (now spans) (now lanes) p) × (isEntry (f .nest) (f .stream) (processOf (f .nest) p) ≡ true) ⌝ }
     ensures { λ r. ⌜ r ≡ stepsOn (f .nest) (f .stream) (processOf (f .nest) p) ⌝ }
 {
@@ -57,7 +57,7 @@ fn pipe_steps(f: Flow, spans: &[u32], lanes: &[u32], p: usize) -> u32
 }
 
 // With the pipe of process p, if it is an entry.
-fn added(f: Flow, spans: &[u32], lanes: &[u32], p: usize, sums: Sums) -> Sums
+fn added(f: Flow, spans: &[u32], lanes: &[u16], p: usize, sums: Sums) -> Sums
     requires { ⌜ (Near f (now spans) (now lanes) p) × (sums ≡ sumsAt (f .nest) (f .stream) p) × (Under (f .nest) (f .stream)) ⌝ }
     ensures { λ r. ⌜ r ≡ sumsAt (f .nest) (f .stream) (suc p) ⌝ }
 {
@@ -72,7 +72,7 @@ fn added(f: Flow, spans: &[u32], lanes: &[u32], p: usize, sums: Sums) -> Sums
 }
 
 // Over all processes.
-fn sums_of(f: Flow, processes: u32, spans: &[u32], lanes: &[u32]) -> Sums
+fn sums_of(f: Flow, processes: u32, spans: &[u32], lanes: &[u16]) -> Sums
     requires { ⌜ Summing f processes (now spans) (now lanes) ⌝ }
     ensures { λ r. ⌜ r ≡ sumsOver (f .nest) (f .stream) (entries (f .nest) (f .stream)) ⌝ }
 {
@@ -93,7 +93,7 @@ fn share_of(n: Nest, s: Stream, spans: &[u32]) -> Share
     let f = lanes::flow_of(n, s);
     let space = f.space;
     let processes = numbering::size_of(space);
-    let mut lanes = [0u32; LANES];
+    let mut lanes = [0u16; LANES];
     lanes::fill_lanes(f, processes, spans, &mut lanes);
     let sums = sums_of(f, processes, spans, &lanes);
     Share {

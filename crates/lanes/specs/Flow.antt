@@ -96,6 +96,7 @@ pub record Fillable (f : Flow) (count : ℕ) (spans lanes : List ℕ) : Type 0 w
   pub of-spans : Spans (f .nest) spans
   pub long : 3072 ≤ length spans
   pub words : length lanes ≡ 4096
+  pub zeros : (i : ℕ) → i < 4096 → getD lanes i 0 ≡ 0
 
 module _ {f : Flow} (h : Flows f) where
   pub spanning : Spanning (boxed (f .space))

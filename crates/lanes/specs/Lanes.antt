@@ -12,7 +12,6 @@ use lib.Dec.{T, eqb}
 use lib.ListN.{length, getD, set, length-set}
 use lib.Seq.{getD-set-same, getD-set-other}
 use borrow.Author.Tests.{eq-eqb, ne-eqb}
-use Rattle.integers.specs.Fill.{fillBy, fill-length, fill-at}
 
 -- 1,024 words each: the entry of a process; how many before it compute on its line; for an entry, how many compute on its line, and the
 -- number plus one of one of them
@@ -196,10 +195,3 @@ module _ (E : ℕ → ℕ) (C : ℕ → Bool) where
       go : (c : Bool) → C k ≡ c → Lanes n (suc k) (visited l k (E k) c)
       go true s = some-step few lt h s (subst (λ (i : ℕ). i < n) p b)
       go false s = null-step few lt h s
-
--- a lane cleared
-pub cleared-at : {l : List ℕ} (xs : List ℕ) → l ≡ fillBy (λ p. 0) 4096 xs → length xs ≡ 4096 → (i : ℕ) → i < 4096 → getD l i 0 ≡ 0
-cleared-at xs e w i h = ap (λ (l : List ℕ). getD l i 0) e ∙ fill-at (λ p. 0) 4096 i xs 0 h (omega arith)
-
-pub cleared-length : {l : List ℕ} (xs : List ℕ) → l ≡ fillBy (λ p. 0) 4096 xs → length xs ≡ 4096 → length l ≡ 4096
-cleared-length xs e w = ap length e ∙ fill-length (λ p. 0) 4096 xs ∙ w

@@ -1,12 +1,14 @@
 // The lanes of a stream: which line of processes each process is on, and who computes there.
 //
 // One pass over the processes leaves the lanes, 1,024 words each: the entry of a process's line; how many before it compute there; for an
-// entry, how many compute on its line, and the number plus one of one of them. All else is then found at once for each process.
+// entry, how many compute on its line, and the number plus one of one of them. All else is then found at once for each process. A call makes
+// the lanes of all streams once and hands them on.
 //
 // specs/, by file:
 //
 //   Lanes     the pass, by numbers alone
 //   Held      what the lanes hold of a stream's pipes: `held-is`, `soak-held`
+//   All       the lanes of all streams, block by block: `LanesOf`
 //   Flow      what is known of a stream once and for all its processes: `Flows`
 //   Accepted  `laid-stream`: every stream of an accepted description is laid out as the functions ask
 ghost use mathlib.Core.Path.{_≡_};
@@ -21,6 +23,7 @@ ghost use Rattle.lanes.specs.Flow.{Laid, Flows, Visitable, Fillable, See
 use integers::V2;
 use meaning::Nest;
 use meaning::PROCESSES;
+use meaning::STREAMS;
 use meaning::Stream;
 use numbering::Extent;
 
@@ -33,7 +36,8 @@ pub const ONE: usize = 3 * PROCESSES;
 
 pub const LANES: usize = 4 * PROCESSES;
 
-const ALL: u32 = LANES as u32;
+// The words of the lanes of all streams.
+pub const ALL: usize = STREAMS * LANES;
 
 // A stream in its nest: the process space and its own box, its move and index map times increment, each also turned round; whether it
 // moves, and whether its move leads back in row order.
@@ -93,25 +97,24 @@ fn entry_number(f: Flow, p: u32) -> u32
 }
 
 // Process p, whose line enters at e, joins its lane.
-fn visit(lanes: &mut [u32], p: usize, e: usize, computing: bool)
+fn visit(lanes: &mut [u16], p: usize, e: usize, computing: bool)
     requires { ⌜ Visitable (now lanes) p e ⌝ }
     ensures { λ r. ⌜ now (lanes .exit) ≡ visited (now (lanes .entry)) p e computing ⌝ }
 {
     let held = lanes[HELD + e];
-    lanes[p] = e as u32;
+    lanes[p] = e as u16;
     if computing {
         lanes[BEFORE + p] = held;
         lanes[HELD + e] = held + 1;
-        lanes[ONE + e] = p as u32 + 1;
+        lanes[ONE + e] = (p + 1) as u16;
     }
 }
 
-// The lanes of all processes.
-pub fn fill_lanes(f: Flow, processes: u32, spans: &[u32], lanes: &mut [u32])
+// The lanes of all processes; their words come as zeros.
+pub fn fill_lanes(f: Flow, processes: u32, spans: &[u32], lanes: &mut [u16])
     requires { ⌜ Fillable f processes (now spans) (now lanes) ⌝ }
     ensures { λ r. ⌜ Seen f (now (spans .entry)) (now (lanes .exit)) ⌝ }
 {
-    sweeps::clear(ALL, lanes);
     let mut p: u32 = 0;
     while p < processes {
         let e = entry_number(f, p);

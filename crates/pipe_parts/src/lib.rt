@@ -27,7 +27,7 @@ pub const TOTALS: usize = PROCESSES;
 pub const HEADS: usize = 2 * PROCESSES;
 
 // Whether process p is the entry of a pipe.
-pub fn is_entry(f: Flow, spans: &[u32], lanes: &[u32], p: usize) -> bool
+pub fn is_entry(f: Flow, spans: &[u32], lanes: &[u16], p: usize) -> bool
     requires { ⌜ Near f (now spans) (now lanes) p ⌝ }
     ensures { λ r. ⌜ r ≡ isEntry (f .nest) (f .stream) (processOf (f .nest) p) && isPipe (f .nest) (f .stream) (processOf (f .nest) p) ⌝ }
 {
@@ -39,7 +39,7 @@ pub fn is_entry(f: Flow, spans: &[u32], lanes: &[u32], p: usize) -> bool
 }
 
 // The elements that the pipe of process p has, if p is its entry.
-pub fn entering_length(f: Flow, spans: &[u32], lanes: &[u32], p: usize) -> u32
+pub fn entering_length(f: Flow, spans: &[u32], lanes: &[u16], p: usize) -> u32
     requires { ⌜ Near f (now spans) (now lanes) p ⌝ }
     ensures { λ r. ⌜ (r ≡ enteringLength (f .nest) (f .stream) p) × (r ≤ gaugeLimits .instances) ⌝ }
 {
@@ -55,7 +55,7 @@ pub fn fill_starts(
     f: Flow,
     processes: u32,
     spans: &[u32],
-    lanes: &[u32],
+    lanes: &[u16],
     first: u32,
     out: &mut [u32],
 )

@@ -89,7 +89,7 @@ fn length_at(f: Flow, spans: &[u32], p: usize) -> u32
 // ---- the lanes of a process
 
 // The entry of its line.
-pub fn entry_at(f: Flow, spans: &[u32], lanes: &[u32], p: usize) -> usize
+pub fn entry_at(f: Flow, spans: &[u32], lanes: &[u16], p: usize) -> usize
     requires { ⌜ Near f (now spans) (now lanes) p ⌝ }
     ensures { λ r. ⌜ (r ≡ getD (now (lanes .entry)) p 0) × (r < gaugeLimits .processes) ⌝ }
 {
@@ -97,28 +97,28 @@ pub fn entry_at(f: Flow, spans: &[u32], lanes: &[u32], p: usize) -> usize
 }
 
 // How many compute on it, and the number plus one of one of them.
-pub fn held_at(f: Flow, spans: &[u32], lanes: &[u32], p: usize) -> u32
+pub fn held_at(f: Flow, spans: &[u32], lanes: &[u16], p: usize) -> u32
     requires { ⌜ Near f (now spans) (now lanes) p ⌝ }
     ensures { λ r. ⌜ r ≡ getD (now (lanes .entry)) (2048 + getD (now (lanes .entry)) p 0) 0 ⌝ }
 {
     let e = entry_at(f, spans, lanes, p);
-    lanes[HELD + e]
+    lanes[HELD + e] as u32
 }
 
-fn one_at(f: Flow, spans: &[u32], lanes: &[u32], p: usize) -> u32
+fn one_at(f: Flow, spans: &[u32], lanes: &[u16], p: usize) -> u32
     requires { ⌜ Near f (now spans) (now lanes) p ⌝ }
     ensures { λ r. ⌜ r ≡ getD (now (lanes .entry)) (spanWords + getD (now (lanes .entry)) p 0) 0 ⌝ }
 {
     let e = entry_at(f, spans, lanes, p);
-    lanes[ONE + e]
+    lanes[ONE + e] as u32
 }
 
 // Of a stationary stream: its soak, the number of computing processes before it on its pipe.
-pub fn rank_at(f: Flow, spans: &[u32], lanes: &[u32], p: usize) -> u32
+pub fn rank_at(f: Flow, spans: &[u32], lanes: &[u16], p: usize) -> u32
     requires { ⌜ (Near f (now spans) (now lanes) p) × (T (computes (f .nest) p)) × (f .moving ≡ false) ⌝ }
     ensures { λ r. ⌜ r ≡ soak (f .nest) (f .stream) (processOf (f .nest) p) ⌝ }
 {
-    let running = lanes[BEFORE + p];
+    let running = lanes[BEFORE + p] as u32;
     if f.turned {
         held_at(f, spans, lanes, p) - 1 - running
     } else {
@@ -129,7 +129,7 @@ pub fn rank_at(f: Flow, spans: &[u32], lanes: &[u32], p: usize) -> u32
 // ---- any process
 
 // How many elements its pipe has, 0 without a pipe.
-pub fn total_at(f: Flow, spans: &[u32], lanes: &[u32], p: usize) -> u32
+pub fn total_at(f: Flow, spans: &[u32], lanes: &[u16], p: usize) -> u32
     requires { ⌜ Near f (now spans) (now lanes) p ⌝ }
     ensures { λ r. ⌜ (r ≡ length (pipeElements (f .nest) (f .stream) (processOf (f .nest) p))) × (r ≤ gaugeLimits .instances) ⌝ }
 {
@@ -146,7 +146,7 @@ pub fn total_at(f: Flow, spans: &[u32], lanes: &[u32], p: usize) -> u32
 }
 
 // Its soak, if it computes.
-pub fn own_soak(f: Flow, spans: &[u32], lanes: &[u32], p: usize) -> u32
+pub fn own_soak(f: Flow, spans: &[u32], lanes: &[u16], p: usize) -> u32
     requires { ⌜ (Near f (now spans) (now lanes) p) × (At f (now spans) p) ⌝ }
     ensures { λ r. ⌜ r ≡ soak (f .nest) (f .stream) (processOf (f .nest) p) ⌝ }
 {
@@ -158,7 +158,7 @@ pub fn own_soak(f: Flow, spans: &[u32], lanes: &[u32], p: usize) -> u32
 }
 
 // Its soak as the table has it: of a null process the number of its pipe's elements.
-fn soak_of(f: Flow, spans: &[u32], lanes: &[u32], p: usize) -> u32
+fn soak_of(f: Flow, spans: &[u32], lanes: &[u16], p: usize) -> u32
     requires { ⌜ Near f (now spans) (now lanes) p ⌝ }
     ensures { λ r. ⌜ r ≡ rowSoak (f .nest) (f .stream) (processOf (f .nest) p) ⌝ }
 {
@@ -170,7 +170,7 @@ fn soak_of(f: Flow, spans: &[u32], lanes: &[u32], p: usize) -> u32
 }
 
 // Its drain, of a null process 0.
-fn drain_of(f: Flow, spans: &[u32], lanes: &[u32], p: usize) -> u32
+fn drain_of(f: Flow, spans: &[u32], lanes: &[u16], p: usize) -> u32
     requires { ⌜ Near f (now spans) (now lanes) p ⌝ }
     ensures { λ r. ⌜ r ≡ rowDrain (f .nest) (f .stream) (processOf (f .nest) p) ⌝ }
 {
@@ -186,7 +186,7 @@ fn drain_of(f: Flow, spans: &[u32], lanes: &[u32], p: usize) -> u32
 }
 
 // The soaks of all processes; their drains.
-fn fill_soaks(f: Flow, processes: u32, spans: &[u32], lanes: &[u32], out: &mut [u32])
+fn fill_soaks(f: Flow, processes: u32, spans: &[u32], lanes: &[u16], out: &mut [u32])
     requires { ⌜ Filling f processes (now spans) (now lanes) (now out) ⌝ }
     ensures { λ r. ⌜ now (out .exit) ≡ fillBy (λ p. rowSoak (f .nest) (f .stream) (processOf (f .nest) p)) processes (now (out .entry)) ⌝ }
 {
@@ -197,7 +197,7 @@ fn fill_soaks(f: Flow, processes: u32, spans: &[u32], lanes: &[u32], out: &mut [
     }
 }
 
-fn fill_drains(f: Flow, processes: u32, spans: &[u32], lanes: &[u32], out: &mut [u32])
+fn fill_drains(f: Flow, processes: u32, spans: &[u32], lanes: &[u16], out: &mut [u32])
     requires { ⌜ Filling f processes (now spans) (now lanes) (now out) ⌝ }
     ensures { λ r. ⌜ now (out .exit) ≡ fillBy (λ p. rowDrain (f .nest) (f .stream) (processOf (f .nest) p)) processes (now (out .entry)) ⌝ }
 {
@@ -217,7 +217,7 @@ pub fn fill_stream(n: Nest, s: Stream, spans: &[u32], block: &mut [u32])
     let f = lanes::flow_of(n, s);
     let space = f.space;
     let processes = numbering::size_of(space);
-    let mut lanes = [0u32; LANES];
+    let mut lanes = [0u16; LANES];
     lanes::fill_lanes(f, processes, spans, &mut lanes);
     fill_soaks(f, processes, spans, &lanes, &mut block[0..PROCESSES]);
     fill_drains(f, processes, spans, &lanes, &mut block[PROCESSES..BLOCK]);

@@ -121,7 +121,7 @@ fn put_ends(
     g: Strand,
     processes: u32,
     spans: &[u32],
-    lanes: &[u32],
+    lanes: &[u16],
     first: u32,
     base: u32,
     heads: &mut [u32],
@@ -150,7 +150,7 @@ fn put_port(
     f: Flow,
     g: Strand,
     spans: &[u32],
-    lanes: &[u32],
+    lanes: &[u16],
     heads: &[u32],
     i: usize,
     p: usize,
@@ -169,7 +169,7 @@ fn put_ports(
     g: Strand,
     processes: u32,
     spans: &[u32],
-    lanes: &[u32],
+    lanes: &[u16],
     heads: &[u32],
     i: usize,
     ports: &mut [u32],
@@ -201,7 +201,7 @@ fn fill_stream(
     let f = lanes::flow_of(n, s);
     let space = f.space;
     let processes = numbering::size_of(space);
-    let mut lanes = [0u32; LANES];
+    let mut lanes = [0u16; LANES];
     lanes::fill_lanes(f, processes, spans, &mut lanes);
     let mut heads = [0u32; HEADS];
     let pipes = put_ends(

@@ -84,7 +84,7 @@ fn number_back(f: Flow, p: u32) -> u32
 }
 
 // The number of the pipe of process p in the stream, and how many elements it has, 0 without a pipe: both at the entry of its line.
-fn pipe_number(f: Flow, spans: &[u32], lanes: &[u32], heads: &[u32], p: usize) -> u32
+fn pipe_number(f: Flow, spans: &[u32], lanes: &[u16], heads: &[u32], p: usize) -> u32
     requires { ⌜ PortGiven f (now spans) (now lanes) (now heads) p ⌝ }
     ensures { λ r. ⌜ (r ≡ pipeOf (f .nest) (f .stream) p) × (r ≤ gaugeLimits .processes) ⌝ }
 {
@@ -92,7 +92,7 @@ fn pipe_number(f: Flow, spans: &[u32], lanes: &[u32], heads: &[u32], p: usize) -
     heads[e]
 }
 
-fn pipe_total(f: Flow, spans: &[u32], lanes: &[u32], heads: &[u32], p: usize) -> u32
+fn pipe_total(f: Flow, spans: &[u32], lanes: &[u16], heads: &[u32], p: usize) -> u32
     requires { ⌜ PortGiven f (now spans) (now lanes) (now heads) p ⌝ }
     ensures { λ r. ⌜ r ≡ length (pipeElements (f .nest) (f .stream) (processOf (f .nest) p)) ⌝ }
 {
@@ -101,7 +101,7 @@ fn pipe_total(f: Flow, spans: &[u32], lanes: &[u32], heads: &[u32], p: usize) ->
 }
 
 // The soak of process p, whose pipe has so many elements: of a null process all of them.
-fn soak_of(f: Flow, spans: &[u32], lanes: &[u32], total: u32, p: usize) -> u32
+fn soak_of(f: Flow, spans: &[u32], lanes: &[u16], total: u32, p: usize) -> u32
     requires { ⌜ (Near f (now spans) (now lanes) p) × (total ≡ length (pipeElements (f .nest) (f .stream) (processOf (f .nest) p))) ⌝ }
     ensures { λ r. ⌜ r ≡ rowSoak (f .nest) (f .stream) (processOf (f .nest) p) ⌝ }
 {
@@ -113,7 +113,7 @@ fn soak_of(f: Flow, spans: &[u32], lanes: &[u32], total: u32, p: usize) -> u32
 }
 
 // What was put into the link into process p, where the words of its pipe's ends stand at `sent`.
-fn before_of(f: Flow, g: Strand, spans: &[u32], lanes: &[u32], sent: u32, p: usize) -> u32
+fn before_of(f: Flow, g: Strand, spans: &[u32], lanes: &[u16], sent: u32, p: usize) -> u32
     requires { ⌜ (Near f (now spans) (now lanes) p) × (Narrow g) × (sent ≤ stateWordsMost + endWordsMost) ⌝ }
     ensures { λ r. ⌜ r ≡ beforeFrom (f .nest) (f .stream) g sent p ⌝ }
 {
@@ -158,7 +158,7 @@ fn port_of(
     f: Flow,
     g: Strand,
     spans: &[u32],
-    lanes: &[u32],
+    lanes: &[u16],
     heads: &[u32],
     total: u32,
     p: usize,
@@ -206,7 +206,7 @@ fn off_of(g: Strand, count: u32, p: u32) -> Port
 }
 
 // The row of process p.
-pub fn row_of(f: Flow, g: Strand, spans: &[u32], lanes: &[u32], heads: &[u32], p: usize) -> Port
+pub fn row_of(f: Flow, g: Strand, spans: &[u32], lanes: &[u16], heads: &[u32], p: usize) -> Port
     requires { ⌜ (PortGiven f (now spans) (now lanes) (now heads) p) × (Narrow g) ⌝ }
     ensures { λ r. ⌜ r ≡ rowFrom (f .nest) (f .stream) g p ⌝ }
 {

@@ -71,7 +71,7 @@ fn counted(w: Search, length: u32) -> Search
 }
 
 // The pipe that enters at process p, if one does.
-fn visited(f: Flow, spans: &[u32], lanes: &[u32], p: usize, w: Search) -> Search
+fn visited(f: Flow, spans: &[u32], lanes: &[u16], p: usize, w: Search) -> Search
     requires { ⌜ (Near f (now spans) (now lanes) p) × (w .start ≤ 30000000) ⌝ }
     ensures { λ r. ⌜ (r ≡ visited (f .nest) (f .stream) (processOf (f .nest) p) w) × (r .start ≤ w .start + gaugeLimits .instances) ⌝ }
 {
@@ -83,7 +83,7 @@ fn visited(f: Flow, spans: &[u32], lanes: &[u32], p: usize, w: Search) -> Search
 }
 
 // The pipes of a stream.
-fn searched(f: Flow, processes: u32, spans: &[u32], lanes: &[u32], first: Search) -> Search
+fn searched(f: Flow, processes: u32, spans: &[u32], lanes: &[u16], first: Search) -> Search
     requires { ⌜ (Counting f processes (now spans) (now lanes)) × (first .start ≤ 25165824) ⌝ }
     ensures { λ r. ⌜ (r ≡ searched first (streamLengths (f .nest) (f .stream))) × (r .start ≤ first .start + 4194304) ⌝ }
 {
@@ -104,7 +104,7 @@ fn stream_searched(n: Nest, s: Stream, spans: &[u32], w: Search) -> Search
     let f = lanes::flow_of(n, s);
     let space = f.space;
     let processes = numbering::size_of(space);
-    let mut lanes = [0u32; LANES];
+    let mut lanes = [0u16; LANES];
     lanes::fill_lanes(f, processes, spans, &mut lanes);
     searched(f, processes, spans, &lanes, w)
 }

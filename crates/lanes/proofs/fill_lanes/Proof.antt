@@ -5,7 +5,7 @@ use Prim.Native.Nat.{ℕ, _≤_, _-_}
 use native.Mathlib.Omega.{arith}
 use lib.Dec.{eqb}
 use borrow.Author.Needs.{needs}
-use Rattle.lanes.specs.Lanes.{Lanes, lanes-start, lanes-step, cleared-at, cleared-length, held-le}
+use Rattle.lanes.specs.Lanes.{Lanes, lanes-start, lanes-step, held-le}
 use Rattle.lanes.specs.Held.{entryNumber, computes}
 use Rattle.lanes.proofs.fill_lanes.Statement.{statement}
 use Rattle.lanes.proofs.fill_lanes.Tie as tie
@@ -17,20 +17,16 @@ Inv-loop f processes spans lanes₀ p₀ lanes p =
 abbrev μ-loop : tie.MeasureT-loop
 μ-loop f processes spans lanes₀ p₀ lanes p = processes - p
 
-clear-requires : tie.Need-clear-requires Inv-loop μ-loop
-clear-requires c κs = omega (arith, c .before .before .before .pre .words)
-
 loop-holds : tie.Need-loop-holds Inv-loop μ-loop
 loop-holds c =
-    let s = c .before .before .before .before .before .before in
-    let e = c .before .before .clear .ensures in (
+    let s = c .before .before in (
       omega arith,
-      lanes-start _ _ (s .args .processes) _ (omega (arith, s .pre .counted, s .pre .flows .laid .processes))
-          (cleared-length _ e (s .pre .words)) (cleared-at _ e (s .pre .words)),
+      lanes-start _ _ (s .args .processes) _ (omega (arith, s .pre .counted, s .pre .flows .laid .processes)) (s .pre .words)
+          (s .pre .zeros),
     )
 
 entry-number-requires : tie.Need-entry-number-requires Inv-loop μ-loop
-entry-number-requires c κs = let p = c .before .before .before .before .before .before .before .before .pre in
+entry-number-requires c κs = let p = c .before .before .before .before .pre in
     (p .flows, omega (arith, p .counted))
 
 cast-visit : tie.Need-cast-visit Inv-loop μ-loop
@@ -46,12 +42,12 @@ mul-visit : tie.Need-mul-visit Inv-loop μ-loop
 mul-visit c = search needs
 
 shared-slice-read-visit : tie.Need-shared-slice-read-visit Inv-loop μ-loop
-shared-slice-read-visit c = let p = c .before .before .before .before .before .before .before .before .before .before .before .pre in
+shared-slice-read-visit c = let p = c .before .before .before .before .before .before .before .pre in
     omega (arith, p .counted, p .flows .laid .processes, p .long)
 
 visit-requires : tie.Need-visit-requires Inv-loop μ-loop
 visit-requires c κs =
-    let s = c .before .before .before .before .before .before .before .before .before .before .before in
+    let s = c .before .before .before .before .before .before .before in
     let p = s .pre in
     let v = c .before .before .before .before .loop .inv .1 in
     let e = c .before .before .entry-number in
@@ -77,7 +73,7 @@ loop-less c = search needs
 
 loop-again : tie.Need-loop-again Inv-loop μ-loop
 loop-again c =
-    let s = c .before .before .before .before .before .before .before .before .before .before .before .before .before .before in
+    let s = c .before .before .before .before .before .before .before .before .before .before in
     let l = c .before .before .before .before .before .before .before .loop in
     let e = c .before .before .before .before .before .entry-number in
     let t = c .before .before .before .before .before .before .loop-test .taken in (
@@ -89,11 +85,11 @@ loop-again c =
     )
 
 same-length : tie.Need-same-length Inv-loop μ-loop
-same-length c = omega (arith, c .before .loop .inv .1 .words, c .before .before .before .before .before .before .before .before .pre .words)
+same-length c = omega (arith, c .before .loop .inv .1 .words, c .before .before .before .before .pre .words)
 
 returns : tie.Need-returns Inv-loop μ-loop
 returns c =
-    let s = c .before .before .before .before .before .before .before .before in
+    let s = c .before .before .before .before in
     let l = c .before .loop in
     let e : l .p ≡ s .args .processes = omega (arith, c .loop-test .left, l .inv .0) in
     let E = entryNumber (s .args .f .nest) (s .args .f .stream) in
@@ -112,7 +108,6 @@ fill-lanes-spec =
     (tie.spec
     Inv-loop
     μ-loop
-    clear-requires
     loop-holds
     entry-number-requires
     cast-visit

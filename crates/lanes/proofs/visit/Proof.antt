@@ -59,11 +59,11 @@ slice-write-lanes-3 c =
       s .pre .entry,
     )
 
-cast-lanes-2 : tie.Need-cast-lanes-2
-cast-lanes-2 c = search needs
-
 add-lanes-4 : tie.Need-add-lanes-4
 add-lanes-4 c = search needs
+
+cast-lanes-2 : tie.Need-cast-lanes-2
+cast-lanes-2 c = search needs
 
 add-lanes-5 : tie.Need-add-lanes-5
 add-lanes-5 c = search needs
@@ -116,8 +116,8 @@ visit-spec =
     add-lanes-3
     mul-lanes-3
     slice-write-lanes-3
-    cast-lanes-2
     add-lanes-4
+    cast-lanes-2
     add-lanes-5
     mul-lanes-4
     slice-write-lanes-4
