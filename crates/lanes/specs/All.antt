@@ -1,0 +1,107 @@
+-- The lanes of all streams: a block of words for each of them. Assumes nothing.
+use mathlib.Core.Path.{_≡_, sym, _∙_, ap, subst}
+use mathlib.Core.Logic.{_⊎_, inl, inr}
+use mathlib.Core.Bool.{Bool}
+use mathlib.Core.List.{List}
+use Prim.Native.Nat.{ℕ, suc, _+_, _*_, _≤_, _<_}
+use native.Mathlib.Nat.{eq-or-lt-of-le, le-of-suc-le-suc, mul-le-mul-left}
+use native.Mathlib.Omega.{arith}
+use lib.ListN.{length, getD, drop, replicate, length-replicate, length-drop}
+use lib.Seq.{getD-take, getD-drop, length-take-le}
+use borrow.Rule.Slice.PartMut.{putMid, midOf, same-len-mid}
+use Rattle.meaning.specs.declared.Nest.{Nest}
+use Rattle.meaning.specs.declared.Stream.{Stream}
+use Rattle.meaning.specs.Space.{processes}
+use Rattle.meaning.specs.Description.{noStream}
+use Rattle.lists.specs.Stores.{replicated}
+use Rattle.layout.specs.Parts.{put-before, put-in, put-after}
+use Rattle.lanes.specs.Lanes.{Lanes, One, One.nobody, One.somebody}
+use Rattle.lanes.specs.Held.{entryNumber, computes}
+
+-- the words of all of them
+abbrev pub laneWords : ℕ
+laneWords = 6 * 4096
+
+-- words that hold the lanes of a stream
+abbrev pub LanesIn : Nest → Stream → List ℕ → Type 0
+LanesIn n s = Lanes (entryNumber n s) (computes n) (length (processes n)) (length (processes n))
+
+-- the block of stream i
+abbrev pub blockOf : ℕ → List ℕ → List ℕ
+blockOf i w = midOf (4096 * i) 4096 w
+
+-- the lanes of the first m of some streams, and zeros past them
+pub record LanesOf (n : Nest) (ss : List Stream) (m : ℕ) (w : List ℕ) : Type 0 where
+  pub words : length w ≡ laneWords
+  pub lanes : (i : ℕ) → i < m → LanesIn n (getD ss i noStream) (blockOf i w)
+  pub rest : (k : ℕ) → 4096 * m ≤ k → getD w k 0 ≡ 0
+
+-- a word of a block
+pub block-at : (i : ℕ) (w : List ℕ) (k : ℕ) → k < 4096 → getD (blockOf i w) k 0 ≡ getD w (4096 * i + k) 0
+block-at i w k l = getD-take 4096 (drop (4096 * i) w) k 0 l ∙ getD-drop (4096 * i) w k 0
+
+pub block-length : (i : ℕ) (w : List ℕ) → 4096 * i + 4096 ≤ length w → length (blockOf i w) ≡ 4096
+block-length i w h = length-take-le 4096 (drop (4096 * i) w) (omega (arith, length-drop (4096 * i) w))
+
+-- words that are the same hold the same lanes
+same-lanes : {E : ℕ → ℕ} {C : ℕ → Bool} {n : ℕ} {l l′ : List ℕ} → n ≤ 1024 → length l′ ≡ 4096
+    → ((k : ℕ) → k < 4096 → getD l′ k 0 ≡ getD l k 0) → Lanes E C n n l → Lanes E C n n l′
+same-lanes {E} {C} {n} {l} {l′} few w same h =
+    record {
+      words = w;
+      entries = λ p b. same p (omega arith) ∙ h .entries p b;
+      running = λ p b t. same (1024 + p) (omega arith) ∙ h .running p b t;
+      held = λ e b. same (2048 + e) (omega arith) ∙ h .held e b;
+      one = λ e b. go e (h .one e b) (same (3072 + e) (omega arith));
+    }
+  where
+    go : (e : ℕ) {w w′ : ℕ} → One E C n e w → w′ ≡ w → One E C n e w′
+    go e (nobody z s) r = nobody (r ∙ z) s
+    go e (somebody p z b t q) r = somebody p (r ∙ z) b t q
+
+-- ---- stream by stream
+
+pub lanes-none : (n : Nest) (ss : List Stream) {w : List ℕ} → w ≡ replicate laneWords 0 → LanesOf n ss 0 w
+lanes-none n ss {w} e =
+    record {
+      words = ap length e ∙ length-replicate {A = ℕ} laneWords 0;
+      lanes = λ i l. absurd (omega arith);
+      rest = λ k l. ap (λ (w : List ℕ). getD w k 0) e ∙ replicated 0 laneWords k;
+    }
+
+module _ {n : Nest} {ss : List Stream} {i : ℕ} {w : List ℕ} (few : length (processes n) ≤ 1024) (lt : i < 6) (h : LanesOf n ss i w) where
+  room : 4096 * i + 4096 ≤ length w
+  room = omega (arith, h .words)
+
+  -- the block of the next stream comes as zeros
+  pub block-zeros : (k : ℕ) → k < 4096 → getD (blockOf i w) k 0 ≡ 0
+  block-zeros k l = block-at i w k l ∙ h .rest (4096 * i + k) (omega arith)
+
+  module _ (ys : List ℕ) (long : length ys ≡ 4096) (new : LanesIn n (getD ss i noStream) ys) where
+    abbrev w′ : List ℕ
+    w′ = putMid (4096 * i) 4096 w ys
+
+    words′ : length w′ ≡ laneWords
+    words′ = same-len-mid (4096 * i) 4096 w ys (long ∙ sym (block-length i w room)) ∙ h .words
+
+    block-long : (j : ℕ) → j < 6 → length (blockOf j w′) ≡ 4096
+    block-long j l = block-length j w′ (omega (arith, words′))
+
+    -- and holds its lanes, as the others do
+    pub lanes-next : LanesOf n ss (suc i) w′
+    lanes-next =
+        record {
+          words = words′;
+          lanes = λ j l. go j (eq-or-lt-of-le (le-of-suc-le-suc l));
+          rest = λ k l. put-after (4096 * i) 4096 w ys 0 (omega (arith, room)) k long (omega arith) ∙ h .rest k (omega arith);
+        }
+      where
+        go : (j : ℕ) → (j ≡ i) ⊎ (j < i) → LanesIn n (getD ss j noStream) (blockOf j w′)
+        go j (inl e) =
+            rw e (same-lanes few (block-long i lt)
+            (λ k l. block-at i w′ k l ∙ put-in (4096 * i) 4096 w ys 0 (omega (arith, room)) k (omega arith)) new)
+        go j (inr b) =
+            same-lanes few (block-long j (omega arith))
+            (λ k l. block-at j w′ k l
+            ∙ put-before (4096 * i) 4096 w ys 0 (omega (arith, room)) (4096 * j + k) (omega (arith, mul-le-mul-left 4096 b))
+            ∙ sym (block-at j w k l)) (h .lanes j b)
