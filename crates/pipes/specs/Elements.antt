@@ -213,6 +213,14 @@ module _ {f : Flow} {spans lanes : List ℕ} {p : ℕ} (h : Near f spans lanes p
         held-most (entryNumber (f .nest) (f .stream)) (computes (f .nest)) (length (processes (f .nest))) (getD lanes p 0),
       )
 
+  pub one-le : getD lanes (3072 + getD lanes p 0) 0 ≤ 1024
+  one-le = go (h .seen .of-lanes .one (getD lanes p 0) entry-lt)
+    where
+      go : {w : ℕ} → One (entryNumber (f .nest) (f .stream)) (computes (f .nest)) (length (processes (f .nest))) (getD lanes p 0) w
+          → w ≤ 1024
+      go (nobody z q) = omega arith
+      go (somebody q z b t r) = omega (arith, few)
+
   -- of a stationary stream
   pub still-of : f .moving ≡ false → T (stationary (f .nest) (f .stream))
   still-of e = subst T (sym (not-false (stationary (f .nest) (f .stream)) (sym (h .seen .flows .moving-is) ∙ e))) tt

@@ -7,6 +7,7 @@ use lib.ListN.{length}
 use denote.Ref.{now}
 use Rattle.meaning.specs.declared.Nest.{Nest}
 use Rattle.meaning.specs.Space.{processes}
+use Rattle.lists.specs.Stores.{replicated}
 use Rattle.layout.specs.Spans.{Spans}
 use Rattle.lanes.specs.Flow.{spanning, counted-is}
 use Rattle.pipes.specs.Passed.{passed, first-room, second-room}
@@ -32,6 +33,7 @@ fill-lanes-requires c κs =
       of-spans = subst (λ (n : Nest). Spans n (now (s .args .spans))) (sym (f .ensures .0)) (s .pre .1);
       long = s .pre .2;
       words = refl;
+      zeros = λ i l. replicated 0 4096 i;
     }
 
 slice-aggregate-fill-soaks : tie.Need-slice-aggregate-fill-soaks

@@ -2,8 +2,10 @@
 use borrow.Author.Needs.{needs}
 use mathlib.Core.Path.{ap}
 use Prim.Native.Nat.{ℕ, _+_}
+use native.Mathlib.Omega.{arith}
 use lib.ListN.{getD}
 use denote.Ref.{now}
+use Rattle.pipes.specs.Elements.{held-le}
 use Rattle.pipes.proofs.held_at.Statement.{statement}
 use Rattle.pipes.proofs.held_at.Tie as tie
 
@@ -22,6 +24,9 @@ shared-slice-read-result c = search needs
 returns : tie.Need-returns
 returns c = ap (λ (e : ℕ). getD (now (c .before .before .before .before .args .lanes)) (2048 + e) 0) (c .before .entry-at .ensures .0)
 
+cast-result : tie.Need-cast-result
+cast-result c = omega (arith, returns c, held-le (c .before .before .before .before .pre))
+
 pub held-at-spec : {M : Type 1} → statement M
 held-at-spec =
-    tie.close (tie.spec entry-at-requires add-result mul-result shared-slice-read-result returns)
+    tie.close (tie.spec entry-at-requires add-result mul-result shared-slice-read-result cast-result returns)

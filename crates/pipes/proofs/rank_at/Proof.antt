@@ -4,7 +4,7 @@ use borrow.Author.Needs.{needs}
 use mathlib.Core.Path.{sym}
 use mathlib.Core.Bool.{true, false}
 use native.Mathlib.Omega.{arith}
-use Rattle.pipes.specs.Elements.{still-of, running-lt, still-soak}
+use Rattle.pipes.specs.Elements.{held-le, still-of, running-lt, still-soak}
 use Rattle.pipes.proofs.rank_at.Statement.{statement}
 use Rattle.pipes.proofs.rank_at.Tie as tie
 
@@ -16,6 +16,9 @@ mul-running c = search needs
 
 shared-slice-read-running : tie.Need-shared-slice-read-running
 shared-slice-read-running c = search needs
+
+cast-running : tie.Need-cast-running
+cast-running c = let p = c .before .before .before .pre in omega (arith, running-lt (p .0) (p .1), held-le (p .0))
 
 held-at-requires : tie.Need-held-at-requires
 held-at-requires c κs = search needs
@@ -42,6 +45,7 @@ rank-at-spec =
     add-running
     mul-running
     shared-slice-read-running
+    cast-running
     held-at-requires
     sub-result
     sub-result-2
