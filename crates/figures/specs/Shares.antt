@@ -29,6 +29,7 @@ use Rattle.stream_lines.specs.StateWords.{end-words}
 use Rattle.elements.specs.Counts.{Few, total-most}
 use Rattle.elements.specs.Few.{accepted-few}
 use Rattle.lanes.specs.declared.Flow.{Flow}
+use Rattle.lanes.specs.All.{LanesOf}
 use Rattle.lanes.specs.Flow.{Laid, Seen}
 use Rattle.lanes.specs.Accepted.{streams-used, laid-stream}
 use Rattle.pipe_parts.specs.Starts.{entering}
@@ -110,6 +111,10 @@ pub record Described (d : Description) : Type 0 where
   pub in-use : length (streamsOf d) ≡ d .sizes .streams
   pub streams : (i : ℕ) → i < length (streamsOf d) → Sharing (d .nest) (getD (streamsOf d) i noStream)
 
+-- the lanes of its streams
+abbrev pub AllLanes : Description → List ℕ → Type 0
+AllLanes d = LanesOf (d .nest) (streamsOf d) (d .sizes .streams)
+
 pub described : (s : List ℕ) → refusalOf gaugeLimits s ≡ 0 → Described (descriptionOf s)
 described s e =
     let a = accepted-within gaugeLimits s e in
@@ -169,7 +174,7 @@ module _ (d : Description) where
       go (x ∷ l) = refl
 
   module _ (h : Described d) where
-    stream-is : (i : ℕ) {s : Stream} → i < d .sizes .streams → s ≡ getD (d .streams) i noStream → s ≡ getD (streamsOf d) i noStream
+    pub stream-is : (i : ℕ) {s : Stream} → i < d .sizes .streams → s ≡ getD (d .streams) i noStream → s ≡ getD (streamsOf d) i noStream
     stream-is i l e = e ∙ sym (getD-take (d .sizes .streams) (d .streams) i noStream l)
 
     pub stream-sharing : (i : ℕ) {s : Stream} → i < d .sizes .streams → s ≡ getD (d .streams) i noStream → Sharing (d .nest) s

@@ -1,4 +1,5 @@
-// The six figures of a description: processes, instances, elements, pipes, state words and total steps.
+// The six figures of a description: processes, instances, elements, pipes, state words and total steps; and the lanes of its streams, from
+// which they are made and which are handed on.
 //
 // specs/, by file:
 //
@@ -6,14 +7,15 @@
 //   Shares    sums over the streams, stream by stream, and the figures
 ghost use mathlib.Core.Path.{_≡_};
 ghost use mathlib.Core.Bool.{true};
-ghost use Prim.Native.Nat.{suc, _≤_};
-ghost use lib.ListN.{length};
+ghost use Prim.Native.Nat.{ℕ, suc, _≤_, _<_};
+ghost use lib.ListN.{length, getD, replicate};
 ghost use Rattle.meaning.specs.Pipes.{isEntry, entries};
 ghost use Rattle.meaning.specs.Accept.{figures};
 ghost use Rattle.layout.specs.Spans.{processOf, Spans, spanWords};
+ghost use Rattle.lanes.specs.All.{LanesIn, laneWords};
 ghost use Rattle.pipes.specs.Elements.{Near};
 ghost use Rattle.figures.specs.Sums.{stepsOn, Under, sumsOver, sumsAt};
-ghost use Rattle.figures.specs.Shares.{Summing, Sharing, Small, shareOf, join, Room, totalsOf, Described};
+ghost use Rattle.figures.specs.Shares.{Summing, Sharing, Small, shareOf, join, Room, totalsOf, Described, AllLanes};
 use lanes::Flow;
 use lanes::LANES;
 use meaning::Description;
@@ -85,17 +87,17 @@ fn sums_of(f: Flow, processes: u32, spans: &[u32], lanes: &[u16]) -> Sums
     sums
 }
 
-// A stream's part of the figures.
-fn share_of(n: Nest, s: Stream, spans: &[u32]) -> Share
-    requires { ⌜ (Sharing n s) × (Spans n (now spans)) × (spanWords ≤ length (now spans)) ⌝ }
-    ensures { λ r. ⌜ (r ≡ shareOf n s) × (Small r) ⌝ }
+// A stream's part of the figures, and its lanes, whose words come as zeros.
+fn share_of(n: Nest, s: Stream, spans: &[u32], lanes: &mut [u16]) -> Share
+    requires { ⌜ (Sharing n s) × (Spans n (now spans)) × (spanWords ≤ length (now spans)) × (length (now lanes) ≡ 4096)
+        × ((k : ℕ) → k < 4096 → getD (now lanes) k 0 ≡ 0) ⌝ }
+    ensures { λ r. ⌜ (r ≡ shareOf n s) × (Small r) × (LanesIn n s (now (lanes .exit))) ⌝ }
 {
     let f = lanes::flow_of(n, s);
     let space = f.space;
     let processes = numbering::size_of(space);
-    let mut lanes = [0u16; LANES];
-    lanes::fill_lanes(f, processes, spans, &mut lanes);
-    let sums = sums_of(f, processes, spans, &lanes);
+    lanes::fill_lanes(f, processes, spans, lanes);
+    let sums = sums_of(f, processes, spans, lanes);
     Share {
         hop: stream_lines::hop_of(n, s),
         pipes: sums.pipes,
@@ -118,9 +120,9 @@ fn joined(t: Totals, s: Share) -> Totals
     }
 }
 
-fn totals_of(d: Description, spans: &[u32]) -> Totals
-    requires { ⌜ (Described d) × (Spans (d .nest) (now spans)) × (spanWords ≤ length (now spans)) ⌝ }
-    ensures { λ r. ⌜ (r ≡ totalsOf d (d .sizes .streams)) × (Room r) ⌝ }
+fn totals_of(d: Description, spans: &[u32], lanes: &mut [u16]) -> Totals
+    requires { ⌜ (Described d) × (Spans (d .nest) (now spans)) × (spanWords ≤ length (now spans)) × (now lanes ≡ replicate laneWords 0) ⌝ }
+    ensures { λ r. ⌜ (r ≡ totalsOf d (d .sizes .streams)) × (Room r) × (AllLanes d (now (lanes .exit))) ⌝ }
 {
     let n = d.nest;
     let m = d.sizes.streams;
@@ -132,22 +134,25 @@ fn totals_of(d: Description, spans: &[u32]) -> Totals
     };
     let mut i: u32 = 0;
     while i < m {
-        totals = joined(totals, share_of(n, decode::stream(d, i as usize), spans));
+        let a = LANES * i as usize;
+        let e = a + LANES;
+        let s = decode::stream(d, i as usize);
+        totals = joined(totals, share_of(n, s, spans, &mut lanes[a..e]));
         i += 1;
     }
     totals
 }
 
-// The six figures.
-pub fn figures_of(d: Description, spans: &[u32]) -> Figures
-    requires { ⌜ (Described d) × (Spans (d .nest) (now spans)) × (spanWords ≤ length (now spans)) ⌝ }
-    ensures { λ r. ⌜ r ≡ figures d ⌝ }
+// The six figures, and the lanes of all streams, whose words come as zeros.
+pub fn figures_of(d: Description, spans: &[u32], lanes: &mut [u16]) -> Figures
+    requires { ⌜ (Described d) × (Spans (d .nest) (now spans)) × (spanWords ≤ length (now spans)) × (now lanes ≡ replicate laneWords 0) ⌝ }
+    ensures { λ r. ⌜ (r ≡ figures d) × (AllLanes d (now (lanes .exit))) ⌝ }
 {
     let n = d.nest;
     let place = n.place;
     let processes = numbering::size_of(numbering::extent_of(n, place));
     let instances = numbering::instance_count(n);
-    let t = totals_of(d, spans);
+    let t = totals_of(d, spans, lanes);
     Figures {
         processes: processes,
         instances: instances,

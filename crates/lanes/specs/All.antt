@@ -1,10 +1,10 @@
 -- The lanes of all streams: a block of words for each of them. Assumes nothing.
-use mathlib.Core.Path.{_≡_, sym, _∙_, ap, subst}
+use mathlib.Core.Path.{_≡_, sym, _∙_, ap, subst₂}
 use mathlib.Core.Logic.{_⊎_, inl, inr}
 use mathlib.Core.Bool.{Bool}
 use mathlib.Core.List.{List}
-use Prim.Native.Nat.{ℕ, suc, _+_, _*_, _≤_, _<_}
-use native.Mathlib.Nat.{eq-or-lt-of-le, le-of-suc-le-suc, mul-le-mul-left}
+use Prim.Native.Nat.{ℕ, _+_, _*_, _≤_, _<_}
+use native.Mathlib.Nat.{eq-or-lt-of-le, mul-le-mul-left}
 use native.Mathlib.Omega.{arith}
 use lib.ListN.{length, getD, drop, replicate, length-replicate, length-drop}
 use lib.Seq.{getD-take, getD-drop, length-take-le}
@@ -26,6 +26,9 @@ laneWords = 6 * 4096
 abbrev pub LanesIn : Nest → Stream → List ℕ → Type 0
 LanesIn n s = Lanes (entryNumber n s) (computes n) (length (processes n)) (length (processes n))
 
+pub lanes-of : {n n′ : Nest} {s s′ : Stream} {l : List ℕ} → n ≡ n′ → s ≡ s′ → LanesIn n s l → LanesIn n′ s′ l
+lanes-of {l} e f = subst₂ (λ (n : Nest) (s : Stream). LanesIn n s l) e f
+
 -- the block of stream i
 abbrev pub blockOf : ℕ → List ℕ → List ℕ
 blockOf i w = midOf (4096 * i) 4096 w
@@ -37,10 +40,10 @@ pub record LanesOf (n : Nest) (ss : List Stream) (m : ℕ) (w : List ℕ) : Type
   pub rest : (k : ℕ) → 4096 * m ≤ k → getD w k 0 ≡ 0
 
 -- a word of a block
-pub block-at : (i : ℕ) (w : List ℕ) (k : ℕ) → k < 4096 → getD (blockOf i w) k 0 ≡ getD w (4096 * i + k) 0
+block-at : (i : ℕ) (w : List ℕ) (k : ℕ) → k < 4096 → getD (blockOf i w) k 0 ≡ getD w (4096 * i + k) 0
 block-at i w k l = getD-take 4096 (drop (4096 * i) w) k 0 l ∙ getD-drop (4096 * i) w k 0
 
-pub block-length : (i : ℕ) (w : List ℕ) → 4096 * i + 4096 ≤ length w → length (blockOf i w) ≡ 4096
+block-length : (i : ℕ) (w : List ℕ) → 4096 * i + 4096 ≤ length w → length (blockOf i w) ≡ 4096
 block-length i w h = length-take-le 4096 (drop (4096 * i) w) (omega (arith, length-drop (4096 * i) w))
 
 -- words that are the same hold the same lanes
@@ -69,39 +72,45 @@ lanes-none n ss {w} e =
       rest = λ k l. ap (λ (w : List ℕ). getD w k 0) e ∙ replicated 0 laneWords k;
     }
 
-module _ {n : Nest} {ss : List Stream} {i : ℕ} {w : List ℕ} (few : length (processes n) ≤ 1024) (lt : i < 6) (h : LanesOf n ss i w) where
+-- the part of the list that stream i is lent, of k words from its first one on
+module _ {n : Nest} {ss : List Stream} {i : ℕ} {w : List ℕ} (lt : i < 6) (h : LanesOf n ss i w) {k : ℕ} (wide : k ≡ 4096) where
   room : 4096 * i + 4096 ≤ length w
   room = omega (arith, h .words)
 
-  -- the block of the next stream comes as zeros
-  pub block-zeros : (k : ℕ) → k < 4096 → getD (blockOf i w) k 0 ≡ 0
-  block-zeros k l = block-at i w k l ∙ h .rest (4096 * i + k) (omega arith)
+  pub part-length : length (midOf (4096 * i) k w) ≡ 4096
+  part-length = ap (λ (k : ℕ). length (midOf (4096 * i) k w)) wide ∙ block-length i w room
 
-  module _ (ys : List ℕ) (long : length ys ≡ 4096) (new : LanesIn n (getD ss i noStream) ys) where
+  -- it comes as zeros
+  pub part-zeros : (j : ℕ) → j < 4096 → getD (midOf (4096 * i) k w) j 0 ≡ 0
+  part-zeros j l =
+      ap (λ (k : ℕ). getD (midOf (4096 * i) k w) j 0) wide ∙ block-at i w j l ∙ h .rest (4096 * i + j) (omega arith)
+
+  -- once it holds the lanes of the stream, there are those of a further one
+  module _ (few : length (processes n) ≤ 1024) (ys : List ℕ) (new : LanesIn n (getD ss i noStream) ys) where
     abbrev w′ : List ℕ
-    w′ = putMid (4096 * i) 4096 w ys
+    w′ = putMid (4096 * i) k w ys
 
     words′ : length w′ ≡ laneWords
-    words′ = same-len-mid (4096 * i) 4096 w ys (long ∙ sym (block-length i w room)) ∙ h .words
+    words′ = same-len-mid (4096 * i) k w ys (new .words ∙ sym part-length) ∙ h .words
 
     block-long : (j : ℕ) → j < 6 → length (blockOf j w′) ≡ 4096
     block-long j l = block-length j w′ (omega (arith, words′))
 
-    -- and holds its lanes, as the others do
-    pub lanes-next : LanesOf n ss (suc i) w′
+    pub lanes-next : LanesOf n ss (i + 1) w′
     lanes-next =
         record {
           words = words′;
-          lanes = λ j l. go j (eq-or-lt-of-le (le-of-suc-le-suc l));
-          rest = λ k l. put-after (4096 * i) 4096 w ys 0 (omega (arith, room)) k long (omega arith) ∙ h .rest k (omega arith);
+          lanes = λ j l. go j (eq-or-lt-of-le (let b : j ≤ i = omega arith in b));
+          rest = λ j l. put-after (4096 * i) k w ys 0 (omega (arith, room)) j (new .words ∙ sym wide) (omega arith)
+              ∙ h .rest j (omega arith);
         }
       where
         go : (j : ℕ) → (j ≡ i) ⊎ (j < i) → LanesIn n (getD ss j noStream) (blockOf j w′)
         go j (inl e) =
             rw e (same-lanes few (block-long i lt)
-            (λ k l. block-at i w′ k l ∙ put-in (4096 * i) 4096 w ys 0 (omega (arith, room)) k (omega arith)) new)
+            (λ q l. block-at i w′ q l ∙ put-in (4096 * i) k w ys 0 (omega (arith, room)) q (omega (arith, new .words))) new)
         go j (inr b) =
             same-lanes few (block-long j (omega arith))
-            (λ k l. block-at j w′ k l
-            ∙ put-before (4096 * i) 4096 w ys 0 (omega (arith, room)) (4096 * j + k) (omega (arith, mul-le-mul-left 4096 b))
-            ∙ sym (block-at j w k l)) (h .lanes j b)
+            (λ q l. block-at j w′ q l
+            ∙ put-before (4096 * i) k w ys 0 (omega (arith, room)) (4096 * j + q) (omega (arith, mul-le-mul-left 4096 b))
+            ∙ sym (block-at j w q l)) (h .lanes j b)

@@ -1,48 +1,81 @@
--- `figures::totals_of` meets its contract: the totals are those of the first i streams. Assumes nothing.
-use mathlib.Core.Path.{_≡_, sym, _∙_, ap, ap₂, subst}
-use Prim.Native.Nat.{_-_, _≤_}
+-- `figures::totals_of` meets its contract: the totals are those of the first i streams, and their blocks hold their lanes. Assumes nothing.
+use mathlib.Core.Path.{_≡_, refl, sym, _∙_, ap, ap₂, subst}
+use mathlib.Core.List.{List}
+use Prim.Native.Nat.{ℕ, _+_, _*_, _-_, _≤_, _<_}
 use native.Mathlib.Omega.{arith}
+use lib.ListN.{length, length-replicate}
 use borrow.Author.Needs.{needs}
-use Rattle.figures.specs.Shares.{join, Room, totalsOf, totals-zero, totals-next, totals-room, stream-sharing}
+use Rattle.meaning.specs.Description.{streamsOf}
+use Rattle.lanes.specs.All.{LanesOf, laneWords, lanes-of, lanes-none, lanes-next, part-zeros, part-length}
+use Rattle.figures.specs.Shares.{join, Room, totalsOf, totals-zero, totals-next, totals-room, stream-is, stream-sharing}
 use Rattle.figures.proofs.totals_of.Statement.{statement}
 use Rattle.figures.proofs.totals_of.Tie as tie
 
 abbrev Inv-loop : tie.InvT-loop
-Inv-loop d spans n m totals₀ i₀ totals i = (i ≤ d .sizes .streams) × (totals ≡ totalsOf d i)
+Inv-loop d spans lanes₀ n m totals₀ i₀ lanes totals i =
+    (i ≤ d .sizes .streams) × (totals ≡ totalsOf d i) × (LanesOf (d .nest) (streamsOf d) i lanes)
 
 abbrev μ-loop : tie.MeasureT-loop
-μ-loop d spans n m totals₀ i₀ totals i = d .sizes .streams - i
+μ-loop d spans lanes₀ n m totals₀ i₀ lanes totals i = d .sizes .streams - i
 
 loop-holds : tie.Need-loop-holds Inv-loop μ-loop
-loop-holds c = (omega arith, totals-zero (c .before .before .args .d))
+loop-holds c =
+    let s = c .before .before .before in
+    (omega arith, totals-zero (s .args .d), lanes-none (s .args .d .nest) (streamsOf (s .args .d)) (s .pre .3))
+
+cast-a : tie.Need-cast-a Inv-loop μ-loop
+cast-a c = search needs
+
+mul-a : tie.Need-mul-a Inv-loop μ-loop
+mul-a c = search needs
+
+add-e : tie.Need-add-e Inv-loop μ-loop
+add-e c = search needs
 
 cast-stream : tie.Need-cast-stream Inv-loop μ-loop
 cast-stream c = search needs
 
 stream-requires : tie.Need-stream-requires Inv-loop μ-loop
-stream-requires c κs = omega (arith, c .loop-test .taken, c .before .before .before .before .pre .0 .few .ranged .sized .most-streams)
+stream-requires c κs = omega (arith, c .loop-test .taken, c .before .before .before .before .before .pre .0 .few .ranged .sized .most-streams)
+
+mul-share-of : tie.Need-mul-share-of Inv-loop μ-loop
+mul-share-of c = search needs
+
+sub-share-of : tie.Need-sub-share-of Inv-loop μ-loop
+sub-share-of c = search needs
+
+part-share-of-start : tie.Need-part-share-of-start Inv-loop μ-loop
+part-share-of-start c = search needs
+
+part-share-of-end : tie.Need-part-share-of-end Inv-loop μ-loop
+part-share-of-end c = search needs
 
 share-of-requires : tie.Need-share-of-requires Inv-loop μ-loop
 share-of-requires c κs =
-    let s = c .before .before .before .before .before in (
-      stream-sharing (s .args .d) (s .pre .0) (c .before .before .loop .i) (omega (arith, c .before .loop-test .taken))
-          (c .stream .ensures),
+    let s = c .before .before .before .before .before .before .before in
+    let l = c .before .before .before .loop in
+    let t = c .before .before .loop-test .taken in
+    let k = 4096 * l .i + 4096 - 4096 * l .i in
+    let six : l .i < 6 = omega (arith, t, s .pre .0 .few .ranged .sized .most-streams) in (
+      stream-sharing (s .args .d) (s .pre .0) (l .i) (omega (arith, t)) (c .before .stream .ensures),
       s .pre .1,
       s .pre .2,
+      part-length six (l .inv .2) {k = k} (omega arith),
+      part-zeros six (l .inv .2) {k = k} (omega arith),
     )
 
 joined-requires : tie.Need-joined-requires Inv-loop μ-loop
 joined-requires c κs =
-    let s = c .before .before .before .before .before .before in
-    let l = c .before .before .before .loop in
-    (subst Room (sym (l .inv .1)) (totals-room (s .args .d) (s .pre .0) (l .i) (l .inv .0)), c .share-of .ensures .1)
+    let s = c .before .before .before .before .before .before .before .before .before .before in
+    let l = c .before .before .before .before .before .before .loop in
+    (subst Room (sym (l .inv .1)) (totals-room (s .args .d) (s .pre .0) (l .i) (l .inv .0)), c .before .before .share-of .ensures .1)
 
 add-i : tie.Need-add-i Inv-loop μ-loop
 add-i c = record {
   fits = omega (
     arith,
-    c .before .before .before .loop-test .taken,
-    c .before .before .before .before .before .before .before .pre .0 .few .ranged .sized .most-streams,
+    c .before .before .before .before .before .before .loop-test .taken,
+    c .before .before .before .before .before .before .before .before .before .before .before .pre .0 .few .ranged .sized .most-streams,
   );
 }
 
@@ -51,21 +84,36 @@ loop-less c = search needs
 
 loop-again : tie.Need-loop-again Inv-loop μ-loop
 loop-again c =
-    let s = c .before .before .before .before .before .before .before in
-    let l = c .before .before .before .before .loop in
-    let t = c .before .before .before .loop-test .taken in (
+    let s = c .before .before .before .before .before .before .before .before .before .before .before in
+    let l = c .before .before .before .before .before .before .before .loop in
+    let t = c .before .before .before .before .before .before .loop-test .taken in
+    let r = c .before .before .before .share-of in
+    let d = s .args .d in
+    let e = c .before .before .before .before .before .stream .ensures in
+    let k = 4096 * l .i + 4096 - 4096 * l .i in
+    let six : l .i < 6 = omega (arith, t, s .pre .0 .few .ranged .sized .most-streams) in (
       omega (arith, t),
-      c .joined .ensures ∙ ap₂ join (l .inv .1) (c .before .share-of .ensures .0)
-          ∙ totals-next (s .args .d) (s .pre .0) (l .i) (omega (arith, t)) (c .before .before .stream .ensures),
+      c .joined .ensures ∙ ap₂ join (l .inv .1) (r .ensures .0) ∙ totals-next d (s .pre .0) (l .i) (omega (arith, t)) e,
+      lanes-next six (l .inv .2) {k = k} (omega arith) (s .pre .0 .processes) _
+          (lanes-of refl (stream-is d (s .pre .0) (l .i) (omega (arith, t)) e) (r .ensures .2)),
     )
+
+same-length : tie.Need-same-length Inv-loop μ-loop
+same-length c =
+    c .before .loop .inv .2 .words
+    ∙ sym (ap (λ (w : List ℕ). length w) (c .before .before .before .before .before .pre .3) ∙ length-replicate {A = ℕ} laneWords 0)
 
 returns : tie.Need-returns Inv-loop μ-loop
 returns c =
-    let s = c .before .before .before .before in
+    let s = c .before .before .before .before .before in
+    let d = s .args .d in
     let l = c .before .loop in
-    let z : l .i ≡ s .args .d .sizes .streams = omega (arith, c .loop-test .left, l .inv .0) in
-    let e = l .inv .1 ∙ ap (totalsOf (s .args .d)) z in
-    (e, subst Room (sym e) (totals-room (s .args .d) (s .pre .0) (s .args .d .sizes .streams) (omega arith)))
+    let z : l .i ≡ d .sizes .streams = omega (arith, c .loop-test .left, l .inv .0) in
+    let e = l .inv .1 ∙ ap (totalsOf d) z in (
+      e,
+      subst Room (sym e) (totals-room d (s .pre .0) (d .sizes .streams) (omega arith)),
+      subst (λ (i : ℕ). LanesOf (d .nest) (streamsOf d) i (l .lanes)) z (l .inv .2),
+    )
 
 pub totals-of-spec : {M : Type 1} → statement M
 totals-of-spec =
@@ -74,11 +122,19 @@ totals-of-spec =
     Inv-loop
     μ-loop
     loop-holds
+    cast-a
+    mul-a
+    add-e
     cast-stream
     stream-requires
+    mul-share-of
+    sub-share-of
+    part-share-of-start
+    part-share-of-end
     share-of-requires
     joined-requires
     add-i
     loop-less
     loop-again
+    same-length
     returns)
