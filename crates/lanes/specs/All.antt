@@ -1,5 +1,5 @@
 -- The lanes of all streams: a block of words for each of them. Assumes nothing.
-use mathlib.Core.Path.{_≡_, sym, _∙_, ap, subst₂}
+use mathlib.Core.Path.{_≡_, sym, _∙_, ap, subst, subst₂}
 use mathlib.Core.Logic.{_⊎_, inl, inr}
 use mathlib.Core.Bool.{Bool}
 use mathlib.Core.List.{List}
@@ -15,8 +15,11 @@ use Rattle.meaning.specs.Space.{processes}
 use Rattle.meaning.specs.Description.{noStream}
 use Rattle.lists.specs.Stores.{replicated}
 use Rattle.layout.specs.Parts.{put-before, put-in, put-after}
+use Rattle.layout.specs.Spans.{Spans}
+use Rattle.lanes.specs.declared.Flow.{Flow}
 use Rattle.lanes.specs.Lanes.{Lanes, One, One.nobody, One.somebody}
 use Rattle.lanes.specs.Held.{entryNumber, computes}
+use Rattle.lanes.specs.Flow.{Flows, Seen}
 
 -- the words of all of them
 abbrev pub laneWords : ℕ
@@ -28,6 +31,17 @@ LanesIn n s = Lanes (entryNumber n s) (computes n) (length (processes n)) (lengt
 
 pub lanes-of : {n n′ : Nest} {s s′ : Stream} {l : List ℕ} → n ≡ n′ → s ≡ s′ → LanesIn n s l → LanesIn n′ s′ l
 lanes-of {l} e f = subst₂ (λ (n : Nest) (s : Stream). LanesIn n s l) e f
+
+-- with them, what the later functions look at
+pub seen-of : {f : Flow} {n : Nest} {s : Stream} {spans l : List ℕ} → Flows f → f .nest ≡ n → f .stream ≡ s → Spans n spans
+    → 3072 ≤ length spans → LanesIn n s l → Seen f spans l
+seen-of {f} {n} {s} {spans} {l} flows en es of long has =
+    record {
+      flows = flows;
+      of-spans = subst (λ (n : Nest). Spans n spans) (sym en) of;
+      long = long;
+      of-lanes = lanes-of (sym en) (sym es) has;
+    }
 
 -- the block of stream i
 abbrev pub blockOf : ℕ → List ℕ → List ℕ

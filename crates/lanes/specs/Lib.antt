@@ -1,6 +1,6 @@
 -- Lanes by numbers; what they hold of a stream's pipes; those of all streams; what a stream's way needs.
 pub mod Lanes
 pub mod Held
-pub mod All
 pub mod Flow
+pub mod All
 pub mod Accepted

@@ -8,8 +8,8 @@
 //
 //   Lanes     the pass, by numbers alone
 //   Held      what the lanes hold of a stream's pipes: `held-is`, `soak-held`
-//   All       the lanes of all streams, block by block: `LanesOf`
 //   Flow      what is known of a stream once and for all its processes: `Flows`
+//   All       the lanes of all streams, block by block: `LanesOf`
 //   Accepted  `laid-stream`: every stream of an accepted description is laid out as the functions ask
 ghost use mathlib.Core.Path.{_≡_};
 ghost use Prim.Native.Nat.{_<_};

@@ -19,7 +19,8 @@ ghost use Rattle.addresses.specs.Indices.{strideOf};
 ghost use Rattle.layout.specs.Spans.{Spans, spanWords};
 ghost use Rattle.pipe_parts.specs.Starts.{enteringOne};
 ghost use Rattle.pipe_parts.specs.Heads.{headWords, Heads};
-ghost use Rattle.figures.specs.Shares.{Described, Sharing};
+ghost use Rattle.lanes.specs.All.{LanesIn};
+ghost use Rattle.figures.specs.Shares.{Described, Sharing, AllLanes};
 ghost use Rattle.port_rows.specs.Strands.{Narrow};
 ghost use Rattle.port_table.specs.PortsOf.{PortsOf, portTableWords};
 ghost use Rattle.port_fill.specs.Strung.{Slack, strandFrom, join, PortFillable, EndFillable, PortsFillable, EndsFillable};
@@ -193,36 +194,42 @@ fn fill_stream(
     first: u32,
     base: u32,
     spans: &[u32],
+    lanes: &[u16],
     ports: &mut [u32],
 ) -> u32
-    requires { ⌜ (StreamFillable n s g i first base (now spans)) × (length (now ports) ≡ portTableWords) ⌝ }
+    requires { ⌜ (StreamFillable n s g i first base (now spans)) × (LanesIn n s (now lanes)) × (length (now ports) ≡ portTableWords) ⌝ }
     ensures { λ r. ⌜ (r ≡ length (entries n s)) × (now (ports .exit) ≡ streamRows n s g i first base (now (ports .entry))) ⌝ }
 {
     let f = lanes::flow_of(n, s);
     let space = f.space;
     let processes = numbering::size_of(space);
-    let mut lanes = [0u16; LANES];
-    lanes::fill_lanes(f, processes, spans, &mut lanes);
     let mut heads = [0u32; HEADS];
     let pipes = put_ends(
         f,
         g,
         processes,
         spans,
-        &lanes,
+        lanes,
         first,
         base,
         &mut heads,
         ports,
     );
-    put_ports(f, g, processes, spans, &lanes, &heads, i, ports);
+    put_ports(f, g, processes, spans, lanes, &heads, i, ports);
     pipes
 }
 
 // ---- all streams
 
-fn fill_streams(d: Description, stride: u32, processes: u32, spans: &[u32], ports: &mut [u32])
-    requires { ⌜ (Started d stride processes (now spans)) × (length (now ports) ≡ portTableWords) ⌝ }
+fn fill_streams(
+    d: Description,
+    stride: u32,
+    processes: u32,
+    spans: &[u32],
+    lanes: &[u16],
+    ports: &mut [u32],
+)
+    requires { ⌜ (Started d stride processes (now spans)) × (AllLanes d (now lanes)) × (length (now ports) ≡ portTableWords) ⌝ }
     ensures { λ r. ⌜ PortsOf (arrayOf d) (now (ports .exit)) ⌝ }
 {
     let n = d.nest;
@@ -238,7 +245,19 @@ fn fill_streams(d: Description, stride: u32, processes: u32, spans: &[u32], port
         let g = strand_of(n, s, processes, stride, sums);
         let first = elements::elements_in(d, i);
         let base = sums.pipes;
-        let pipes = fill_stream(n, s, g, i as usize, first, base, spans, ports);
+        let a = LANES * i as usize;
+        let e = a + LANES;
+        let pipes = fill_stream(
+            n,
+            s,
+            g,
+            i as usize,
+            first,
+            base,
+            spans,
+            &lanes[a..e],
+            ports,
+        );
         let hop = g.hop;
         sums = joined(sums, hop, pipes);
         i += 1;
@@ -246,8 +265,8 @@ fn fill_streams(d: Description, stride: u32, processes: u32, spans: &[u32], port
 }
 
 // The port table of an accepted description.
-pub fn fill_ports(d: Description, spans: &[u32], ports: &mut [u32])
-    requires { ⌜ (Described d) × (Laid d) × (Spans (d .nest) (now spans)) × (spanWords ≤ length (now spans))
+pub fn fill_ports(d: Description, spans: &[u32], lanes: &[u16], ports: &mut [u32])
+    requires { ⌜ (Described d) × (Laid d) × (Spans (d .nest) (now spans)) × (spanWords ≤ length (now spans)) × (AllLanes d (now lanes))
         × (length (now ports) ≡ portTableWords) ⌝ }
     ensures { λ r. ⌜ PortsOf (arrayOf d) (now (ports .exit)) ⌝ }
 {
@@ -255,5 +274,5 @@ pub fn fill_ports(d: Description, spans: &[u32], ports: &mut [u32])
     let place = n.place;
     let processes = numbering::size_of(numbering::extent_of(n, place));
     let stride = stride_of(d);
-    fill_streams(d, stride, processes, spans, ports);
+    fill_streams(d, stride, processes, spans, lanes, ports);
 }
