@@ -128,3 +128,8 @@ module _ {n : Nest} {ss : List Stream} {i : ℕ} {w : List ℕ} (lt : i < 6) (h 
             (λ q l. block-at j w′ q l
             ∙ put-before (4096 * i) k w ys 0 (omega (arith, room)) (4096 * j + q) (omega (arith, mul-le-mul-left 4096 b))
             ∙ sym (block-at j w q l)) (h .lanes j b)
+
+-- the part of the list from which stream i is read
+pub part-lanes : {n : Nest} {ss : List Stream} {m : ℕ} {w : List ℕ} → LanesOf n ss m w → (i : ℕ) → i < m → {k : ℕ} → k ≡ 4096
+    → LanesIn n (getD ss i noStream) (midOf (4096 * i) k w)
+part-lanes {n} {ss} {w} h i l e = subst (λ (k : ℕ). LanesIn n (getD ss i noStream) (midOf (4096 * i) k w)) (sym e) (h .lanes i l)

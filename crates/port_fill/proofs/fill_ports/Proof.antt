@@ -13,12 +13,12 @@ size-of-requires : tie.Need-size-of-requires
 size-of-requires c κs = search needs
 
 stride-of-requires : tie.Need-stride-of-requires
-stride-of-requires c κs = c .before .before .before .before .before .before .pre .0
+stride-of-requires c κs = c .before .before .before .before .before .before .before .pre .0
 
 fill-streams-requires : tie.Need-fill-streams-requires
 fill-streams-requires c κs =
     let k = c .before in
-    let p = k .before .before .before .before .before .before .before .pre in (
+    let p = k .before .before .before .before .before .before .before .before .pre in (
       record {
         described = p .0;
         laid = p .1;
@@ -29,6 +29,7 @@ fill-streams-requires c κs =
         long = p .3;
       },
       p .4,
+      p .5,
     )
 
 same-length : tie.Need-same-length
