@@ -2,6 +2,7 @@
 ghost use mathlib.Core.Path.{_≡_};
 ghost use Rattle.meaning.specs.Limits.{limitsOf};
 ghost use Rattle.meaning.specs.Accept.{accept};
+use lanes::ALL;
 use layout::SPANS;
 use meaning::Acceptance;
 
@@ -14,7 +15,9 @@ pub fn accept(board: u32, s: &[u8]) -> Acceptance
     if refusal == 0 {
         let d = decode::description(s);
         let spans = &spans;
-        Acceptance::Accepted(figures::figures_of(d, spans), divisors::divisors_of(d))
+        let mut lanes = [0u16; ALL];
+        let figures = figures::figures_of(d, spans, &mut lanes);
+        Acceptance::Accepted(figures, divisors::divisors_of(d))
     } else {
         Acceptance::Refused(refusal)
     }

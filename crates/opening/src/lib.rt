@@ -1,5 +1,5 @@
 // What Step, Run, Ready and Result begin with: the refusals of the description, then 20, 26, 21 and 22 of the lent memory; and, if nothing
-// is refused, the words of the processes, the port table of the array and its size.
+// is refused, the words of the processes, the lanes of the streams, the port table of the array and its size.
 //
 // specs/, by file:
 //
@@ -9,14 +9,18 @@ ghost use mathlib.Core.Path.{_≡_};
 ghost use mathlib.Core.Bool.{not};
 ghost use mathlib.Core.List.{[], _∷_};
 ghost use Prim.Native.Nat.{_≤_};
-ghost use lib.ListN.{length};
+ghost use lib.ListN.{length, replicate};
 ghost use Rattle.meaning.specs.Tests.{_if_, refusal};
 ghost use Rattle.meaning.specs.Limits.{limitsOf, gaugeLimits, UpTo};
 ghost use Rattle.meaning.specs.Array.{arrayOf};
 ghost use Rattle.meaning.specs.Rules.{sound, memoryOf};
+ghost use Rattle.meaning.specs.Description.{descriptionOf};
 ghost use Rattle.layout.specs.Spans.{Spans, spanWords};
+ghost use Rattle.lanes.specs.All.{laneWords};
+ghost use Rattle.figures.specs.Shares.{AllLanes};
 ghost use Rattle.port_table.specs.PortsOf.{PortsOf, portTableWords};
 ghost use Rattle.opening.specs.Opening.{sizeFrom, Grounds, Standing, Opens, Answered};
+use lanes::ALL;
 use layout::SPANS;
 use meaning::Description;
 use meaning::Figures;
@@ -40,12 +44,20 @@ fn size_of(d: Description, f: Figures) -> Size
 }
 
 // 0, or 22 where the state is not sound by the port table of the array.
-fn sound_refusal(d: Description, z: Size, state: &[u32], spans: &[u32], ports: &mut [u32]) -> u32
-    requires { ⌜ (Standing d z (now state) (now ports)) × (Spans (d .nest) (now spans)) × (spanWords ≤ length (now spans)) ⌝ }
+fn sound_refusal(
+    d: Description,
+    z: Size,
+    state: &[u32],
+    spans: &[u32],
+    lanes: &[u16],
+    ports: &mut [u32],
+) -> u32
+    requires { ⌜ (Standing d z (now state) (now ports)) × (Spans (d .nest) (now spans)) × (spanWords ≤ length (now spans))
+        × (AllLanes d (now lanes)) ⌝ }
     ensures { λ r. ⌜ (r ≡ refusal ((22 if not (sound (arrayOf d) (now (state .entry)))) ∷ []))
         × (PortsOf (arrayOf d) (now (ports .exit))) ⌝ }
 {
-    port_fill::fill_ports(d, spans, ports);
+    port_fill::fill_ports(d, spans, lanes, ports);
     declines::of_state(sound::sound(ports, state, z))
 }
 
@@ -56,17 +68,20 @@ fn open_accepted(
     received: &[u32],
     state: &[u32],
     spans: &[u32],
+    lanes: &mut [u16],
     ports: &mut [u32],
 ) -> Opening
-    requires { ⌜ (Grounds d) × (Spans (d .nest) (now spans)) × (spanWords ≤ length (now spans)) × (length (now ports) ≡ portTableWords) ⌝ }
-    ensures { λ r. ⌜ Opens d (memoryOf (now (waiting .entry)) (now (received .entry)) (now (state .entry))) (now (ports .exit)) r ⌝ }
+    requires { ⌜ (Grounds d) × (Spans (d .nest) (now spans)) × (spanWords ≤ length (now spans)) × (now lanes ≡ replicate laneWords 0)
+        × (length (now ports) ≡ portTableWords) ⌝ }
+    ensures { λ r. ⌜ (Opens d (memoryOf (now (waiting .entry)) (now (received .entry)) (now (state .entry))) (now (ports .exit)) r)
+        × (AllLanes d (now (lanes .exit))) ⌝ }
 {
-    let f = figures::figures_of(d, spans);
+    let f = figures::figures_of(d, spans, lanes);
     let z = size_of(d, f);
     let r = declines::of_memory(f, waiting.len(), received.len(), state.len());
     if r == 0 {
         Opening {
-            refusal: sound_refusal(d, z, state, spans, ports),
+            refusal: sound_refusal(d, z, state, spans, lanes, ports),
             size: z,
         }
     } else {
@@ -85,11 +100,13 @@ fn open_within(
     received: &[u32],
     state: &[u32],
     spans: &mut [u32; SPANS],
+    lanes: &mut [u16],
     ports: &mut [u32],
 ) -> Opening
-    requires { ⌜ (UpTo limits gaugeLimits) × (length (now ports) ≡ portTableWords) ⌝ }
-    ensures { λ r. ⌜ Answered limits (now (s .entry))
-        (memoryOf (now (waiting .entry)) (now (received .entry)) (now (state .entry))) (now (ports .exit)) (now (spans .exit)) r ⌝ }
+    requires { ⌜ (UpTo limits gaugeLimits) × (now lanes ≡ replicate laneWords 0) × (length (now ports) ≡ portTableWords) ⌝ }
+    ensures { λ r. ⌜ (Answered limits (now (s .entry))
+        (memoryOf (now (waiting .entry)) (now (received .entry)) (now (state .entry))) (now (ports .exit)) (now (spans .exit)) r)
+        × (r .refusal ≡ 0 → AllLanes (descriptionOf (now (s .entry))) (now (lanes .exit))) ⌝ }
 {
     let r = refuse::refusal_within(s, limits, spans);
     if r == 0 {
@@ -99,6 +116,7 @@ fn open_within(
             received,
             state,
             spans,
+            lanes,
             ports,
         )
     } else {
@@ -113,7 +131,27 @@ fn open_within(
     }
 }
 
-// The same on a board.
+// The same on a board, for a call that goes on with the lanes; their words come as zeros.
+pub fn open_with_lanes(
+    board: u32,
+    s: &[u8],
+    waiting: &[u32],
+    received: &[u32],
+    state: &[u32],
+    spans: &mut [u32; SPANS],
+    lanes: &mut [u16],
+    ports: &mut [u32],
+) -> Opening
+    requires { ⌜ (now lanes ≡ replicate laneWords 0) × (length (now ports) ≡ portTableWords) ⌝ }
+    ensures { λ r. ⌜ (Answered (limitsOf board) (now (s .entry))
+        (memoryOf (now (waiting .entry)) (now (received .entry)) (now (state .entry))) (now (ports .exit)) (now (spans .exit)) r)
+        × (r .refusal ≡ 0 → AllLanes (descriptionOf (now (s .entry))) (now (lanes .exit))) ⌝ }
+{
+    let limits = boards::limits_of(board);
+    open_within(s, limits, waiting, received, state, spans, lanes, ports)
+}
+
+// For a call that needs the port table alone.
 pub fn open(
     board: u32,
     s: &[u8],
@@ -127,6 +165,15 @@ pub fn open(
     ensures { λ r. ⌜ Answered (limitsOf board) (now (s .entry))
         (memoryOf (now (waiting .entry)) (now (received .entry)) (now (state .entry))) (now (ports .exit)) (now (spans .exit)) r ⌝ }
 {
-    let limits = boards::limits_of(board);
-    open_within(s, limits, waiting, received, state, spans, ports)
+    let mut lanes = [0u16; ALL];
+    open_with_lanes(
+        board,
+        s,
+        waiting,
+        received,
+        state,
+        spans,
+        &mut lanes,
+        ports,
+    )
 }
