@@ -76,12 +76,16 @@ same-lanes {E} {C} {n} {l} {l′} few w same h =
     go e (nobody z s) r = nobody (r ∙ z) s
     go e (somebody p z b t q) r = somebody p (r ∙ z) b t q
 
+-- words that are all zero
+pub zero-words : {w : List ℕ} → w ≡ replicate laneWords 0 → length w ≡ laneWords
+zero-words e = ap length e ∙ length-replicate {A = ℕ} laneWords 0
+
 -- ---- stream by stream
 
 pub lanes-none : (n : Nest) (ss : List Stream) {w : List ℕ} → w ≡ replicate laneWords 0 → LanesOf n ss 0 w
 lanes-none n ss {w} e =
     record {
-      words = ap length e ∙ length-replicate {A = ℕ} laneWords 0;
+      words = zero-words e;
       lanes = λ i l. absurd (omega arith);
       rest = λ k l. ap (λ (w : List ℕ). getD w k 0) e ∙ replicated 0 laneWords k;
     }

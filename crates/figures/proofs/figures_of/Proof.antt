@@ -2,12 +2,10 @@
 -- their product within 32 bits. Assumes nothing.
 use borrow.Author.Needs.{needs}
 use mathlib.Core.Path.{refl, sym, _∙_, ap}
-use mathlib.Core.List.{List}
-use Prim.Native.Nat.{ℕ}
 use native.Mathlib.Omega.{arith}
-use lib.ListN.{length, length-replicate}
+use lib.ListN.{length}
 use Rattle.meaning.specs.Space.{Box, points}
-use Rattle.lanes.specs.All.{laneWords}
+use Rattle.lanes.specs.All.{zero-words}
 use Rattle.figures.specs.Shares.{figures-are}
 use Rattle.stream_lines.specs.StateWords.{process-words}
 use Rattle.figures.proofs.figures_of.Statement.{statement}
@@ -54,8 +52,7 @@ same-length : tie.Need-same-length
 same-length c =
     let t = c .before .before .before .before .before .before in
     t .totals-of .ensures .2 .words
-    ∙ sym (ap (λ (w : List ℕ). length w) (t .before .before .before .before .before .before .before .before .before .pre .3)
-    ∙ length-replicate {A = ℕ} laneWords 0)
+    ∙ sym (zero-words (t .before .before .before .before .before .before .before .before .before .pre .3))
 
 returns : tie.Need-returns
 returns c =

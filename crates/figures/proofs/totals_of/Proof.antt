@@ -1,12 +1,10 @@
 -- `figures::totals_of` meets its contract: the totals are those of the first i streams, and their blocks hold their lanes. Assumes nothing.
 use mathlib.Core.Path.{_≡_, refl, sym, _∙_, ap, ap₂, subst}
-use mathlib.Core.List.{List}
 use Prim.Native.Nat.{ℕ, _+_, _*_, _-_, _≤_, _<_}
 use native.Mathlib.Omega.{arith}
-use lib.ListN.{length, length-replicate}
 use borrow.Author.Needs.{needs}
 use Rattle.meaning.specs.Description.{streamsOf}
-use Rattle.lanes.specs.All.{LanesOf, laneWords, lanes-of, lanes-none, lanes-next, part-zeros, part-length}
+use Rattle.lanes.specs.All.{LanesOf, zero-words, lanes-of, lanes-none, lanes-next, part-zeros, part-length}
 use Rattle.figures.specs.Shares.{join, Room, totalsOf, totals-zero, totals-next, totals-room, stream-is, stream-sharing}
 use Rattle.figures.proofs.totals_of.Statement.{statement}
 use Rattle.figures.proofs.totals_of.Tie as tie
@@ -99,9 +97,7 @@ loop-again c =
     )
 
 same-length : tie.Need-same-length Inv-loop μ-loop
-same-length c =
-    c .before .loop .inv .2 .words
-    ∙ sym (ap (λ (w : List ℕ). length w) (c .before .before .before .before .before .pre .3) ∙ length-replicate {A = ℕ} laneWords 0)
+same-length c = c .before .loop .inv .2 .words ∙ sym (zero-words (c .before .before .before .before .before .pre .3))
 
 returns : tie.Need-returns Inv-loop μ-loop
 returns c =

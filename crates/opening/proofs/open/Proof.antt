@@ -1,21 +1,20 @@
--- `opening::open` meets its contract: no board's limits are above the gauge's. Assumes nothing.
+-- `opening::open` meets its contract: its lanes come as zeros. Assumes nothing.
 use borrow.Author.Needs.{needs}
-use Rattle.opening.specs.Opening.{by-limits}
+use mathlib.Core.Path.{refl}
 use Rattle.opening.proofs.open.Statement.{statement}
 use Rattle.opening.proofs.open.Tie as tie
 
-limits-of-requires : tie.Need-limits-of-requires
-limits-of-requires c κs = search needs
+slice-aggregate-open-with-lanes : tie.Need-slice-aggregate-open-with-lanes
+slice-aggregate-open-with-lanes c = search needs
 
-open-within-requires : tie.Need-open-within-requires
-open-within-requires c κs =
-    (c .before .before .limits-of .ensures .1, c .before .before .before .before .before .before .before .before .pre)
+open-with-lanes-requires : tie.Need-open-with-lanes-requires
+open-with-lanes-requires c κs = (refl, c .before .before .before .before .before .before .before .before .pre)
 
 same-length : tie.Need-same-length
 same-length c = search needs
 
 returns : tie.Need-returns
-returns c = let o = c .before .before in by-limits (o .before .before .before .limits-of .ensures .0) (o .open-within .ensures)
+returns c = c .before .before .before .open-with-lanes .ensures .0
 
 pub open-spec : {M : Type 1} → statement M
-open-spec = tie.close (tie.spec limits-of-requires open-within-requires same-length returns)
+open-spec = tie.close (tie.spec slice-aggregate-open-with-lanes open-with-lanes-requires same-length returns)
