@@ -1,7 +1,7 @@
 -- `accept::accept` meets its contract: what a board accepts the gauge accepts too, and so it is as small as the figures ask.
 -- Assumes nothing.
 use borrow.Author.Needs.{needs}
-use mathlib.Core.Path.{sym, _∙_, ap, subst}
+use mathlib.Core.Path.{refl, sym, _∙_, ap, subst}
 use native.Mathlib.Omega.{arith}
 use denote.Ref.{now}
 use Rattle.meaning.specs.Accept.{figures, divisors}
@@ -21,20 +21,24 @@ description-requires : tie.Need-description-requires
 description-requires c κs =
     accepted-within _ (now (c .before .before .before .before .args .s)) (sym (c .before .refusal-of .ensures .0) ∙ c .if1 .taken) .0 .sized
 
+slice-aggregate-figures-of : tie.Need-slice-aggregate-figures-of
+slice-aggregate-figures-of c = search needs
+
 figures-of-requires : tie.Need-figures-of-requires
 figures-of-requires c κs =
-    let b = c .before .before .before .before in
+    let b = c .before .before .before .before .before in
     let a = b .before .before .before .args in
-    let z = c .before .before .before .if1 .taken in
-    let e = c .before .before .description .ensures in (
+    let z = c .before .before .before .before .if1 .taken in
+    let e = c .before .before .before .description .ensures in (
       rw (← e) at (described (now (a .s)) (by-board (a .board) (now (a .s)) (sym (b .refusal-of .ensures .0) ∙ z))),
       rw (← e) at (b .refusal-of .ensures .1 z),
       omega arith,
+      refl,
     )
 
 divisors-of-requires : tie.Need-divisors-of-requires
 divisors-of-requires c κs =
-    let k = c .before .before .before in
+    let k = c .before .before .before .before .before in
     let b = k .before .before in
     let s = now (b .before .before .before .args .s) in
     let a = accepted-within _ s (sym (b .refusal-of .ensures .0) ∙ k .before .if1 .taken) in
@@ -42,10 +46,10 @@ divisors-of-requires c κs =
 
 returns : tie.Need-returns
 returns c =
-    let k = c .before .before .before .before in
+    let k = c .before .before .before .before .before .before in
     let b = k .before .before in
     accepts _ (now (b .before .before .before .args .s)) (sym (b .refusal-of .ensures .0) ∙ k .before .if1 .taken)
-    (c .before .figures-of .ensures ∙ ap figures (k .description .ensures))
+    (c .before .before .figures-of .ensures .0 ∙ ap figures (k .description .ensures))
     (c .divisors-of .ensures ∙ ap divisors (k .description .ensures))
 
 returns-2 : tie.Need-returns-2
@@ -54,4 +58,4 @@ returns-2 c = refuses _ (now (c .before .before .before .before .args .s)) (c .b
 pub accept-spec : {M : Type 1} → statement M
 accept-spec =
     tie.close
-    (tie.spec refusal-of-requires description-requires figures-of-requires divisors-of-requires returns returns-2)
+    (tie.spec refusal-of-requires description-requires slice-aggregate-figures-of figures-of-requires divisors-of-requires returns returns-2)

@@ -5,6 +5,7 @@ use mathlib.Core.Path.{refl, sym, _∙_, ap₂, subst}
 use denote.Ref.{now}
 use Rattle.meaning.specs.declared.Nest.{Nest}
 use Rattle.meaning.specs.declared.Stream.{Stream}
+use Rattle.lists.specs.Stores.{replicated}
 use Rattle.layout.specs.Spans.{Spans}
 use Rattle.lanes.specs.Flow.{spanning, counted-is}
 use Rattle.window.specs.Search.{searched as results, streamLengths}
@@ -30,6 +31,7 @@ fill-lanes-requires c κs =
       of-spans = subst (λ (n : Nest). Spans n (now (s .args .spans))) (sym (f .ensures .0)) (s .pre .1);
       long = s .pre .2;
       words = refl;
+      zeros = λ i l. replicated 0 4096 i;
     }
 
 slice-aggregate-searched : tie.Need-slice-aggregate-searched
