@@ -9,8 +9,7 @@
 //   its links          Ends: before it `put-first`, `put-given`; after it `taken-last`, `taken-next`, `link-last`, `link-next`
 //   a pipe's ends      Ends: `taken-entry`, `link-entry`, `put-end`, `link-end`
 //   places of words    Indices: `firings-index`, `taken-index`, `sent-index`; `process-count`, `stream-count`, `stride-is`, `word-count`
-//   places of elements Orders: `touched-waits`, `element-waits`, `element-place`; the list's length is `list-length` of geometry's
-//                      PipeOrder
+//   places of elements Orders: `found-at`, `element-place`; the list's length is `list-length` of geometry's PipeOrder
 pub fn one() -> usize {
     1
 }

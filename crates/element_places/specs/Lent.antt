@@ -1,85 +1,78 @@
--- What the functions are lent, and what they find of a process, its first element and its pipe. Assumes nothing.
+-- What the functions are lent, and what they find of a pipe. Assumes nothing.
 use mathlib.Core.Path.{_≡_, refl, sym, _∙_, ap, ap₂, subst, subst₂}
-use mathlib.Core.Bool.{Bool, false, not, cond}
+use mathlib.Core.Bool.{true, false, not}
 use mathlib.Core.List.{List}
-use Prim.Native.Nat.{ℕ, _+_, _≤_, _<_}
+use Prim.Native.Nat.{ℕ, _+_, _-_, _^_, _≤_, _<_}
 use native.Mathlib.Omega.{arith}
 use lib.Dec.{T}
 use lib.ListN.{length, getD}
-use borrow.Author.Tests.{not-false, eq-eqb}
-use lib.IntN.{ℤ, pos, _+ℤ_, _*ℤ_}
+use borrow.Author.Tests.{eq-eqb, eqb-true}
+use lib.IntN.{ℤ, pos, _+ℤ_, _-ℤ_, _*ℤ_}
+use lib.Signed.{mag}
+use mir.Syntax.{w32}
+use mir.Val.{toZ, ofZ}
 use Rattle.integers.specs.Differences.{up}
-use Rattle.integers.specs.Fill.{fillBy, fill-length, fill-at}
-use Rattle.integers.specs.Vectors.{image}
+use Rattle.integers.specs.Words.{Holds, bits, held}
+use Rattle.integers.specs.Vectors.{zero2, neg2, image}
+use Rattle.integers.specs.declared.V3.{V3}
 use Rattle.integers.specs.declared.V2.{V2}
 use Rattle.meaning.specs.declared.Nest.{Nest}
 use Rattle.meaning.specs.declared.Stream.{Stream}
 use Rattle.meaning.specs.declared.Description.{Description}
 use Rattle.meaning.specs.Loops.{size}
-use Rattle.meaning.specs.Space.{Box, rowIndex, boxOf, processes, count, first}
-use Rattle.meaning.specs.Streams.{stationary, elements}
-use Rattle.meaning.specs.Pipes.{soak}
+use Rattle.meaning.specs.Space.{Box, rowIndex, boxOf, processes, first}
+use Rattle.meaning.specs.Streams.{stationary, elements, pass}
+use Rattle.meaning.specs.Pipes.{reach, before, pipeElements}
 use Rattle.meaning.specs.Description.{streamsOf, noStream}
 use Rattle.meaning.specs.Body.{streamStart}
 use Rattle.meaning.specs.Points.{Inside}
-use Rattle.geometry.specs.Places.{ahead-lt}
 use Rattle.geometry.specs.Boxes.{box-has}
 use Rattle.geometry.specs.RowOrder.{row-lt}
-use Rattle.geometry.specs.Processes.{runAt, computes as run-first}
-use Rattle.geometry.specs.Pipes.{touched-in}
-use Rattle.geometry.specs.Soaks.{soak-first}
+use Rattle.geometry.specs.Processes.{RunAt, computes as run-first}
+use Rattle.geometry.specs.Pipes.{Accepted}
+use Rattle.geometry.specs.Elements.{entry-before}
+use Rattle.geometry.specs.Moving.{index-is}
 use Rattle.numbering.specs.Extents.{Spanning, boxed, box-spanning}
 use Rattle.counting.specs.Forms.{weigh}
 use Rattle.layout.specs.Spans.{processOf, Spans}
 use Rattle.lanes.specs.declared.Flow.{Flow}
-use Rattle.lanes.specs.Held.{entryNumber, computes}
 use Rattle.lanes.specs.Flow.{Laid, Flows, Seen}
-use Rattle.pipes.specs.Elements.{At, Near, computes-is, good, entry-lt, held-le, total-still, at-here}
+use Rattle.pipes.specs.Elements.{At, Near, good, inside, total-none, at-one, one-elements, index-moving}
 use Rattle.figures.specs.Shares.{Described}
-use Rattle.pipe_parts.specs.Starts.{startAt, start-most}
+use Rattle.pipe_parts.specs.Starts.{entering, entering-entry, entering-pipe, enteringLength, length-yes, length-no}
+use Rattle.pipe_parts.specs.Heads.{pipe-some}
 use Rattle.element_places.specs.declared.Run.{Run}
 use Rattle.element_places.specs.Spread.{spread, spread-zero, spread-like}
-use Rattle.element_places.specs.Order.{elementNumber, placeFor, usedBy, used-still, used-moving, said, stream-of, stream-fits}
-use Rattle.element_places.specs.Runs.{numberAfter, Fits, strideOf, RunOf, run-numbers, run-places, run-fits}
+use Rattle.element_places.specs.Order.{saidOn, Put, said, stream-of, stream-fits}
+use Rattle.element_places.specs.Runs.{numberAfter, Fits, strideOf, RunOf, run-numbers, back-far, run-fits}
 
--- a computing process and its first element
-pub record Soaking (f : Flow) (spans lanes : List ℕ) (p : ℕ) (e : V2) : Type 0 where
+-- a process, where the part begins of a pipe that enters there, and room for the places
+pub record Placing (f : Flow) (from start : ℕ) (spans lanes : List ℕ) (p : ℕ) (places : List ℕ) : Type 0 where
   pub near : Near f spans lanes p
-  pub computing : T (computes (f .nest) p)
-  pub first : e ≡ image (f .stream .map) (first (f .nest) (processOf (f .nest) p))
-
--- the starts of the parts, at the entries
-pub record Placing (f : Flow) (start : ℕ) (spans lanes starts : List ℕ) : Type 0 where
-  pub seen : Seen f spans lanes
-  pub fits : start + length (elements (f .nest) (f .stream)) ≤ 24576
-  pub long : 1024 ≤ length starts
-  pub part : (e : ℕ) → e < length (processes (f .nest)) → getD starts e 0 ≡ startAt (f .nest) (f .stream) start e
-  pub low : (e : ℕ) → e < length (processes (f .nest)) → getD starts e 0 ≤ 28672
-
--- and a computing process
-pub record Using (f : Flow) (start : ℕ) (spans lanes starts : List ℕ) (p : ℕ) : Type 0 where
-  pub placing : Placing f start spans lanes starts
-  pub lt : p < length (processes (f .nest))
-  pub computing : T (computes (f .nest) p)
-
--- any process, and room for the places
-pub record Storing (f : Flow) (start : ℕ) (spans lanes starts : List ℕ) (p : ℕ) (places : List ℕ) : Type 0 where
-  pub placing : Placing f start spans lanes starts
-  pub lt : p < length (processes (f .nest))
+  pub fits : from + length (elements (f .nest) (f .stream)) ≤ 24576
+  pub low : start ≤ 28672
   pub words : length places ≡ 24576
+
+-- a computing process of a moving stream
+pub record Running (f : Flow) (from : ℕ) (spans : List ℕ) (q : ℕ) : Type 0 where
+  pub at : At f spans q
+  pub moves : T (f .moving)
+  pub fits : from + length (elements (f .nest) (f .stream)) ≤ 24576
 
 -- all processes
-pub record Saying (f : Flow) (many start : ℕ) (spans lanes starts places : List ℕ) : Type 0 where
-  pub placing : Placing f start spans lanes starts
+pub record Saying (f : Flow) (many from : ℕ) (spans lanes places : List ℕ) : Type 0 where
+  pub seen : Seen f spans lanes
   pub counted : many ≡ length (processes (f .nest))
+  pub small : length (elements (f .nest) (f .stream)) ≤ 4096
+  pub fits : from + length (elements (f .nest) (f .stream)) ≤ 24576
   pub words : length places ≡ 24576
 
-pub record Streaming (n : Nest) (s : Stream) (start : ℕ) (spans places : List ℕ) : Type 0 where
+pub record Streaming (n : Nest) (s : Stream) (from : ℕ) (spans places : List ℕ) : Type 0 where
   pub laid : Laid n s
   pub of-spans : Spans n spans
   pub long : 3072 ≤ length spans
   pub small : length (elements n s) ≤ 4096
-  pub fits : start + length (elements n s) ≤ 24576
+  pub fits : from + length (elements n s) ≤ 24576
   pub words : length places ≡ 24576
 
 -- ---- the box of a stream's elements
@@ -94,47 +87,35 @@ module _ {f : Flow} (h : Flows f) where
       ap (λ (c : ℤ). c *ℤ f .pass .a +ℤ f .pass .b) e
       ∙ ap₂ (λ (k : Box) (v : V2). weigh k (v .a) (v .b)) (h .elements-is) (h .pass-is)
 
--- ---- a computing process
+-- ---- the first element of a computing process
 
-at-near : {f : Flow} {spans lanes : List ℕ} {p : ℕ} → Near f spans lanes p → T (computes (f .nest) p) → At f spans p
-at-near h c =
-    record {
-      flows = h .seen .flows;
-      words = h .seen .of-spans;
-      long = h .seen .long;
-      lt = h .lt;
-      computing = c;
-    }
+module _ {f : Flow} {spans : List ℕ} {q : ℕ} (a : At f spans q) {e : V2}
+    (is : e ≡ image (f .stream .map) (first (f .nest) (processOf (f .nest) q))) where
+  inside-box : Inside (boxOf (f .nest) (f .stream .map)) e
+  inside-box =
+      subst (Inside (boxOf (f .nest) (f .stream .map))) (sym is)
+      (box-has (a .flows .laid .accepted .layout .dirs) (f .stream .map)
+      (run-first (a .flows .laid .accepted .layout) (processOf (f .nest) q) (a .computing) .within))
 
-module _ {f : Flow} {spans lanes : List ℕ} {p : ℕ} {e : V2} (h : Soaking f spans lanes p e) where
-  pub soaking-at : At f spans p
-  soaking-at = at-near (h .near) (h .computing)
+  pub inside-elements : Inside (boxed (f .elements)) e
+  inside-elements = subst (λ (k : Box). Inside k e) (sym (a .flows .elements-is)) inside-box
 
-  -- of a stationary stream its soak is below the number of the pipe's elements
-  pub soak-still : f .moving ≡ false → soak (f .nest) (f .stream) (processOf (f .nest) p) ≤ 1536
-  soak-still still =
-      let run = run-first (good (h .near) .layout) (processOf (f .nest) p) (h .computing) in
-      omega (
-        arith,
-        soak-first (good (h .near)) run,
-        ahead-lt (image (f .stream .map) (first (f .nest) (processOf (f .nest) p))) (touched-in (good (h .near)) run),
-        total-still (h .near) still,
-        held-le (h .near),
-      )
+  pub number-is : {i : ℕ} → i ≡ rowIndex (boxed (f .elements)) e
+      → i ≡ rowIndex (boxOf (f .nest) (f .stream .map)) (image (f .stream .map) (first (f .nest) (processOf (f .nest) q)))
+  number-is k = k ∙ ap₂ rowIndex (a .flows .elements-is) is
 
--- how many elements it uses
-module _ {f : Flow} {spans : List ℕ} {p : ℕ} (a : At f spans p) where
-  pub all-used : T (f .moving) → getD spans p 0 ≡ usedBy (f .nest) (f .stream) (processOf (f .nest) p)
-  all-used t =
-      a .words .counts p (a .lt)
-      ∙ sym (used-moving (f .nest) (f .stream) (processOf (f .nest) p) (a .computing) (subst T (a .flows .moving-is) t))
+  pub number-fits : (from : ℕ) → from + length (elements (f .nest) (f .stream)) ≤ 24576 → {i : ℕ} → i ≡ rowIndex (boxed (f .elements)) e
+      → from + i < 24576
+  number-fits from fits k = omega (
+    arith,
+    k ∙ ap (λ (b : Box). rowIndex b e) (a .flows .elements-is),
+    row-lt (boxOf (f .nest) (f .stream .map)) e inside-box,
+    fits,
+  )
 
-  pub one-used : f .moving ≡ false → 1 ≡ usedBy (f .nest) (f .stream) (processOf (f .nest) p)
-  one-used e =
-      sym (used-still (f .nest) (f .stream) (processOf (f .nest) p) (a .computing)
-      (subst T (sym (not-false (stationary (f .nest) (f .stream)) (sym (a .flows .moving-is) ∙ e))) tt))
+-- ---- the pipe through a computing process of a moving stream
 
-module _ {f : Flow} {start : ℕ} {spans lanes starts : List ℕ} {p : ℕ} (h : Using f start spans lanes starts p) where
+module _ {f : Flow} {from : ℕ} {spans : List ℕ} {q : ℕ} (h : Running f from spans q) where
   abbrev n : Nest
   n = f .nest
 
@@ -142,130 +123,146 @@ module _ {f : Flow} {start : ℕ} {spans lanes starts : List ℕ} {p : ℕ} (h :
   s = f .stream
 
   abbrev y : V2
-  y = processOf n p
+  y = processOf n q
 
-  flows : Flows f
-  flows = h .placing .seen .flows
+  abbrev x : V3
+  x = first n y
 
-  pub near-using : Near f spans lanes p
-  near-using = record { seen = h .placing .seen; lt = h .lt }
+  abbrev back : ℕ
+  back = reach (boxOf n (s .map)) (neg2 (pass n s)) (image (s .map) x)
 
-  pub at-using : At f spans p
-  at-using = at-near near-using (h .computing)
+  accepted : Accepted n s
+  accepted = h .at .flows .laid .accepted
 
-  -- its first element
-  module _ {e : V2} (is : e ≡ image (s .map) (first n y)) where
-    inside : Inside (boxOf n (s .map)) e
-    inside =
-        subst (Inside (boxOf n (s .map))) (sym is)
-        (box-has (good near-using .layout .dirs) (s .map) (run-first (good near-using .layout) y (h .computing) .within))
+  moving : T (not (stationary n s))
+  moving = subst T (h .at .flows .moving-is) (h .moves)
 
-    pub inside-elements : Inside (boxed (f .elements)) e
-    inside-elements = subst (λ (k : Box). Inside k e) (sym (flows .elements-is)) inside
+  run : RunAt n y x
+  run = run-first (accepted .layout) y (h .at .computing)
 
-    pub soaking : Soaking f spans lanes p e
-    soaking = record { near = near-using; computing = h .computing; first = is }
+  module _ {e : V2} (is : e ≡ image (s .map) x) {b : ℕ} (eb : b ≡ reach (boxed (f .elements)) (f .against) e) where
+    back-is : b ≡ back
+    back-is = index-moving (h .at) (h .moves) run is eb ∙ index-is accepted moving run
 
-    pub number-is : {i : ℕ} → i ≡ rowIndex (boxed (f .elements)) e → i ≡ rowIndex (boxOf n (s .map)) (image (s .map) (first n y))
-    number-is q = q ∙ ap₂ rowIndex (flows .elements-is) is
+    -- so far back lies the number of the first, as the code counts it
+    pub back-holds : b ≤ 1536 → {t : ℤ} → t ≡ strideOf n s → mag t < 2 ^ 31
+        → Holds (toZ w32 b *ℤ toZ w32 (ofZ w32 t)) (pos back *ℤ strideOf n s) 24576
+    back-holds few et l =
+        record {
+          eq = ap₂ _*ℤ_ (bits {n = 1536} tt few .eq ∙ ap pos back-is) (held l et);
+          le = back-far accepted moving run from (h .fits);
+        }
 
-    pub number-fits : {i : ℕ} → i ≡ rowIndex (boxed (f .elements)) e → start + i < 24576
-    number-fits q = omega (
-      arith,
-      q ∙ ap (λ (k : Box). rowIndex k e) (flows .elements-is),
-      row-lt (boxOf n (s .map)) e inside,
-      h .placing .fits,
-    )
+    pub run-is : {start i : ℕ} {r : Run} → i ≡ rowIndex (boxed (f .elements)) e
+        → r .number ≡ pos (from + i) -ℤ pos back *ℤ strideOf n s → r .stride ≡ strideOf n s → r .place ≡ start
+        → r .count ≡ length (pipeElements n s y) → r .count ≤ 4096 → RunOf n s from start y r
+    run-is {r = r} ei number stride placed counted few =
+        record {
+          counted = counted;
+          few = few;
+          placed = placed;
+          numbers = λ k l.
+              ap₂ (λ (a b : ℤ). a +ℤ pos k *ℤ b)
+              (number ∙ ap (λ (i : ℕ). pos (from + i) -ℤ pos back *ℤ strideOf n s) (number-is (h .at) is ei)) stride
+              ∙ run-numbers accepted moving run from k l;
+        }
 
-  -- where its pipe's part begins, by the entry of its line
-  module _ {e : ℕ} (is : e ≡ getD lanes p 0) where
-    pub part-low : getD starts e 0 ≤ 28672
-    part-low = h .placing .low e (subst (λ (i : ℕ). i < length (processes n)) (sym is) (entry-lt near-using))
+-- ---- the pipe that enters at a process
 
-    pub part-here : getD starts e 0 ≡ startAt n s start (entryNumber n s p)
-    part-here =
-        h .placing .part e (subst (λ (i : ℕ). i < length (processes n)) (sym is) (entry-lt near-using))
-        ∙ ap (startAt n s start) (is ∙ h .placing .seen .of-lanes .entries p (h .lt))
+module _ {f : Flow} {from start : ℕ} {spans lanes : List ℕ} {p : ℕ} {places : List ℕ} (h : Placing f from start spans lanes p places) where
+  abbrev here : V2
+  here = processOf (f .nest) p
 
-  pub run-is : {r : Run} → r .number ≡ pos (start + rowIndex (boxOf n (s .map)) (image (s .map) (first n y))) → r .stride ≡ strideOf n s
-      → r .place ≡ startAt n s start (entryNumber n s p) + soak n s y → r .place ≤ 30208 → r .count ≡ usedBy n s y → RunOf n s start y r
-  run-is {r} number stride place low counted =
-      record {
-        counted = counted;
-        low = low;
-        numbers = λ k l. ap₂ (λ (a b : ℤ). a +ℤ pos k *ℤ b) number stride ∙ run-numbers (good near-using) y l start;
-        places = λ k l. ap (λ (a : ℕ). a + k) place ∙ run-places (good near-using) y l start p (h .lt) refl;
-      }
+  -- one does
+  module _ (enters : entering (f .nest) (f .stream) here ≡ true) where
+    pub none-before : before (f .nest) (f .stream) here ≡ 0
+    none-before =
+        eqb-true (before (f .nest) (f .stream) here) 0
+        (sym (entry-before (good (h .near)) (inside (h .near))) ∙ entering-entry (f .nest) (f .stream) here enters)
 
--- ---- what a process says
+    -- somebody computes on it
+    pub somebody : {q : ℕ} → q ≡ getD lanes (3072 + getD lanes p 0) 0 → q ≡ 0 → ⊥
+    somebody e z =
+        let none = eq-eqb (length (pipeElements (f .nest) (f .stream) here)) 0 (sym (total-none (h .near) (sym e ∙ z))) in
+        subst T (sym (entering-pipe (f .nest) (f .stream) here enters) ∙ pipe-some (good (h .near)) (inside (h .near)) ∙ ap not none) tt
 
-module _ {f : Flow} {start : ℕ} {spans lanes starts : List ℕ} {p : ℕ} {places : List ℕ}
-    (h : Storing f start spans lanes starts p places) where
-  -- the elements that it uses, at their places
-  abbrev saidBy : ℕ → List ℕ
-  saidBy c =
-      spread (λ k. elementNumber (f .nest) (f .stream) start (runAt (f .nest) (processOf (f .nest) p) k))
-      (λ k. placeFor (f .nest) (f .stream) start (runAt (f .nest) (processOf (f .nest) p) k)) c places
+    module _ {q : ℕ} (e : q ≡ getD lanes (3072 + getD lanes p 0) 0) where
+      pub running : T (f .moving) → Running f from spans (q - 1)
+      running m = record { at = at-one (h .near) (sym e) (somebody e); moves = m; fits = h .fits }
 
-  near-storing : Near f spans lanes p
-  near-storing = record { seen = h .placing .seen; lt = h .lt }
+      -- the run of its elements
+      pub run-here : {r : Run} → RunOf (f .nest) (f .stream) from start (processOf (f .nest) (q - 1)) r
+          → RunOf (f .nest) (f .stream) from start here r
+      run-here {r} of =
+          let same = one-elements (h .near) (sym e) (somebody e) in
+          record {
+            counted = of .counted ∙ ap length same;
+            few = of .few;
+            placed = of .placed;
+            numbers = λ k l.
+                of .numbers k (subst (λ (m : List V2). k < length m) (sym same) l)
+                ∙ ap (λ (m : List V2). pos (from + rowIndex (boxOf (f .nest) (f .stream .map)) (getD m k zero2))) same;
+          }
 
-  pub storing-using : (getD spans p 0 ≡ 0 → ⊥) → Using f start spans lanes starts p
-  storing-using g = record { placing = h .placing; lt = h .lt; computing = at-here near-storing g .computing }
+  pub fitting : {r : Run} → RunOf (f .nest) (f .stream) from start here r → Fits r (length places)
+  fitting = run-fits (good (h .near)) (inside (h .near)) (h .fits) (h .low) (h .words)
 
-  pub storing-fits : {r : Run} → RunOf (f .nest) (f .stream) start (processOf (f .nest) p) r → Fits r (length places)
-  storing-fits = run-fits (good near-storing) (h .placing .seen .flows .laid .instances) (h .placing .fits) (h .words)
-
-  pub said-run : {r : Run} → RunOf (f .nest) (f .stream) start (processOf (f .nest) p) r → {out : List ℕ}
+  pub run-said : {r : Run} → RunOf (f .nest) (f .stream) from start here r → {out : List ℕ}
       → out ≡ spread (λ k. up (numberAfter r k)) (λ k. r .place + k) (r .count) places
-      → out ≡ saidBy (usedBy (f .nest) (f .stream) (processOf (f .nest) p))
-  said-run {r} of e =
-      e ∙ ap (λ (c : ℕ). spread (λ k. up (numberAfter r k)) (λ k. r .place + k) c places) (of .counted)
-      ∙ spread-like _ _ _ _ (usedBy (f .nest) (f .stream) (processOf (f .nest) p)) places (λ k l. ap up (of .numbers k l)) (of .places)
-
-  -- a null process nothing
-  pub said-null : getD spans p 0 ≡ 0
-      → places ≡ saidBy (usedBy (f .nest) (f .stream) (processOf (f .nest) p))
-  said-null e =
-      let z : usedBy (f .nest) (f .stream) (processOf (f .nest) p) ≡ 0 =
-      ap (λ (b : Bool). cond b (cond (stationary (f .nest) (f .stream)) 1 (count (f .nest) (processOf (f .nest) p))) 0)
-      (computes-is near-storing ∙ ap not (eq-eqb (getD spans p 0) 0 e)) in
-      sym (ap saidBy z ∙ spread-zero _ _ places)
-
--- ---- all processes of a stream
-
-module _ {f : Flow} (flows : Flows f) {n : Nest} {s : Stream} (en : f .nest ≡ n) (es : f .stream ≡ s) {start : ℕ} {spans places : List ℕ}
-    (h : Streaming n s start spans places) where
-  pub streaming : Streaming (f .nest) (f .stream) start spans places
-  streaming = subst₂ (λ (n : Nest) (s : Stream). Streaming n s start spans places) (sym en) (sym es) h
-
-  pub placing : {lanes : List ℕ} → Seen f spans lanes → {many : ℕ} → many ≡ length (processes (f .nest)) → (xs : List ℕ) {starts : List ℕ}
-      → length xs ≡ 1024 → starts ≡ fillBy (startAt (f .nest) (f .stream) start) many xs → Placing f start spans lanes starts
-  placing seen {many} c xs {starts} w o =
+      → Put (f .nest) (f .stream) from start here places (r .count) out
+  run-said {r} of e =
       record {
-        seen = seen;
-        fits = streaming .fits;
-        long = omega (arith, ap length o, fill-length (startAt (f .nest) (f .stream) start) many xs, w);
-        part = part;
-        low = λ e l. omega (arith, part e l, start-most (flows .laid .accepted) (streaming .small) start e, streaming .fits);
+        counted = of .counted;
+        few = of .few;
+        said =
+            e ∙ ap (λ (c : ℕ). spread (λ k. up (numberAfter r k)) (λ k. r .place + k) c places) (of .counted)
+            ∙ spread-like _ _ _ _ (length (pipeElements (f .nest) (f .stream) here)) places (λ k l. ap up (of .numbers k l))
+            (λ k l. ap (λ (a : ℕ). a + k) (of .placed));
       }
-    where
-      part : (e : ℕ) → e < length (processes (f .nest)) → getD starts e 0 ≡ startAt (f .nest) (f .stream) start e
-      part e l =
-          ap (λ (m : List ℕ). getD m e 0) o
-          ∙ fill-at (startAt (f .nest) (f .stream) start) many e xs 0 (omega (arith, c)) (omega (arith, c, w, flows .laid .processes))
 
-  pub said-stream : {many : ℕ} → many ≡ length (processes (f .nest)) → {out : List ℕ} → out ≡ said (f .nest) (f .stream) start many places
-      → out ≡ said n s start (length (processes n)) places
+-- what a process says where a pipe enters, and where none does
+module _ (f : Flow) (from start p : ℕ) (places : List ℕ) where
+  abbrev saidBy : ℕ → List ℕ
+  saidBy c = saidOn (f .nest) (f .stream) from (processOf (f .nest) p) start c places
+
+  pub said-entering : entering (f .nest) (f .stream) (processOf (f .nest) p) ≡ true → {r : ℕ} {out : List ℕ}
+      → Put (f .nest) (f .stream) from start (processOf (f .nest) p) places r out
+      → (r ≡ enteringLength (f .nest) (f .stream) p) × (r ≤ 4096) × (out ≡ saidBy (enteringLength (f .nest) (f .stream) p))
+  said-entering e h = (
+    length-yes (f .nest) (f .stream) p e (h .counted),
+    h .few,
+    h .said ∙ ap saidBy (length-yes (f .nest) (f .stream) p e refl),
+  )
+
+  pub said-none : entering (f .nest) (f .stream) (processOf (f .nest) p) ≡ false
+      → (0 ≡ enteringLength (f .nest) (f .stream) p) × (0 ≤ 4096) × (places ≡ saidBy (enteringLength (f .nest) (f .stream) p))
+  said-none e =
+      let z = length-no (f .nest) (f .stream) p e in
+      (z, omega arith, sym (spread-zero _ _ places) ∙ ap saidBy z)
+
+-- ---- all pipes of a stream
+
+module _ (f : Flow) {n : Nest} {s : Stream} (en : f .nest ≡ n) (es : f .stream ≡ s) {from : ℕ} {spans places : List ℕ}
+    (h : Streaming n s from spans places) where
+  streaming : Streaming (f .nest) (f .stream) from spans places
+  streaming = subst₂ (λ (n : Nest) (s : Stream). Streaming n s from spans places) (sym en) (sym es) h
+
+  pub saying : {lanes : List ℕ} {many : ℕ} → Seen f spans lanes → many ≡ length (processes (f .nest))
+      → Saying f many from spans lanes places
+  saying seen c =
+      record { seen = seen; counted = c; small = streaming .small; fits = streaming .fits; words = streaming .words }
+
+  pub said-stream : {many : ℕ} → many ≡ length (processes (f .nest)) → {out : List ℕ} → out ≡ said (f .nest) (f .stream) from many places
+      → out ≡ said n s from (length (processes n)) places
   said-stream c e =
-      e ∙ ap (λ (m : ℕ). said (f .nest) (f .stream) start m places) c
-      ∙ ap₂ (λ (n : Nest) (s : Stream). said n s start (length (processes n)) places) en es
+      e ∙ ap (λ (m : ℕ). said (f .nest) (f .stream) from m places) c
+      ∙ ap₂ (λ (n : Nest) (s : Stream). said n s from (length (processes n)) places) en es
 
 -- a stream of a description, as it is read
 pub stream-streaming : {d : Description} (h : Described d) (i : ℕ) → i < d .sizes .streams → {s : Stream} → s ≡ getD (d .streams) i noStream
-    → {start : ℕ} → start ≡ streamStart (d .nest) (streamsOf d) i → {spans places : List ℕ} → Spans (d .nest) spans → 3072 ≤ length spans
-    → length places ≡ 24576 → Streaming (d .nest) s start spans places
+    → {from : ℕ} → from ≡ streamStart (d .nest) (streamsOf d) i → {spans places : List ℕ} → Spans (d .nest) spans → 3072 ≤ length spans
+    → length places ≡ 24576 → Streaming (d .nest) s from spans places
 stream-streaming {d} h i l es ef {spans} {places} of-spans long words =
     let a = h .streams i (omega (arith, h .in-use)) in
-    subst₂ (λ (s : Stream) (start : ℕ). Streaming (d .nest) s start spans places) (sym (stream-of d i l es)) (sym ef)
+    subst₂ (λ (s : Stream) (from : ℕ). Streaming (d .nest) s from spans places) (sym (stream-of d i l es)) (sym ef)
     (record { laid = a .laid; of-spans = of-spans; long = long; small = a .elements; fits = stream-fits d h i l refl; words = words })

@@ -1,126 +1,91 @@
--- Where the element that an instance touches waits: in the part of the entry of its process's line, at its index there. Assumes a
--- description that is not refused.
+-- Where the elements of a stream wait: its pipes say it one after the other, each for its own elements, from where its part begins.
+-- Assumes a description that is not refused.
 use mathlib.Core.Path.{_≡_, refl, sym, _∙_, ap, ap₂, subst}
-use mathlib.Core.Logic.{_⊎_, inl, inr}
-use mathlib.Core.Bool.{Bool, true, false, not, cond}
+use mathlib.Core.Bool.{Bool, true, false, cond}
 use mathlib.Core.List.{List, [], _∷_}
-use Prim.Native.Nat.{ℕ, zero, suc, _+_, _-_, _≤_, _<_}
+use Prim.Native.Nat.{ℕ, suc, _+_, _-_, _≤_, _<_}
 use native.Mathlib.Omega.{arith}
 use native.Mathlib.Decide.{decLe}
-use lib.Dec.{T, eqb}
+use lib.Dec.{eqb}
+use lib.IntN.{pos, negℤ}
 use lib.ListN.{length, getD}
 use lib.Seq.{getD-take}
-use Rattle.integers.specs.Vectors.{zero2, image}
-use Rattle.integers.specs.declared.V3.{V3}
+use borrow.Author.Tests.{eqb-true}
+use Rattle.integers.specs.Vectors.{zero2, shift2}
 use Rattle.integers.specs.declared.V2.{V2}
 use Rattle.meaning.specs.declared.Nest.{Nest}
 use Rattle.meaning.specs.declared.Stream.{Stream}
 use Rattle.meaning.specs.declared.Description.{Description}
 use Rattle.meaning.specs.Limits.{gaugeLimits}
 use Rattle.meaning.specs.Lists.{position, total}
-use Rattle.meaning.specs.Loops.{placeOf}
-use Rattle.meaning.specs.Space.{rowIndex, boxOf, space, processes, count, computing}
-use Rattle.meaning.specs.Streams.{stationary, elements}
-use Rattle.meaning.specs.Pipes.{pipeElements}
+use Rattle.meaning.specs.Space.{rowIndex, boxOf, space, processes}
+use Rattle.meaning.specs.Streams.{move, elements}
+use Rattle.meaning.specs.Pipes.{before, isPipe, entries, pipeElements}
 use Rattle.meaning.specs.Description.{descriptionOf, streamsOf, noStream}
 use Rattle.meaning.specs.Body.{streamStart}
 use Rattle.meaning.specs.Array.{arrayOf, pipeOrder, partStart}
 use Rattle.meaning.specs.Accept.{refusalOf}
 use Rattle.meaning.specs.Calls.{lengthOf}
-use Rattle.meaning.specs.Points.{Within}
+use Rattle.meaning.specs.Points.{Inside}
+use Rattle.lists.specs.Members.{filter-in}
 use Rattle.lists.specs.Sums.{total-next}
 use Rattle.lists.specs.Tests.{take-filter}
-use Rattle.geometry.specs.Numbers.{decide, yes-cond, no-cond}
-use Rattle.geometry.specs.Places.{ahead, getD-in}
-use Rattle.geometry.specs.Boxes.{points-inside, box-has}
-use Rattle.geometry.specs.RowOrder.{row-at, row-lt, row-number}
-use Rattle.geometry.specs.Processes.{RunAt, runAt, firingOf, firing-lt, instance-firing, instance-at, is-computing, computing-count}
-use Rattle.geometry.specs.Pipes.{Accepted, still-element}
-use Rattle.geometry.specs.Elements.{partOf}
+use Rattle.geometry.specs.Numbers.{yes-cond, zero-shift}
+use Rattle.geometry.specs.Places.{rank, getD-in, found}
+use Rattle.geometry.specs.RowOrder.{row-lt, row-number}
+use Rattle.geometry.specs.Segments.{at-box}
+use Rattle.geometry.specs.Pipes.{Accepted, in-on}
+use Rattle.geometry.specs.Elements.{entryOf, partOf, homeOf, indexOf, entry-before, home-in, index-lt, element-home}
 use Rattle.geometry.specs.Descriptions.{Laid, laid}
 use Rattle.geometry.specs.Arrays.{streamAt}
-use Rattle.geometry.specs.PipeOrder.{list-length}
-use Rattle.addresses.specs.Pipes.{part-start}
-use Rattle.addresses.specs.Through.{entryNumber as entryRank, entry-lt, entry-rank, through-is}
-use Rattle.addresses.specs.Ends.{number-lt}
-use Rattle.addresses.specs.Orders.{found-at, touchedPipe, touchedIndex, place-inside, place-on-pipe, touched-lt, touched-waits}
+use Rattle.addresses.specs.Pipes.{base, entryAt, part-start}
+use Rattle.addresses.specs.Through.{entryNumber as entryRank, point-inside, entry-lt, entry-rank, entry-is-at}
+use Rattle.addresses.specs.Orders.{element-place}
 use Rattle.layout.specs.Spans.{processOf}
-use Rattle.lanes.specs.Held.{entryNumber}
-use Rattle.pipe_parts.specs.Starts.{entering, startAt}
+use Rattle.pipe_parts.specs.Starts.{entering, entering-entry, entering-pipe, enteringLength, startAt}
 use Rattle.figures.specs.Shares.{Described, described, start-most}
-use Rattle.element_places.specs.Spread.{spreads, spreads-length, Right, spreads-keeps, spreads-puts}
+use Rattle.element_places.specs.Spread.{spread, spreads, spreads-length, Right, spreads-keeps, spreads-puts}
 
--- ---- of instance x
+-- ---- of the pipe through process y
 
--- the number of the element of a stream that it touches, after `first` others
-abbrev pub elementNumber : Nest → Stream → ℕ → V3 → ℕ
-elementNumber n s first x = first + rowIndex (boxOf n (s .map)) (image (s .map) x)
+-- the number of its element k, after `first` others
+abbrev pub numberOn : Nest → Stream → ℕ → V2 → ℕ → ℕ
+numberOn n s first y k = first + rowIndex (boxOf n (s .map)) (getD (pipeElements n s y) k zero2)
 
--- that element's place, after `first` others: in the part of its process's line, at its index there
-abbrev pub placeFor : Nest → Stream → ℕ → V3 → ℕ
-placeFor n s first x =
-    startAt n s first (entryNumber n s (rowIndex (space n) (placeOf n x))) + ahead (image (s .map) x) (pipeElements n s (placeOf n x))
+-- so many of its elements wait from `start` on, one after the other
+abbrev pub saidOn : Nest → Stream → ℕ → V2 → ℕ → ℕ → List ℕ → List ℕ
+saidOn n s first y start = spread (numberOn n s first y) (λ k. start + k)
 
--- ---- of process y
+-- all of them, and how many they are
+pub record Put (n : Nest) (s : Stream) (first start : ℕ) (y : V2) (places : List ℕ) (count : ℕ) (out : List ℕ) : Type 0 where
+  pub counted : count ≡ length (pipeElements n s y)
+  pub few : count ≤ 4096
+  pub said : out ≡ saidOn n s first y start (length (pipeElements n s y)) places
 
--- how many elements it uses, one after the other; of a stationary stream one
-abbrev pub usedBy : Nest → Stream → V2 → ℕ
-usedBy n s y = cond (computing n y) (cond (stationary n s) 1 (count n y)) 0
-
-pub used-lt : (n : Nest) (s : Stream) (y : V2) {k : ℕ} → k < usedBy n s y → k < count n y
-used-lt n s y {k} h = go (computing n y) (stationary n s) (some (count n y)) h
-  where
-    some : (c : ℕ) → T (not (eqb c 0)) → 0 < c
-    some zero t = absurd t
-    some (suc c) t = omega arith
-
-    go : (f b : Bool) → (T f → 0 < count n y) → k < cond f (cond b 1 (count n y)) 0 → k < count n y
-    go true true f h = omega (arith, f tt)
-    go true false f h = h
-    go false b f h = absurd (omega arith)
-
-pub used-still : (n : Nest) (s : Stream) (y : V2) → T (computing n y) → T (stationary n s) → usedBy n s y ≡ 1
-used-still n s y c t = yes-cond (computing n y) _ _ c ∙ yes-cond (stationary n s) _ _ t
-
-pub used-moving : (n : Nest) (s : Stream) (y : V2) → T (computing n y) → T (not (stationary n s)) → usedBy n s y ≡ count n y
-used-moving n s y c t = yes-cond (computing n y) _ _ c ∙ no-cond (stationary n s) _ _ t
-
--- firing k uses e
-pub record Uses (n : Nest) (s : Stream) (y e : V2) : Type 0 where
-  pub firing : ℕ
-  pub lt : firing < usedBy n s y
-  pub is : image (s .map) (runAt n y firing) ≡ e
-
--- what an instance touches its process uses
-module _ {n : Nest} {s : Stream} (h : Accepted n s) {x : V3} (w : Within n x) where
-  abbrev y : V2
-  y = placeOf n x
-
-  run : RunAt n y x
-  run = record { within = w; to = refl }
-
-  pub touched-used : Uses n s y (image (s .map) x)
-  touched-used = go (decide (stationary n s))
-    where
-      go : T (stationary n s) ⊎ T (not (stationary n s)) → Uses n s y (image (s .map) x)
-      go (inl t) =
-          record {
-            firing = 0;
-            lt = omega (arith, used-still n s y (is-computing (h .layout) run) t);
-            is = still-element h t x (runAt n y 0) (sym (instance-at (h .layout) y 0 (computing-count (h .layout) run) .to));
-          }
-      go (inr t) =
-          record {
-            firing = firingOf n x;
-            lt = omega (arith, used-moving n s y (is-computing (h .layout) run) t, firing-lt (h .layout) w);
-            is = ap (image (s .map)) (instance-firing (h .layout) w);
-          }
-
--- what the processes say of a stream, one after the other
+-- what the pipes of a stream say that enter at the first processes
 abbrev pub said : Nest → Stream → ℕ → ℕ → List ℕ → List ℕ
 said n s first =
-    spreads (λ p k. elementNumber n s first (runAt n (processOf n p) k)) (λ p k. placeFor n s first (runAt n (processOf n p) k))
-    (λ p. usedBy n s (processOf n p))
+    spreads (λ p. numberOn n s first (processOf n p)) (λ p k. startAt n s first p + k) (enteringLength n s)
+
+-- its elements are the stream's
+pub number-lt : {n : Nest} {s : Stream} → Accepted n s → {y : V2} → Inside (space n) y → (first k : ℕ) → k < length (pipeElements n s y)
+    → numberOn n s first y k < first + length (elements n s)
+number-lt {n} {s} h {y} hy first k l =
+    let e = getD (pipeElements n s y) k zero2 in
+    omega (
+      arith,
+      row-lt (boxOf n (s .map)) e (at-box (h .layout .dirs) (in-on h hy (getD-in (pipeElements n s y) k zero2 l) .at)),
+    )
+
+-- an element of a pipe that enters at process p
+entered : (n : Nest) (s : Stream) (p k : ℕ) → k < enteringLength n s p
+    → (entering n s (processOf n p) ≡ true) × (k < length (pipeElements n s (processOf n p)))
+entered n s p k l = go (entering n s (processOf n p)) refl l
+  where
+    go : (b : Bool) → entering n s (processOf n p) ≡ b → k < cond b (length (pipeElements n s (processOf n p))) 0
+        → (entering n s (processOf n p) ≡ true) × (k < length (pipeElements n s (processOf n p)))
+    go true e l = (e, l)
+    go false e l = absurd (omega arith)
 
 -- ---- of element e
 
@@ -149,40 +114,66 @@ module _ {d : Description} (l : Laid d) (i : ℕ) (hi : i < length (streamsOf d)
   abbrev first : ℕ
   first = streamStart n (streamsOf d) i
 
-  -- the element of an instance waits at the instance's place
-  pub place-right : (x : V3) → Within n x → placeFor n s first x ≡ placeOfElement d (elementNumber n s first x)
-  place-right x w =
-      let p = rowIndex (space n) (placeOf n x) in
-      let hp = number-lt d (place-inside l i hi x w) in
-      let on = place-on-pipe l i hi x w in
-      let j = entryRank d p i in
-      let start : partStart (arrayOf d) (touchedPipe l i hi x w) ≡ startAt n s first (entryNumber n s p) =
-      ap (partStart (arrayOf d)) (through-is l p i hp hi on) ∙ part-start d i j hi (entry-lt l p i hp hi on) l
-      ∙ ap (λ (c : ℕ). first + partOf n s c) (entry-rank l p i hp hi on)
-      ∙ ap (λ (m : List V2). first + total (λ y. length (pipeElements n s y)) m)
-      (take-filter (entering n s) (entryNumber n s p) (processes n)) in
-      let at = partStart (arrayOf d) (touchedPipe l i hi x w) + touchedIndex l i hi x w in
-      sym (found-at l at (subst (λ (c : ℕ). at < c) (sym (list-length l)) (touched-lt l i hi x w)) (elementNumber n s first x)
-      (touched-waits l i hi x w)
-      ∙ ap (λ (c : ℕ). c + ahead (image (s .map) x) (pipeElements n s (placeOf n x))) start)
+  -- the pipe that enters at process p waits in the part that begins there
+  module _ (p : ℕ) (hp : p < length (processes n)) (enters : entering n s (processOf n p) ≡ true) where
+    abbrev y : V2
+    y = processOf n p
 
-  -- every element is used by some process
-  pub record By (j : ℕ) : Type 0 where
+    -- the number of its entry among the stream's
+    abbrev j : ℕ
+    j = entryRank d p i
+
+    on : isPipe n s y ≡ true
+    on = entering-pipe n s y enters
+
+    hj : j < length (entries n s)
+    hj = entry-lt l p i hp hi on
+
+    itself : entryOf n s y ≡ y
+    itself =
+        ap (λ (k : ℕ). shift2 y (negℤ (pos k)) (move n s))
+        (eqb-true (before n s y) 0 (sym (entry-before (l .stream i hi) (point-inside l p hp)) ∙ entering-entry n s y enters))
+        ∙ zero-shift y (move n s)
+
+    entry : entryAt d i j ≡ y
+    entry = entry-is-at l p i hp hi on ∙ itself
+
+    start : partStart (arrayOf d) (base d i + j) ≡ startAt n s first p
+    start =
+        part-start d i j hi hj l
+        ∙ ap (λ (c : ℕ). first + partOf n s c)
+        (entry-rank l p i hp hi on
+        ∙ ap (λ (c : ℕ). rank (entering n s) c (processes n)) (ap (rowIndex (space n)) itself ∙ row-number (space n) p zero2 hp))
+        ∙ ap (λ (m : List V2). first + total (λ y. length (pipeElements n s y)) m) (take-filter (entering n s) p (processes n))
+
+    pub place-right : (k : ℕ) → k < length (pipeElements n s y) → startAt n s first p + k ≡ placeOfElement d (numberOn n s first y k)
+    place-right k h =
+        ap (λ (c : ℕ). c + k) (sym start)
+        ∙ sym (element-place l i j k hi hj (subst (λ (v : V2). k < length (pipeElements n s v)) (sym entry) h))
+        ∙ ap (λ (v : V2). placeOfElement d (numberOn n s first v k)) entry
+
+  -- every element is one of a pipe
+  record On (j : ℕ) : Type 0 where
     pub process : ℕ
     pub lt : process < length (processes n)
-    pub uses : Uses n s (processOf n process) (getD (elements n s) j zero2)
+    pub index : ℕ
+    pub index-lt : index < enteringLength n s process
+    pub is : getD (pipeElements n s (processOf n process)) index zero2 ≡ getD (elements n s) j zero2
 
-  pub by : (j : ℕ) → j < length (elements n s) → By j
-  by j h =
+  on-pipe : (j : ℕ) → j < length (elements n s) → On j
+  on-pipe j h =
       let e = getD (elements n s) j zero2 in
-      let t = l .stream i hi .full e (points-inside (boxOf n (s .map)) e (getD-in (elements n s) j zero2 h)) in
-      let y = placeOf n (t .by) in
-      let inside = box-has (l .layout .dirs) (n .place) (t .at .within) in
+      let home = homeOf n s e in
+      let i' = getD-in (elements n s) j zero2 h in
+      let there = filter-in (entering n s) (processes n) (home-in (l .stream i hi) i' .0) in
+      let p = found zero2 (there .mem) in
       record {
-        process = rowIndex (space n) y;
-        lt = row-lt (space n) y inside;
-        uses = subst (λ (y : V2). Uses n s y e) (sym (row-at (space n) y zero2 inside))
-            (subst (Uses n s y) (t .at .to) (touched-used (l .stream i hi) (t .at .within)));
+        process = p .at;
+        lt = p .lt;
+        index = indexOf n s e;
+        index-lt = subst (λ (v : V2). indexOf n s e < cond (entering n s v) (length (pipeElements n s v)) 0) (sym (p .is))
+            (subst (λ (c : ℕ). indexOf n s e < c) (sym (yes-cond (entering n s home) _ _ (there .ok))) (index-lt (l .stream i hi) i'));
+        is = ap (λ (v : V2). getD (pipeElements n s v) (indexOf n s e) zero2) (p .is) ∙ element-home (l .stream i hi) zero2 i';
       }
 
   -- the places of the elements of the streams before, and then of this one
@@ -192,30 +183,23 @@ module _ {d : Description} (l : Laid d) (i : ℕ) (hi : i < length (streamsOf d)
       → (e : ℕ) → e < first + length (elements n s) → getD out e 0 ≡ placeOfElement d e
   stream-right xs out o room h e b = ap (λ (m : List ℕ). getD m e 0) o ∙ go (decLe (suc e) first)
     where
-      within : (p k : ℕ) → k < usedBy n s (processOf n p) → Within n (runAt n (processOf n p) k)
-      within p k c = instance-at (l .layout) (processOf n p) k (used-lt n s (processOf n p) c) .within
-
-      right : Right (λ p k. elementNumber n s first (runAt n (processOf n p) k)) (λ p k. placeFor n s first (runAt n (processOf n p) k))
-          (λ p. usedBy n s (processOf n p)) (placeOfElement d) xs (length (processes n))
+      right : Right (λ p. numberOn n s first (processOf n p)) (λ p k. startAt n s first p + k) (enteringLength n s) (placeOfElement d) xs
+          (length (processes n))
       right =
           record {
-            words = λ p m k c. place-right (runAt n (processOf n p) k) (within p k c);
-            room = λ p m k c. omega (
-              arith,
-              row-lt (boxOf n (s .map)) (image (s .map) (runAt n (processOf n p) k))
-                  (box-has (l .layout .dirs) (s .map) (within p k c)),
-            );
+            words = λ p m k c. let e = entered n s p k c in place-right p m (e .0) k (e .1);
+            room = λ p m k c. omega (arith, number-lt (l .stream i hi) (point-inside l p m) first k (entered n s p k c .1));
           }
 
       go : Dec (suc e ≤ first) → getD (said n s first (length (processes n)) xs) e 0 ≡ placeOfElement d e
       go (yes c) = spreads-keeps _ _ _ (placeOfElement d) xs (length (processes n)) right e (h e c)
       go (no c) =
           let m : e - first < length (elements n s) = omega arith in
-          let r = by (e - first) m in
-          let is = ap (rowIndex (boxOf n (s .map))) (r .uses .is) ∙ row-number (boxOf n (s .map)) (e - first) zero2 m in
-          let q : elementNumber n s first (runAt n (processOf n (r .process)) (r .uses .firing)) ≡ e = omega (arith, is) in
+          let r = on-pipe (e - first) m in
+          let is = ap (rowIndex (boxOf n (s .map))) (r .is) ∙ row-number (boxOf n (s .map)) (e - first) zero2 m in
+          let q : numberOn n s first (processOf n (r .process)) (r .index) ≡ e = omega (arith, is) in
           subst (λ (a : ℕ). getD (said n s first (length (processes n)) xs) a 0 ≡ placeOfElement d a) q
-          (spreads-puts _ _ _ (placeOfElement d) xs (length (processes n)) right (r .process) (r .lt) (r .uses .firing) (r .uses .lt))
+          (spreads-puts _ _ _ (placeOfElement d) xs (length (processes n)) right (r .process) (r .lt) (r .index) (r .index-lt))
 
 -- ---- stream by stream
 

@@ -1,12 +1,11 @@
--- Elements used one after the other: the numbers of those that a process uses, by the first of them and a stride, and their places.
--- Assumes an accepted stream.
+-- Elements one after the other: the numbers of those of a moving pipe, by one of them and a stride. Assumes an accepted stream.
 use mathlib.Core.Path.{_≡_, sym, _∙_, ap, ap₂, subst}
-use mathlib.Core.Logic.{_⊎_, inl, inr}
 use mathlib.Core.Bool.{not}
-use Prim.Native.Nat.{ℕ, zero, suc, _+_, _*_, _^_, _≤_, _<_}
+use mathlib.Core.List.{List}
+use Prim.Native.Nat.{ℕ, _+_, _*_, _^_, _≤_, _<_}
 use native.Mathlib.Omega.{arith}
 use lib.Dec.{T}
-use lib.ListN.{length}
+use lib.ListN.{length, getD}
 use lib.IntN.{ℤ, pos, negsuc, _+ℤ_, _-ℤ_, _*ℤ_}
 use lib.Signed.{mag, _≤ℤ_}
 use mir.Syntax.{w32}
@@ -15,36 +14,32 @@ use Rattle.integers.specs.Differences.{Abs, gaps, parts, zrules, up, le-in, sum
 use Rattle.integers.specs.Variables.{linear}
 use Rattle.integers.specs.Ring.{ring, quotes, solve}
 use Rattle.integers.specs.Words.{Holds, tower, bits}
-use Rattle.integers.specs.Vectors.{zero2, shift2, image, image-shift}
+use Rattle.integers.specs.Vectors.{zero2, neg2, shift2, image}
 use Rattle.integers.specs.declared.V3.{V3}
 use Rattle.integers.specs.declared.V2.{V2}
 use Rattle.meaning.specs.declared.Nest.{Nest}
 use Rattle.meaning.specs.declared.Stream.{Stream}
-use Rattle.meaning.specs.Loops.{size, instances, increment}
-use Rattle.meaning.specs.Space.{Box, eq2, rowIndex, boxOf, sentTo, space, processes, count, first}
+use Rattle.meaning.specs.Loops.{size}
+use Rattle.meaning.specs.Space.{Box, rowIndex, boxOf, space}
 use Rattle.meaning.specs.Streams.{stationary, elements, pass}
-use Rattle.meaning.specs.Pipes.{pipeElements, soak}
+use Rattle.meaning.specs.Pipes.{reach, lineIn, pipeElements}
 use Rattle.meaning.specs.Points.{Inside}
-use Rattle.lists.specs.Tests.{filter-fewer}
-use Rattle.geometry.specs.Numbers.{decide, zero-on}
-use Rattle.geometry.specs.Places.{ahead}
+use Rattle.geometry.specs.Numbers.{zero-on}
+use Rattle.geometry.specs.Places.{getD-in}
 use Rattle.geometry.specs.Boxes.{box-has}
-use Rattle.geometry.specs.RowOrder.{row-lt, row-number}
-use Rattle.geometry.specs.Segments.{first-at}
-use Rattle.geometry.specs.Processes.{RunAt, runAt, instance-at, is-computing}
-use Rattle.geometry.specs.Pipes.{Accepted, still-element}
-use Rattle.geometry.specs.Soaks.{soak-first, element-index}
+use Rattle.geometry.specs.RowOrder.{row-lt}
+use Rattle.geometry.specs.BoxLines.{line-at, line-on}
+use Rattle.geometry.specs.Processes.{RunAt}
+use Rattle.geometry.specs.Pipes.{Accepted, passes, in-space}
+use Rattle.geometry.specs.Moving.{pipe-line, length-is}
 use Rattle.numbering.specs.Ranges.{not-below}
 use Rattle.counting.specs.Forms.{weigh}
-use Rattle.layout.specs.Spans.{processOf}
-use Rattle.lanes.specs.Held.{entryNumber}
-use Rattle.pipe_parts.specs.Starts.{startAt}
 use Rattle.element_places.specs.declared.Run.{Run}
-use Rattle.element_places.specs.Order.{elementNumber, placeFor, usedBy, used-lt, used-still}
+use Rattle.element_places.specs.Order.{numberOn, number-lt}
 
 -- ---- a run
 
--- the number of the element that is used k later than the first
+-- the number of its element k
 abbrev pub numberAfter : Run → ℕ → ℤ
 numberAfter r k = r .number +ℤ pos k *ℤ r .stride
 
@@ -58,7 +53,7 @@ pub record Counts (r : Run) (k : ℕ) : Type 0 where
 -- the numbers of all its elements are below so many, and their places small
 pub record Fits (r : Run) (room : ℕ) : Type 0 where
   pub few : r .count ≤ 4096
-  pub low : r .place ≤ 30208
+  pub low : r .place ≤ 28672
   pub bound : room ≡ 24576
   pub some : (k : ℕ) → k < r .count → pos 0 ≤ℤ numberAfter r k
   pub below : (k : ℕ) → k < r .count → up (numberAfter r k) < room
@@ -108,90 +103,78 @@ row-on k {e} d j h l =
         → c *ℤ (a +ℤ j *ℤ x -ℤ u) +ℤ (b +ℤ j *ℤ y -ℤ v) ≡ c *ℤ (a -ℤ u) +ℤ (b -ℤ v) +ℤ j *ℤ (c *ℤ x +ℤ y)
     go = ring 0 8 _ λ ρ. simp quotes (solve ρ _ _ tt)
 
--- how far apart the numbers of the elements lie that a process uses one after the other
+-- how far apart the numbers of the elements of a moving pipe lie
 abbrev pub strideOf : Nest → Stream → ℤ
 strideOf n s = weigh (boxOf n (s .map)) (pass n s .a) (pass n s .b)
 
--- ---- the elements that a process uses
+-- ---- the elements of a moving pipe
 
-pub record RunOf (n : Nest) (s : Stream) (start : ℕ) (y : V2) (r : Run) : Type 0 where
-  pub counted : r .count ≡ usedBy n s y
-  pub low : r .place ≤ 30208
-  pub numbers : (k : ℕ) → k < usedBy n s y → numberAfter r k ≡ pos (elementNumber n s start (runAt n y k))
-  pub places : (k : ℕ) → k < usedBy n s y → r .place + k ≡ placeFor n s start (runAt n y k)
+-- all of them, from place `start` on
+pub record RunOf (n : Nest) (s : Stream) (first start : ℕ) (y : V2) (r : Run) : Type 0 where
+  pub counted : r .count ≡ length (pipeElements n s y)
+  pub few : r .count ≤ 4096
+  pub placed : r .place ≡ start
+  pub numbers : (k : ℕ) → k < length (pipeElements n s y) → numberAfter r k ≡ pos (numberOn n s first y k)
 
-module _ {n : Nest} {s : Stream} (h : Accepted n s) (y : V2) {k : ℕ} (l : k < usedBy n s y) where
-  run-here : RunAt n y (runAt n y k)
-  run-here = instance-at (h .layout) y k (used-lt n s y l)
+-- by the element of an instance, and how many lie before it
+module _ {n : Nest} {s : Stream} (h : Accepted n s) (moves : T (not (stationary n s))) {y : V2} {x : V3} (run : RunAt n y x) where
+  abbrev box : Box
+  box = boxOf n (s .map)
 
-  run-inside : {x : V3} → RunAt n y x → Inside (boxOf n (s .map)) (image (s .map) x)
-  run-inside r = box-has (h .layout .dirs) (s .map) (r .within)
+  abbrev e : V2
+  e = image (s .map) x
 
-  number-below : (start : ℕ) → elementNumber n s start (runAt n y k) < start + length (elements n s)
-  number-below start = omega (arith, row-lt (boxOf n (s .map)) (image (s .map) (runAt n y k)) (run-inside run-here))
+  abbrev back : ℕ
+  back = reach box (neg2 (pass n s)) e
 
-  pub run-numbers : (start : ℕ) → pos (start + rowIndex (boxOf n (s .map)) (image (s .map) (first n y))) +ℤ pos k *ℤ strideOf n s
-      ≡ pos (elementNumber n s start (runAt n y k))
-  run-numbers start =
-      let e = image-shift (s .map) (first n y) (increment n) (pos k) in
-      after start (rowIndex (boxOf n (s .map)) (image (s .map) (first n y)))
-      (rowIndex (boxOf n (s .map)) (image (s .map) (runAt n y k))) (pos k *ℤ strideOf n s)
-      (ap (λ (v : V2). pos (rowIndex (boxOf n (s .map)) v)) e
-      ∙ row-on (boxOf n (s .map)) (pass n s) (pos k) (run-inside (first-at (h .layout .dirs) run-here))
-      (subst (Inside (boxOf n (s .map))) e (run-inside run-here)))
+  inside : Inside box e
+  inside = box-has (h .layout .dirs) (s .map) (run .within)
+
+  element-at : (k : ℕ) → k < length (lineIn box (pass n s) e)
+      → pos (rowIndex box (getD (lineIn box (pass n s) e) k zero2)) ≡ pos (rowIndex box e) +ℤ (pos k -ℤ pos back) *ℤ strideOf n s
+  element-at k l =
+      let at = line-at box (pass n s) e k zero2 l in
+      ap (λ (v : V2). pos (rowIndex box v)) at
+      ∙ row-on box (pass n s) (pos k -ℤ pos back) inside
+      (subst (Inside box) at (line-on box (passes h moves) inside (getD-in (lineIn box (pass n s) e) k zero2 l) .inside))
+
+  pub run-numbers : (first k : ℕ) → k < length (pipeElements n s y)
+      → (pos (first + rowIndex box e) -ℤ pos back *ℤ strideOf n s) +ℤ pos k *ℤ strideOf n s ≡ pos (numberOn n s first y k)
+  run-numbers first k l =
+      let line = pipe-line h moves run in
+      turned (pos (first + rowIndex box e)) (pos back) (pos k) (strideOf n s)
+      ∙ after first (rowIndex box e) (rowIndex box (getD (pipeElements n s y) k zero2)) ((pos k -ℤ pos back) *ℤ strideOf n s)
+      (ap (λ (m : List V2). pos (rowIndex box (getD m k zero2))) line
+      ∙ element-at k (subst (λ (m : List V2). k < length m) line l))
     where
-      after : (start i j : ℕ) (t : ℤ) → pos j ≡ pos i +ℤ t → pos (start + i) +ℤ t ≡ pos (start + j)
-      after start i j t e = omega (arith, zrules, sum-is (pos i) t, sum-is (pos (start + i)) t)
+      turned : (u b k t : ℤ) → (u -ℤ b *ℤ t) +ℤ k *ℤ t ≡ u +ℤ (k -ℤ b) *ℤ t
+      turned = ring 0 4 _ λ ρ. simp quotes (solve ρ _ _ tt)
 
-  -- the index of its element on the pipe
-  index-is : ahead (image (s .map) (runAt n y k)) (pipeElements n s y) ≡ soak n s y + k
-  index-is = go (decide (stationary n s))
+      after : (first i j : ℕ) (t : ℤ) → pos j ≡ pos i +ℤ t → pos (first + i) +ℤ t ≡ pos (first + j)
+      after first i j t e = omega (arith, zrules, sum-is (pos i) t, sum-is (pos (first + i)) t)
+
+  -- how far back the first of them lies
+  pub back-far : (first : ℕ) → first + length (elements n s) ≤ 24576 → Abs (pos back *ℤ strideOf n s) 24576
+  back-far first fits =
+      let some : 0 < length (pipeElements n s y) = omega (arith, length-is h moves run) in
+      apart (first + rowIndex box e) (numberOn n s first y 0) (pos back *ℤ strideOf n s)
+      (sym (zero-on (pos (first + rowIndex box e) -ℤ pos back *ℤ strideOf n s) (strideOf n s)) ∙ run-numbers first 0 some)
+      (omega (arith, row-lt box e inside)) (omega (arith, number-lt h (in-space h run) first 0 some))
     where
-      go : T (stationary n s) ⊎ T (not (stationary n s)) → ahead (image (s .map) (runAt n y k)) (pipeElements n s y) ≡ soak n s y + k
-      go (inl t) =
-          omega (
-            arith,
-            used-still n s y (is-computing (h .layout) run-here) t,
-            soak-first h run-here,
-            ap (λ (v : V2). ahead v (pipeElements n s y))
-                (still-element h t (first n y) (runAt n y k) (first-at (h .layout .dirs) run-here .to ∙ sym (run-here .to))),
-          )
-      go (inr t) = element-index h t k run-here run-here
-
-  pub run-places : (start p : ℕ) → p < length (processes n) → y ≡ processOf n p
-      → startAt n s start (entryNumber n s p) + soak n s y + k ≡ placeFor n s start (runAt n y k)
-  run-places start p b e =
-      let to = run-here .to in
-      let number = ap (rowIndex (space n)) (to ∙ e) ∙ row-number (space n) p zero2 b in
-      omega (
-        arith,
-        ap (λ (q : ℕ). startAt n s start (entryNumber n s q)) number,
-        ap (λ (w : V2). ahead (image (s .map) (runAt n y k)) (pipeElements n s w)) to,
-        index-is,
-      )
+      apart : (u v : ℕ) (t : ℤ) → pos u -ℤ t ≡ pos v → u < 24576 → v < 24576 → Abs t 24576
+      apart u v = linear 0 1 _ λ p m. simp (gaps, parts) (omega arith)
 
 -- all of them have room
-count-most : (n : Nest) (y : V2) → count n y ≤ length (instances n)
-unfolding sentTo
-count-most n y = filter-fewer (λ x. eq2 (image (n .place) x) y) (instances n)
-
-pub run-fits : {n : Nest} {s : Stream} {start : ℕ} {y : V2} {r : Run} {room : ℕ} → Accepted n s → length (instances n) ≤ 4096
-    → start + length (elements n s) ≤ 24576 → room ≡ 24576 → RunOf n s start y r → Fits r room
-run-fits {n} {s} {start} {y} {r} {room} h few fits e of =
+pub run-fits : {n : Nest} {s : Stream} {first start : ℕ} {y : V2} {r : Run} {room : ℕ} → Accepted n s → Inside (space n) y
+    → first + length (elements n s) ≤ 24576 → start ≤ 28672 → room ≡ 24576 → RunOf n s first start y r → Fits r room
+run-fits {n} {s} {first} {start} {y} {r} {room} h hy fits low e of =
     record {
-      few = most;
-      low = of .low;
+      few = of .few;
+      low = omega (arith, of .placed);
       bound = e;
-      some = λ k l. subst (λ (z : ℤ). pos 0 ≤ℤ z) (sym (of .numbers k (used k l))) (le-in (omega arith));
-      below = λ k l. omega (arith, e, fits, ap up (of .numbers k (used k l)), number-below h y (used k l) start);
+      some = λ k l. subst (λ (z : ℤ). pos 0 ≤ℤ z) (sym (of .numbers k (on k l))) (le-in (omega arith));
+      below = λ k l. omega (arith, e, fits, ap up (of .numbers k (on k l)), number-lt h hy first k (on k l));
     }
   where
-    used : (k : ℕ) → k < r .count → k < usedBy n s y
-    used k l = omega (arith, of .counted)
-
-    most : r .count ≤ 4096
-    most = go (r .count) (λ k l. omega (arith, used-lt n s y (used k l), count-most n y))
-      where
-        go : (c : ℕ) → ((k : ℕ) → k < c → k < 4096) → c ≤ 4096
-        go zero f = omega arith
-        go (suc c) f = f c (omega arith)
+    on : (k : ℕ) → k < r .count → k < length (pipeElements n s y)
+    on k l = omega (arith, of .counted)

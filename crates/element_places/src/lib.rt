@@ -1,40 +1,41 @@
-// Where each element waits: its place in the waiting list, for its number in element order. Stream by stream, each process says where the
-// elements that it uses wait: in the part of the pipe through it, from its soak on, one after the other. Their numbers are as far apart as
-// index map times increment says. Every element is used, so every place is said.
+// Where each element waits: its place in the waiting list, for its number in element order. Stream by stream, each pipe says where its
+// elements wait: in its part, one after the other. Those of a moving stream have numbers as far apart as index map times increment says;
+// those of a stationary one are found process by process, from the entry on. Every element is on a pipe, so every place is said.
 //
 // specs/, by file:
 //
 //   Spread    words stored at scattered places
-//   Order     the place of the element of an instance: `place-right`; `stream-right`: a stream's processes say the places of all its
-//             elements
-//   Runs      the elements that a process uses, by the first of them: `run-numbers`, `run-places`
-//   Lent      what the functions are lent, and what they find of a process
+//   Order     what the pipes of a stream say: `place-right`, and of all its elements: `stream-right`
+//   Runs      the elements of a moving pipe, by one of them: `run-numbers`
+//   Walked    those of a stationary pipe, process by process: `said-next`
+//   Lent      what the functions are lent, and what they find of a pipe
+//   Lines     what the walk along a line of processes is lent, and what it finds
 ghost use mathlib.Core.Path.{_≡_};
-ghost use Prim.Native.Nat.{_+_, _≤_};
+ghost use mathlib.Core.Bool.{true};
+ghost use Prim.Native.Nat.{_+_, _≤_, _<_};
+ghost use lib.Dec.{T};
 ghost use lib.ListN.{length};
 ghost use Rattle.integers.specs.Differences.{up};
-ghost use Rattle.integers.specs.Vectors.{image};
-ghost use Rattle.meaning.specs.Limits.{elementsMost};
-ghost use Rattle.meaning.specs.Space.{processes, first};
-ghost use Rattle.meaning.specs.Pipes.{soak};
-ghost use Rattle.geometry.specs.Processes.{runAt};
+ghost use Rattle.meaning.specs.Limits.{gaugeLimits, elementsMost};
+ghost use Rattle.meaning.specs.Space.{processes};
+ghost use Rattle.geometry.specs.Wiring.{processAt};
 ghost use Rattle.layout.specs.Spans.{processOf, Spans, spanWords};
 ghost use Rattle.lanes.specs.Flow.{Flows};
-ghost use Rattle.pipes.specs.Elements.{At};
+ghost use Rattle.pipe_parts.specs.Starts.{entering, enteringLength};
 ghost use Rattle.element_places.specs.Spread.{spread};
-ghost use Rattle.element_places.specs.Order.{elementNumber, placeFor, usedBy, said, PlacesOf, Placeable};
+ghost use Rattle.element_places.specs.Order.{saidOn, Put, said, PlacesOf, Placeable};
 ghost use Rattle.element_places.specs.Runs.{numberAfter, Counts, Fits, strideOf, RunOf};
-ghost use Rattle.element_places.specs.Lent.{Soaking, Using, Storing, Saying, Streaming};
+ghost use Rattle.element_places.specs.Walked.{oneOf, ownSaid};
+ghost use Rattle.element_places.specs.Lent.{Placing, Running, Saying, Streaming};
+ghost use Rattle.element_places.specs.Lines.{Lined, Owning, Walking};
 use integers::V2;
 use lanes::Flow;
 use lanes::LANES;
-use layout::FIRSTS;
 use meaning::Description;
 use meaning::Nest;
-use meaning::PROCESSES;
 use meaning::Stream;
 
-// Elements used one after the other: the first one's number, how far on the next one's is, the first one's place, and how many they are.
+// Elements one after the other: the first one's number, how far on the next one's is, the first one's place, and how many they are.
 struct Run {
     number: i32,
     stride: i32,
@@ -44,7 +45,7 @@ struct Run {
 
 // ---- one run
 
-// The number of the element that is used k later than the first.
+// The number of its element k.
 fn number_after(r: Run, k: u32) -> u32
     requires { ⌜ Counts r k ⌝ }
     ensures { λ r′. ⌜ r′ ≡ up (numberAfter r k) ⌝ }
@@ -67,96 +68,142 @@ fn put_run(r: Run, places: &mut [u32])
     }
 }
 
-// ---- a computing process
+// ---- a pipe of a moving stream
 
-// How far apart the numbers of the elements lie that it uses one after the other.
+// How far apart the numbers of its elements lie.
 fn stride_of(f: Flow) -> i32
     requires { ⌜ Flows f ⌝ }
     ensures { λ r. ⌜ r ≡ strideOf (f .nest) (f .stream) ⌝ }
 {
     let lo = f.elements.lo;
     let hi = f.elements.hi;
-    let pass = f.pass;
-    (numbering::distance(lo.b, hi.b) + 1) as i32 * pass.a + pass.b
+    let by = f.pass;
+    (numbering::distance(lo.b, hi.b) + 1) as i32 * by.a + by.b
 }
 
-// How many elements it uses.
-fn used_by(f: Flow, spans: &[u32], p: usize) -> u32
-    requires { ⌜ At f (now spans) p ⌝ }
-    ensures { λ r. ⌜ r ≡ usedBy (f .nest) (f .stream) (processOf (f .nest) p) ⌝ }
-{
-    if f.moving { spans[p] } else { 1 }
-}
-
-// Its soak, by its first element e.
-fn soak_by(f: Flow, spans: &[u32], lanes: &[u16], p: usize, e: V2) -> u32
-    requires { ⌜ Soaking f (now spans) (now lanes) p e ⌝ }
-    ensures { λ r. ⌜ (r ≡ soak (f .nest) (f .stream) (processOf (f .nest) p)) × (r ≤ 1536) ⌝ }
-{
-    if f.moving {
-        let elements = f.elements;
-        let against = f.against;
-        layout::reach_of(elements, against, e)
-    } else {
-        pipes::rank_at(f, spans, lanes, p)
-    }
-}
-
-// The elements that it uses, by the starts of the parts; the stream's elements have the numbers from `first` on.
-fn run_of(f: Flow, spans: &[u32], lanes: &[u16], starts: &[u32], first: u32, p: usize) -> Run
-    requires { ⌜ Using f first (now spans) (now lanes) (now starts) p ⌝ }
-    ensures { λ r. ⌜ RunOf (f .nest) (f .stream) first (processOf (f .nest) p) r ⌝ }
+// Its elements, by the first one that its computing process q uses; the stream's have the numbers from `first` on, and its part begins at
+// `start`.
+fn run_of(f: Flow, spans: &[u32], first: u32, start: u32, q: usize) -> Run
+    requires { ⌜ Running f first (now spans) q ⌝ }
+    ensures { λ r. ⌜ RunOf (f .nest) (f .stream) first start (processOf (f .nest) q) r ⌝ }
 {
     let elements = f.elements;
-    let e = pipes::first_element(f, spans, p);
-    let entry = pipes::entry_at(f, spans, lanes, p);
+    let against = f.against;
+    let pass = f.pass;
+    let e = pipes::first_element(f, spans, q);
+    let before = layout::reach_of(elements, against, e);
+    let stride = stride_of(f);
     Run {
-        number: (first + numbering::row_number(elements, e)) as i32,
-        stride: stride_of(f),
-        place: starts[entry] + soak_by(f, spans, lanes, p, e),
-        count: used_by(f, spans, p),
+        number: (first + numbering::row_number(elements, e)) as i32 - before as i32 * stride,
+        stride: stride,
+        place: start,
+        count: before + 1 + layout::reach_of(elements, pass, e),
     }
+}
+
+// What the pipe says that enters at process p; how many elements it has.
+fn put_moving(
+    f: Flow,
+    spans: &[u32],
+    lanes: &[u16],
+    first: u32,
+    start: u32,
+    p: usize,
+    places: &mut [u32],
+) -> u32
+    requires { ⌜ (Placing f first start (now spans) (now lanes) p (now places)) × (T (f .moving))
+        × (entering (f .nest) (f .stream) (processOf (f .nest) p) ≡ true) ⌝ }
+    ensures { λ r. ⌜ Put (f .nest) (f .stream) first start (processOf (f .nest) p) (now (places .entry)) r (now (places .exit)) ⌝ }
+{
+    let q = pipes::one_at(f, spans, lanes, p) as usize - 1;
+    let r = run_of(f, spans, first, start, q);
+    put_run(r, places);
+    r.count
+}
+
+// ---- a pipe of a stationary stream
+
+// The number of process k of the line that enters at y.
+fn process_on(f: Flow, y: V2, k: u32) -> u32
+    requires { ⌜ Lined f y k ⌝ }
+    ensures { λ r. ⌜ (r < length (processes (f .nest))) × (processOf (f .nest) r ≡ processAt (f .nest) (f .stream) y k) ⌝ }
+{
+    let space = f.space;
+    let way = f.way;
+    numbering::row_number(space, vectors::moved(y, way, k))
+}
+
+// Process q says that its one element waits at a place, if it computes; how many elements it has.
+fn put_own(f: Flow, spans: &[u32], first: u32, place: u32, q: usize, places: &mut [u32]) -> u32
+    requires { ⌜ Owning f first (now spans) q (now places) ⌝ }
+    ensures { λ r. ⌜ (r ≡ oneOf (f .nest) (processOf (f .nest) q))
+        × (now (places .exit) ≡ ownSaid (f .nest) (f .stream) first (processOf (f .nest) q) place (now (places .entry))) ⌝ }
+{
+    if spans[q] == 0 {
+        return 0;
+    }
+    let elements = f.elements;
+    let e = first + numbering::row_number(elements, pipes::first_element(f, spans, q));
+    places[e as usize] = place;
+    1
+}
+
+// What the pipe says that enters at process p, its processes one after the other; how many elements it has.
+fn put_still(f: Flow, spans: &[u32], first: u32, start: u32, p: usize, places: &mut [u32]) -> u32
+    requires { ⌜ Walking f first start (now spans) p (now places) ⌝ }
+    ensures { λ r. ⌜ Put (f .nest) (f .stream) first start (processOf (f .nest) p) (now (places .entry)) r (now (places .exit)) ⌝ }
+{
+    let space = f.space;
+    let way = f.way;
+    let y = layout::point_at(space, p as u32);
+    let reach = layout::reach_of(space, way, y);
+    let mut place = start;
+    let mut k: u32 = 0;
+    while k <= reach {
+        let q = process_on(f, y, k);
+        place += put_own(f, spans, first, place, q as usize, places);
+        k += 1;
+    }
+    place - start
 }
 
 // ---- one stream
 
-// What process p says of a stream; a null process says nothing.
-fn put_process(
+// What the pipe says that enters at process p, if one does; how many elements it has.
+fn put_pipe(
     f: Flow,
     spans: &[u32],
     lanes: &[u16],
-    starts: &[u32],
     first: u32,
+    start: u32,
     p: usize,
     places: &mut [u32],
-)
-    requires { ⌜ Storing f first (now spans) (now lanes) (now starts) p (now places) ⌝ }
-    ensures { λ r. ⌜ now (places .exit)
-        ≡ spread (λ k. elementNumber (f .nest) (f .stream) first (runAt (f .nest) (processOf (f .nest) p) k))
-        (λ k. placeFor (f .nest) (f .stream) first (runAt (f .nest) (processOf (f .nest) p) k))
-        (usedBy (f .nest) (f .stream) (processOf (f .nest) p)) (now (places .entry)) ⌝ }
+) -> u32
+    requires { ⌜ Placing f first start (now spans) (now lanes) p (now places) ⌝ }
+    ensures { λ r. ⌜ (r ≡ enteringLength (f .nest) (f .stream) p) × (r ≤ gaugeLimits .instances)
+        × (now (places .exit) ≡ saidOn (f .nest) (f .stream) first (processOf (f .nest) p) start
+        (enteringLength (f .nest) (f .stream) p) (now (places .entry))) ⌝ }
 {
-    if spans[p] != 0 {
-        put_run(run_of(f, spans, lanes, starts, first, p), places);
+    if pipe_parts::is_entry(f, spans, lanes, p) {
+        if f.moving {
+            put_moving(f, spans, lanes, first, start, p, places)
+        } else {
+            put_still(f, spans, first, start, p, places)
+        }
+    } else {
+        0
     }
 }
 
-// What all processes say.
-fn put_places(
-    f: Flow,
-    processes: u32,
-    spans: &[u32],
-    lanes: &[u16],
-    starts: &[u32],
-    first: u32,
-    places: &mut [u32],
-)
-    requires { ⌜ Saying f processes first (now spans) (now lanes) (now starts) (now places) ⌝ }
+// What all pipes say.
+fn put_places(f: Flow, processes: u32, spans: &[u32], lanes: &[u16], first: u32, places: &mut [u32])
+    requires { ⌜ Saying f processes first (now spans) (now lanes) (now places) ⌝ }
     ensures { λ r. ⌜ now (places .exit) ≡ said (f .nest) (f .stream) first processes (now (places .entry)) ⌝ }
 {
+    let mut start = first;
     let mut p: u32 = 0;
     while p < processes {
-        put_process(f, spans, lanes, starts, first, p as usize, places);
+        start += put_pipe(f, spans, lanes, first, start, p as usize, places);
         p += 1;
     }
 }
@@ -170,9 +217,7 @@ fn fill_stream(n: Nest, s: Stream, first: u32, spans: &[u32], places: &mut [u32]
     let processes = numbering::size_of(space);
     let mut lanes = [0u16; LANES];
     lanes::fill_lanes(f, processes, spans, &mut lanes);
-    let mut starts = [0u32; PROCESSES];
-    pipe_parts::fill_starts(f, processes, spans, &lanes, first, &mut starts);
-    put_places(f, processes, spans, &lanes, &starts, first, places);
+    put_places(f, processes, spans, &lanes, first, places);
 }
 
 // ---- all streams

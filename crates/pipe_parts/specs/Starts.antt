@@ -115,11 +115,6 @@ pub record Counting (f : Flow) (count : ℕ) (spans lanes : List ℕ) : Type 0 w
   pub seen : Seen f spans lanes
   pub counted : count ≡ length (processes (f .nest))
 
-pub record Parting (f : Flow) (count : ℕ) (spans lanes : List ℕ) (first : ℕ) : Type 0 where
-  pub of : Counting f count spans lanes
-  pub small : length (elements (f .nest) (f .stream)) ≤ 4096
-  pub before : first ≤ 24576
-
 module _ (n : Nest) (s : Stream) (first : ℕ) where
   pub start-zero : first ≡ startAt n s first 0
   unfolding filter total

@@ -1,4 +1,4 @@
-// A stream's pipes one by one, in row order of their entries: which processes are entries, where the parts of the lists begin, and what the
+// A stream's pipes one by one, in row order of their entries: which processes are entries, how many elements their pipes have, and what the
 // rows of a pipe's processes read at its entry.
 //
 // specs/, by file:
@@ -11,11 +11,10 @@ ghost use mathlib.Core.Bool.{_&&_};
 ghost use Prim.Native.Nat.{_≤_, _<_};
 ghost use lib.ListN.{length};
 ghost use Rattle.meaning.specs.Limits.{gaugeLimits};
-ghost use Rattle.integers.specs.Fill.{fillBy};
 ghost use Rattle.meaning.specs.Pipes.{isEntry, isPipe};
 ghost use Rattle.layout.specs.Spans.{processOf};
 ghost use Rattle.pipes.specs.Elements.{Near};
-ghost use Rattle.pipe_parts.specs.Starts.{enteringLength, Parting, startAt};
+ghost use Rattle.pipe_parts.specs.Starts.{enteringLength};
 ghost use Rattle.pipe_parts.specs.Heads.{headWords, headed};
 use lanes::Flow;
 use meaning::PROCESSES;
@@ -47,27 +46,6 @@ pub fn entering_length(f: Flow, spans: &[u32], lanes: &[u16], p: usize) -> u32
         pipes::total_at(f, spans, lanes, p)
     } else {
         0
-    }
-}
-
-// For each process the elements of the pipes that enter before it, after `first` others.
-pub fn fill_starts(
-    f: Flow,
-    processes: u32,
-    spans: &[u32],
-    lanes: &[u16],
-    first: u32,
-    out: &mut [u32],
-)
-    requires { ⌜ (Parting f processes (now spans) (now lanes) first) × (processes ≤ length (now out)) ⌝ }
-    ensures { λ r. ⌜ now (out .exit) ≡ fillBy (startAt (f .nest) (f .stream) first) processes (now (out .entry)) ⌝ }
-{
-    let mut start = first;
-    let mut p: u32 = 0;
-    while p < processes {
-        out[p as usize] = start;
-        start += entering_length(f, spans, lanes, p as usize);
-        p += 1;
     }
 }
 

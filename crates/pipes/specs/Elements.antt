@@ -267,25 +267,30 @@ module _ {f : Flow} {spans lanes : List ℕ} {p : ℕ} (h : Near f spans lanes p
           subst (At f spans) j
           (record { flows = h .seen .flows; words = h .seen .of-spans; long = h .seen .long; lt = b; computing = t })
 
-  pub total-one : {q r : ℕ} → getD lanes (3072 + getD lanes p 0) 0 ≡ q → (q ≡ 0 → ⊥)
-      → r ≡ length (pipeElements (f .nest) (f .stream) (processOf (f .nest) (q - 1)))
-      → r ≡ length (pipeElements (f .nest) (f .stream) (processOf (f .nest) p))
-  total-one {q} {r} e g k = k ∙ go (h .seen .of-lanes .one (getD lanes p 0) entry-lt) e g
+  -- its line is the same
+  pub one-elements : {q : ℕ} → getD lanes (3072 + getD lanes p 0) 0 ≡ q → (q ≡ 0 → ⊥)
+      → pipeElements (f .nest) (f .stream) (processOf (f .nest) (q - 1)) ≡ pipeElements (f .nest) (f .stream) (processOf (f .nest) p)
+  one-elements e g = go (h .seen .of-lanes .one (getD lanes p 0) entry-lt) e g
     where
       go : {w q : ℕ}
           → One (entryNumber (f .nest) (f .stream)) (computes (f .nest)) (length (processes (f .nest))) (getD lanes p 0) w → w ≡ q
-          → (q ≡ 0 → ⊥) → length (pipeElements (f .nest) (f .stream) (processOf (f .nest) (q - 1)))
-          ≡ length (pipeElements (f .nest) (f .stream) (processOf (f .nest) p))
+          → (q ≡ 0 → ⊥) → pipeElements (f .nest) (f .stream) (processOf (f .nest) (q - 1))
+          ≡ pipeElements (f .nest) (f .stream) (processOf (f .nest) p)
       go (nobody z k) e g = absurd (g (sym e ∙ z))
       go {q} (somebody i z b t r) e g =
           let j : i ≡ q - 1 = omega arith in
           let hi = points-inside (space (f .nest)) (processOf (f .nest) i) (getD-in (processes (f .nest)) i zero2 b) in
           let o = one-number (space (f .nest)) (entry-is good hi .inside) (entry-is good inside .inside)
           (r ∙ h .seen .of-lanes .entries p (h .lt)) in
-          ap (λ (i : ℕ). length (pipeElements (f .nest) (f .stream) (processOf (f .nest) i))) (sym j)
-          ∙ ap length (same-elements good inside hi
+          ap (λ (i : ℕ). pipeElements (f .nest) (f .stream) (processOf (f .nest) i)) (sym j)
+          ∙ same-elements good inside hi
           (join-pipe (entry-pipe good (processOf (f .nest) p))
-          (flip-pipe (subst (OnePipe (f .nest) (f .stream) (processOf (f .nest) i)) o (entry-pipe good (processOf (f .nest) i))))))
+          (flip-pipe (subst (OnePipe (f .nest) (f .stream) (processOf (f .nest) i)) o (entry-pipe good (processOf (f .nest) i)))))
+
+  pub total-one : {q r : ℕ} → getD lanes (3072 + getD lanes p 0) 0 ≡ q → (q ≡ 0 → ⊥)
+      → r ≡ length (pipeElements (f .nest) (f .stream) (processOf (f .nest) (q - 1)))
+      → r ≡ length (pipeElements (f .nest) (f .stream) (processOf (f .nest) p))
+  total-one e g k = k ∙ ap length (one-elements e g)
 
   -- ---- the rank of a computing process of a stationary stream
 

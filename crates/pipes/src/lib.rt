@@ -105,7 +105,7 @@ pub fn held_at(f: Flow, spans: &[u32], lanes: &[u16], p: usize) -> u32
     lanes[HELD + e] as u32
 }
 
-fn one_at(f: Flow, spans: &[u32], lanes: &[u16], p: usize) -> u32
+pub fn one_at(f: Flow, spans: &[u32], lanes: &[u16], p: usize) -> u32
     requires { ⌜ Near f (now spans) (now lanes) p ⌝ }
     ensures { λ r. ⌜ r ≡ getD (now (lanes .entry)) (spanWords + getD (now (lanes .entry)) p 0) 0 ⌝ }
 {

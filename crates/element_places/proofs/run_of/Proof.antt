@@ -1,84 +1,103 @@
--- `element_places::run_of` meets its contract: numbers below 24,576, starts of at most 28,672 and soaks of at most 1,536 fit 32 bits.
--- Assumes nothing.
+-- `element_places::run_of` meets its contract: the first element of the pipe lies as far back as one can go, and its number is below 24,576
+-- as well, so that the product fits. Assumes nothing.
 use borrow.Author.Needs.{needs}
-use mathlib.Core.Path.{_∙_, ap, ap₂}
-use Prim.Native.Nat.{ℕ, _+_, _≤_}
+use mathlib.Core.Path.{refl}
+use Prim.Native.Nat.{_+_, _≤_}
 use native.Mathlib.Omega.{arith}
-use lib.IntN.{pos}
-use Rattle.integers.specs.Words.{bits, held}
-use Rattle.element_places.specs.Lent.{near-using, at-using, elements-spanning, inside-elements, soaking}
-use Rattle.element_places.specs.Lent.{number-is, number-fits, part-low, part-here, run-is}
+use Rattle.integers.specs.Words.{bits, held, box, sub, fits}
+use Rattle.pipes.specs.Elements.{going-against, going-first, length-moving}
+use Rattle.element_places.specs.Lent.{elements-spanning, inside-elements, number-fits, back-holds, run-is}
 use Rattle.element_places.proofs.run_of.Statement.{statement}
 use Rattle.element_places.proofs.run_of.Tie as tie
 
 first-element-requires : tie.Need-first-element-requires
-first-element-requires c κs = at-using (c .before .before .before .before .pre)
+first-element-requires c κs = c .before .before .before .before .pre .at
 
-entry-at-requires : tie.Need-entry-at-requires
-entry-at-requires c κs = near-using (c .before .before .before .before .before .pre)
+reach-of-requires : tie.Need-reach-of-requires
+reach-of-requires c κs =
+    let p = c .before .before .before .before .before .pre in
+    going-against (p .at) (p .moves) (c .first-element .ensures)
+
+stride-of-requires : tie.Need-stride-of-requires
+stride-of-requires c κs = c .before .before .before .before .before .before .pre .at .flows
 
 row-number-requires : tie.Need-row-number-requires
 row-number-requires c κs =
-    let p = c .before .before .before .before .before .before .pre in
-    (elements-spanning (p .placing .seen .flows), inside-elements p (c .before .first-element .ensures))
-
-add-t11 : tie.Need-add-t11
-add-t11 c =
     let p = c .before .before .before .before .before .before .before .pre in
-    record { fits = omega (arith, number-fits p (c .before .before .first-element .ensures) (c .row-number .ensures)) }
+    (elements-spanning (p .at .flows), inside-elements (p .at) (c .before .before .first-element .ensures))
 
-cast-t12 : tie.Need-cast-t12
-cast-t12 c =
-    let p = c .before .before .before .before .before .before .before .pre in
-    omega (arith, number-fits p (c .before .before .first-element .ensures) (c .row-number .ensures))
+add-t13 : tie.Need-add-t13
+add-t13 c =
+    let a = c .before .before .before .before .before .before .before .before in
+    let e = c .before .before .before .first-element .ensures in
+    record { fits = omega (arith, number-fits (a .pre .at) e (a .args .first) (a .pre .fits) (c .row-number .ensures)) }
 
-stride-of-requires : tie.Need-stride-of-requires
-stride-of-requires c κs = search needs
+cast-t14 : tie.Need-cast-t14
+cast-t14 c =
+    let a = c .before .before .before .before .before .before .before .before in
+    let e = c .before .before .before .first-element .ensures in
+    omega (arith, number-fits (a .pre .at) e (a .args .first) (a .pre .fits) (c .row-number .ensures))
 
-mul-t14 : tie.Need-mul-t14
-mul-t14 c = search needs
+cast-t15 : tie.Need-cast-t15
+cast-t15 c = omega (arith, c .before .before .reach-of .ensures .1)
 
-shared-slice-read-t16 : tie.Need-shared-slice-read-t16
-shared-slice-read-t16 c = search needs
+mul-t16 : tie.Need-mul-t16
+mul-t16 c =
+    let r = c .before .before .reach-of .ensures in
+    let t = c .before .stride-of in
+    let a = c .before .before .before .before .before .before .before .before in
+    fits tt (back-holds (a .pre) (c .before .before .before .first-element .ensures) (r .0) (r .1) (t .ensures) (t .ok))
 
-soak-by-requires : tie.Need-soak-by-requires
-soak-by-requires c κs =
-    let p = c .before .before .before .before .before .before .before .before .before .pre in
-    soaking p (c .before .before .before .before .first-element .ensures)
+sub-t17 : tie.Need-sub-t17
+sub-t17 c =
+    let a = c .before .before .before .before .before .before .before .before in
+    let e = c .before .before .before .first-element .ensures in
+    let r = c .before .before .reach-of .ensures in
+    let t = c .before .stride-of in
+    let small : a .args .first + c .row-number .result ≤ 24576 =
+    omega (arith, number-fits (a .pre .at) e (a .args .first) (a .pre .fits) (c .row-number .ensures)) in
+    fits tt (sub (bits tt small) (box tt (back-holds (a .pre) e (r .0) (r .1) (t .ensures) (t .ok))))
 
 add-t18 : tie.Need-add-t18
-add-t18 c =
-    let p = c .before .before .before .before .before .before .before .before .before .before .pre in
-    record { fits = omega (arith, c .soak-by .ensures .1, part-low p (c .before .before .before .before .entry-at .ensures .0)) }
+add-t18 c = search needs
 
-used-by-requires : tie.Need-used-by-requires
-used-by-requires c κs = at-using (c .before .before .before .before .before .before .before .before .before .before .pre)
+reach-of-requires-2 : tie.Need-reach-of-requires-2
+reach-of-requires-2 c κs =
+    let p = c .before .before .before .before .before .before .before .before .pre in
+    going-first (p .at) (p .moves) (c .before .before .before .first-element .ensures)
+
+add-t20 : tie.Need-add-t20
+add-t20 c = search needs
 
 returns : tie.Need-returns
 returns c =
-    let a = c .before .before .before .before .before .before .before .before .before .before .before in
-    let s = c .before .soak-by .ensures in
-    let e = c .before .before .before .before .before .before .first-element .ensures in
-    let r = c .before .before .before .before .row-number in
-    let g = c .before .before .before .before .before .entry-at .ensures .0 in
-    let t = c .before .before .before .stride-of in
-    let small : a .args .first + r .result ≤ 24576 = omega (arith, number-fits (a .pre) e (r .ensures)) in
-    run-is (a .pre) (bits tt small .eq ∙ ap (λ (i : ℕ). pos (a .args .first + i)) (number-is (a .pre) e (r .ensures)))
-    (held (t .ok) (t .ensures)) (ap₂ _+_ (part-here (a .pre) g) (s .0)) (omega (arith, s .1, part-low (a .pre) g)) (c .used-by .ensures)
+    let a = c .before .before .before .before .before .before .before .before .before in
+    let e = c .before .before .before .before .first-element .ensures in
+    let r = c .before .before .before .reach-of .ensures in
+    let t = c .before .before .stride-of in
+    let i = c .before .row-number in
+    let small : a .args .first + i .result ≤ 24576 =
+    omega (arith, number-fits (a .pre .at) e (a .args .first) (a .pre .fits) (i .ensures)) in
+    run-is (a .pre) e (r .0) (i .ensures)
+    (box tt (sub (bits tt small) (box tt (back-holds (a .pre) e (r .0) (r .1) (t .ensures) (t .ok)))) .eq)
+    (held (t .ok) (t .ensures)) refl
+    (length-moving (a .pre .at) (a .pre .moves) e (r .0) (c .reach-of2 .ensures .0))
+    (omega (arith, r .1, c .reach-of2 .ensures .1))
 
 pub run-of-spec : {M : Type 1} → statement M
 run-of-spec =
     tie.close
     (tie.spec
     first-element-requires
-    entry-at-requires
-    row-number-requires
-    add-t11
-    cast-t12
+    reach-of-requires
     stride-of-requires
-    mul-t14
-    shared-slice-read-t16
-    soak-by-requires
+    row-number-requires
+    add-t13
+    cast-t14
+    cast-t15
+    mul-t16
+    sub-t17
     add-t18
-    used-by-requires
+    reach-of-requires-2
+    add-t20
     returns)
