@@ -21,6 +21,8 @@ ghost use Rattle.meaning.specs.Space.{processes};
 ghost use Rattle.geometry.specs.Wiring.{processAt};
 ghost use Rattle.layout.specs.Spans.{processOf, Spans, spanWords};
 ghost use Rattle.lanes.specs.Flow.{Flows};
+ghost use Rattle.lanes.specs.All.{LanesIn};
+ghost use Rattle.figures.specs.Shares.{AllLanes};
 ghost use Rattle.pipe_parts.specs.Starts.{entering, enteringLength};
 ghost use Rattle.element_places.specs.Spread.{spread};
 ghost use Rattle.element_places.specs.Order.{saidOn, Put, said, PlacesOf, Placeable};
@@ -208,23 +210,22 @@ fn put_places(f: Flow, processes: u32, spans: &[u32], lanes: &[u16], first: u32,
     }
 }
 
-fn fill_stream(n: Nest, s: Stream, first: u32, spans: &[u32], places: &mut [u32])
-    requires { ⌜ Streaming n s first (now spans) (now places) ⌝ }
+fn fill_stream(n: Nest, s: Stream, first: u32, spans: &[u32], lanes: &[u16], places: &mut [u32])
+    requires { ⌜ (Streaming n s first (now spans) (now places)) × (LanesIn n s (now lanes)) ⌝ }
     ensures { λ r. ⌜ now (places .exit) ≡ said n s first (length (processes n)) (now (places .entry)) ⌝ }
 {
     let f = lanes::flow_of(n, s);
     let space = f.space;
     let processes = numbering::size_of(space);
-    let mut lanes = [0u16; LANES];
-    lanes::fill_lanes(f, processes, spans, &mut lanes);
-    put_places(f, processes, spans, &lanes, first, places);
+    put_places(f, processes, spans, lanes, first, places);
 }
 
 // ---- all streams
 
 // The place of each element in the waiting list.
-pub fn fill_places(d: Description, spans: &[u32], places: &mut [u32])
-    requires { ⌜ (Placeable d) × (Spans (d .nest) (now spans)) × (spanWords ≤ length (now spans)) × (length (now places) ≡ elementsMost) ⌝ }
+pub fn fill_places(d: Description, spans: &[u32], lanes: &[u16], places: &mut [u32])
+    requires { ⌜ (Placeable d) × (Spans (d .nest) (now spans)) × (spanWords ≤ length (now spans)) × (AllLanes d (now lanes))
+        × (length (now places) ≡ elementsMost) ⌝ }
     ensures { λ r. ⌜ PlacesOf d (now (places .exit)) ⌝ }
 {
     let n = d.nest;
@@ -233,7 +234,9 @@ pub fn fill_places(d: Description, spans: &[u32], places: &mut [u32])
     while i < m {
         let s = decode::stream(d, i as usize);
         let first = elements::elements_in(d, i);
-        fill_stream(n, s, first, spans, places);
+        let a = LANES * i as usize;
+        let e = a + LANES;
+        fill_stream(n, s, first, spans, &lanes[a..e], places);
         i += 1;
     }
 }
