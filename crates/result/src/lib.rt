@@ -15,10 +15,12 @@ ghost use Rattle.meaning.specs.Description.{descriptionOf};
 ghost use Rattle.meaning.specs.Rules.{memoryOf};
 ghost use Rattle.meaning.specs.Calls.{lengthOf, result};
 ghost use Rattle.layout.specs.Spans.{Spans, spanWords};
+ghost use Rattle.figures.specs.Shares.{AllLanes};
 ghost use Rattle.element_places.specs.Order.{Placeable};
 ghost use Rattle.result.specs.Out.{outBy, Asked};
 ghost use Rattle.result.specs.Order.{placed, Readable, elementOrder};
 ghost use Rattle.result.specs.Call.{Called, Drawable};
+use lanes::ALL;
 use layout::SPANS;
 use meaning::Answer;
 use meaning::Description;
@@ -55,13 +57,13 @@ fn put_in_order(received: &[u32], places: &[u32], elements: usize, output: &mut 
     }
 }
 
-fn fill_output(d: Description, spans: &[u32], received: &[u32], output: &mut [u32])
+fn fill_output(d: Description, spans: &[u32], lanes: &[u16], received: &[u32], output: &mut [u32])
     requires { ⌜ (Placeable d) × (length (now received) ≡ lengthOf d) × (length (now output) ≡ lengthOf d)
-        × (Spans (d .nest) (now spans)) × (spanWords ≤ length (now spans)) ⌝ }
+        × (Spans (d .nest) (now spans)) × (spanWords ≤ length (now spans)) × (AllLanes d (now lanes)) ⌝ }
     ensures { λ r. ⌜ now (output .exit) ≡ elementOrder d (now (received .entry)) ⌝ }
 {
     let mut places = [0u32; ELEMENTS];
-    element_places::fill_places(d, spans, &mut places);
+    element_places::fill_places(d, spans, lanes, &mut places);
     put_in_order(received, &places, received.len(), output);
 }
 
@@ -70,19 +72,21 @@ fn result_opened(
     s: &[u8],
     ports: &[u32],
     spans: &[u32],
+    lanes: &[u16],
     z: Size,
     received: &[u32],
     state: &[u32],
     output: &mut [u32],
 ) -> Answer
     requires { ⌜ (Drawable (now s) (now ports) z (now received) (now state))
-        × (Spans (descriptionOf (now s) .nest) (now spans)) × (spanWords ≤ length (now spans)) ⌝ }
+        × (Spans (descriptionOf (now s) .nest) (now spans)) × (spanWords ≤ length (now spans))
+        × (AllLanes (descriptionOf (now s)) (now lanes)) ⌝ }
     ensures { λ r. ⌜ Called (now (s .entry)) (now (received .entry)) (now (state .entry)) (now (output .entry)) r (now (output .exit)) ⌝ }
 {
     let out = all_out(ports, state, z.pipes);
     let r = declines::of_result(out, output.len() == received.len());
     if r == 0 {
-        fill_output(decode::description(s), spans, received, output);
+        fill_output(decode::description(s), spans, lanes, received, output);
         Answer::Done
     } else {
         Answer::Refused(r)
@@ -107,12 +111,22 @@ pub fn result(
 {
     let mut spans = [0u32; SPANS];
     let mut ports = [0u32; PORTS];
-    let o = opening::open(board, s, waiting, received, state, &mut spans, &mut ports);
+    let mut lanes = [0u16; ALL];
+    let o = opening::open_with_lanes(
+        board,
+        s,
+        waiting,
+        received,
+        state,
+        &mut spans,
+        &mut lanes,
+        &mut ports,
+    );
     let r = o.refusal;
     if r == 0 {
         let z = o.size;
         let spans = &spans;
-        result_opened(s, &ports, spans, z, received, state, output)
+        result_opened(s, &ports, spans, &lanes, z, received, state, output)
     } else {
         Answer::Refused(r)
     }

@@ -11,9 +11,11 @@ ghost use Rattle.meaning.specs.Limits.{limitsOf};
 ghost use Rattle.meaning.specs.Rules.{memoryOf};
 ghost use Rattle.meaning.specs.Calls.{start};
 ghost use Rattle.layout.specs.Spans.{Spans, spanWords};
+ghost use Rattle.figures.specs.Shares.{AllLanes};
 ghost use Rattle.element_places.specs.Order.{Placeable};
 ghost use Rattle.start.specs.Values.{Puttable, put};
 ghost use Rattle.start.specs.Call.{startedBy, Called, Fitting};
+use lanes::ALL;
 use layout::SPANS;
 use meaning::Answer;
 use meaning::Description;
@@ -39,18 +41,19 @@ fn fill_memory(
     d: Description,
     f: Figures,
     spans: &[u32],
+    lanes: &[u16],
     values: &[u32],
     waiting: &mut [u32],
     received: &mut [u32],
     state: &mut [u32],
 )
     requires { ⌜ (Fitting d f (now values) (memoryOf (now waiting) (now received) (now state))) × (Spans (d .nest) (now spans))
-        × (spanWords ≤ length (now spans)) ⌝ }
+        × (spanWords ≤ length (now spans)) × (AllLanes d (now lanes)) ⌝ }
     ensures { λ r. ⌜ memoryOf (now (waiting .exit)) (now (received .exit)) (now (state .exit))
         ≡ startedBy d (now (values .entry)) (memoryOf (now (waiting .entry)) (now (received .entry)) (now (state .entry))) ⌝ }
 {
     let mut places = [0u32; ELEMENTS];
-    element_places::fill_places(d, spans, &mut places);
+    element_places::fill_places(d, spans, lanes, &mut places);
     put_values(values, &places, waiting);
     sweeps::clear(f.elements, received);
     sweeps::clear(f.words, state);
@@ -69,10 +72,11 @@ fn start_accepted(
     ensures { λ r. ⌜ Called d (now (values .entry)) (memoryOf (now (waiting .entry)) (now (received .entry)) (now (state .entry))) r
         (memoryOf (now (waiting .exit)) (now (received .exit)) (now (state .exit))) ⌝ }
 {
-    let f = figures::figures_of(d, spans);
+    let mut lanes = [0u16; ALL];
+    let f = figures::figures_of(d, spans, &mut lanes);
     let r = declines::of_start(f, values.len(), waiting.len(), received.len(), state.len());
     if r == 0 {
-        fill_memory(d, f, spans, values, waiting, received, state);
+        fill_memory(d, f, spans, &lanes, values, waiting, received, state);
         Answer::Done
     } else {
         Answer::Refused(r)

@@ -10,7 +10,7 @@ slice-aggregate-fill-places : tie.Need-slice-aggregate-fill-places
 slice-aggregate-fill-places c = search needs
 
 fill-places-requires : tie.Need-fill-places-requires
-fill-places-requires c κs = let p = c .before .before .before .before .before .before .pre in (p .0 .placeable, p .1, p .2, omega arith)
+fill-places-requires c κs = let p = c .before .before .before .before .before .before .before .pre in (p .0 .placeable, p .1, p .2, p .3, omega arith)
 
 slice-aggregate-put-values : tie.Need-slice-aggregate-put-values
 slice-aggregate-put-values c = search needs
@@ -18,17 +18,17 @@ slice-aggregate-put-values c = search needs
 put-values-requires : tie.Need-put-values-requires
 put-values-requires c κs =
     let f = c .before .before .before in
-    putting (f .before .before .before .before .before .before .before .pre .0) (f .fill-places .ensures)
-    (omega (arith, f .fill-places .kept .1 .1 .0))
+    putting (f .before .before .before .before .before .before .before .before .pre .0) (f .fill-places .ensures)
+    (omega (arith, f .fill-places .kept .1 .1 .1 .0))
 
 clear-requires : tie.Need-clear-requires
 clear-requires c κs =
-    let p = c .before .before .before .before .before .before .before .before .before .before .before .before .before .before .pre .0 in
+    let p = c .before .before .before .before .before .before .before .before .before .before .before .before .before .before .before .pre .0 in
     omega (arith, elements-is p, p .received)
 
 clear-requires-2 : tie.Need-clear-requires-2
 clear-requires-2 c κs = let p = c .before .before .before .before .before .before .before .before .before .before .before .before .before
-    .before .before .before .before .before .pre .0 in omega (arith, words-is p, p .state)
+    .before .before .before .before .before .before .pre .0 in omega (arith, words-is p, p .state)
 
 same-length : tie.Need-same-length
 same-length c = search needs
@@ -42,7 +42,7 @@ same-length-3 c = search needs
 returns : tie.Need-returns
 returns c =
     let f = c .before .before .before .before .before .before .before .before .before .before .before .before .before .before in
-    memory-filled (f .before .before .before .before .before .before .before .pre .0)
+    memory-filled (f .before .before .before .before .before .before .before .before .pre .0)
     (f .fill-places .ensures) (c .before .before .before .before .before .before .before .before .before .before .put-values .ensures)
     (c .before .before .before .before .before .before .clear .ensures) (c .before .before .clear2 .ensures)
 
