@@ -38,18 +38,19 @@ pub record Lined (f : Flow) (y : V2) (k : ℕ) : Type 0 where
   pub few : k ≤ 1536
   pub lt : k < length (pipe (f .nest) (f .stream) y)
 
--- a process, and room for the place of its element
-pub record Owning (f : Flow) (from : ℕ) (spans : List ℕ) (q : ℕ) (places : List ℕ) : Type 0 where
+-- a process, the place of its element and room for it
+pub record Owning (f : Flow) (from : ℕ) (spans : List ℕ) (q place : ℕ) (places : List ℕ) : Type 0 where
   pub flows : Flows f
   pub of-spans : Spans (f .nest) spans
   pub long : 3072 ≤ length spans
   pub lt : q < length (processes (f .nest))
   pub fits : from + length (elements (f .nest) (f .stream)) ≤ 24576
+  pub low : place ≤ 30208
   pub words : length places ≡ 24576
 
 -- an entry of a stationary stream
 pub record Walking (f : Flow) (from start : ℕ) (spans : List ℕ) (p : ℕ) (places : List ℕ) : Type 0 where
-  pub own : Owning f from spans p places
+  pub own : Owning f from spans p start places
   pub still : T (stationary (f .nest) (f .stream))
   pub zero : before (f .nest) (f .stream) (processOf (f .nest) p) ≡ 0
   pub low : start ≤ 28672
@@ -86,7 +87,7 @@ module _ {f : Flow} {y : V2} {k : ℕ} (h : Lined f y k) {z : V2} (e : z ≡ shi
 
 -- ---- whether it computes
 
-module _ {f : Flow} {from : ℕ} {spans : List ℕ} {q : ℕ} {places : List ℕ} (h : Owning f from spans q places) where
+module _ {f : Flow} {from : ℕ} {spans : List ℕ} {q place : ℕ} {places : List ℕ} (h : Owning f from spans q place places) where
   abbrev here : V2
   here = processOf (f .nest) q
 
@@ -109,15 +110,17 @@ module _ {f : Flow} {from : ℕ} {spans : List ℕ} {q : ℕ} {places : List ℕ
         computing = subst T (sym (computes-here g)) tt;
       }
 
-  -- another process, and the places as they are by then
-  pub owning : {r : ℕ} {now : List ℕ} → r < length (processes (f .nest)) → length now ≡ length places → Owning f from spans r now
-  owning l e =
+  -- another process, its place, and the places as they are by then
+  pub owning : {r at : ℕ} {now : List ℕ} → r < length (processes (f .nest)) → at ≤ 30208 → length now ≡ length places
+      → Owning f from spans r at now
+  owning l b e =
       record {
         flows = h .flows;
         of-spans = h .of-spans;
         long = h .long;
         lt = l;
         fits = h .fits;
+        low = b;
         words = e ∙ h .words;
       }
 
@@ -173,6 +176,7 @@ walking h e still =
         long = seen .long;
         lt = h .near .lt;
         fits = h .fits;
+        low = omega (arith, h .low);
         words = h .words;
       };
       still = still-of (h .near) still;

@@ -56,7 +56,7 @@ fn number_after(r: Run, k: u32) -> u32
 }
 
 // Its elements wait at consecutive places.
-fn put_run(r: Run, places: &mut [u32])
+fn put_run(r: Run, places: &mut [u16])
     requires { ⌜ Fits r (length (now places)) ⌝ }
     ensures { λ r′. ⌜ now (places .exit)
         ≡ spread (λ k. up (numberAfter r k)) (λ k. r .place + k) (r .count) (now (places .entry)) ⌝ }
@@ -65,7 +65,7 @@ fn put_run(r: Run, places: &mut [u32])
     let count = r.count;
     let mut k: u32 = 0;
     while k < count {
-        places[number_after(r, k) as usize] = place + k;
+        places[number_after(r, k) as usize] = (place + k) as u16;
         k += 1;
     }
 }
@@ -111,7 +111,7 @@ fn put_moving(
     first: u32,
     start: u32,
     p: usize,
-    places: &mut [u32],
+    places: &mut [u16],
 ) -> u32
     requires { ⌜ (Placing f first start (now spans) (now lanes) p (now places)) × (T (f .moving))
         × (entering (f .nest) (f .stream) (processOf (f .nest) p) ≡ true) ⌝ }
@@ -136,8 +136,8 @@ fn process_on(f: Flow, y: V2, k: u32) -> u32
 }
 
 // Process q says that its one element waits at a place, if it computes; how many elements it has.
-fn put_own(f: Flow, spans: &[u32], first: u32, place: u32, q: usize, places: &mut [u32]) -> u32
-    requires { ⌜ Owning f first (now spans) q (now places) ⌝ }
+fn put_own(f: Flow, spans: &[u32], first: u32, place: u32, q: usize, places: &mut [u16]) -> u32
+    requires { ⌜ Owning f first (now spans) q place (now places) ⌝ }
     ensures { λ r. ⌜ (r ≡ oneOf (f .nest) (processOf (f .nest) q))
         × (now (places .exit) ≡ ownSaid (f .nest) (f .stream) first (processOf (f .nest) q) place (now (places .entry))) ⌝ }
 {
@@ -146,12 +146,12 @@ fn put_own(f: Flow, spans: &[u32], first: u32, place: u32, q: usize, places: &mu
     }
     let elements = f.elements;
     let e = first + numbering::row_number(elements, pipes::first_element(f, spans, q));
-    places[e as usize] = place;
+    places[e as usize] = place as u16;
     1
 }
 
 // What the pipe says that enters at process p, its processes one after the other; how many elements it has.
-fn put_still(f: Flow, spans: &[u32], first: u32, start: u32, p: usize, places: &mut [u32]) -> u32
+fn put_still(f: Flow, spans: &[u32], first: u32, start: u32, p: usize, places: &mut [u16]) -> u32
     requires { ⌜ Walking f first start (now spans) p (now places) ⌝ }
     ensures { λ r. ⌜ Put (f .nest) (f .stream) first start (processOf (f .nest) p) (now (places .entry)) r (now (places .exit)) ⌝ }
 {
@@ -179,7 +179,7 @@ fn put_pipe(
     first: u32,
     start: u32,
     p: usize,
-    places: &mut [u32],
+    places: &mut [u16],
 ) -> u32
     requires { ⌜ Placing f first start (now spans) (now lanes) p (now places) ⌝ }
     ensures { λ r. ⌜ (r ≡ enteringLength (f .nest) (f .stream) p) × (r ≤ gaugeLimits .instances)
@@ -198,7 +198,7 @@ fn put_pipe(
 }
 
 // What all pipes say.
-fn put_places(f: Flow, processes: u32, spans: &[u32], lanes: &[u16], first: u32, places: &mut [u32])
+fn put_places(f: Flow, processes: u32, spans: &[u32], lanes: &[u16], first: u32, places: &mut [u16])
     requires { ⌜ Saying f processes first (now spans) (now lanes) (now places) ⌝ }
     ensures { λ r. ⌜ now (places .exit) ≡ said (f .nest) (f .stream) first processes (now (places .entry)) ⌝ }
 {
@@ -210,7 +210,7 @@ fn put_places(f: Flow, processes: u32, spans: &[u32], lanes: &[u16], first: u32,
     }
 }
 
-fn fill_stream(n: Nest, s: Stream, first: u32, spans: &[u32], lanes: &[u16], places: &mut [u32])
+fn fill_stream(n: Nest, s: Stream, first: u32, spans: &[u32], lanes: &[u16], places: &mut [u16])
     requires { ⌜ (Streaming n s first (now spans) (now places)) × (LanesIn n s (now lanes)) ⌝ }
     ensures { λ r. ⌜ now (places .exit) ≡ said n s first (length (processes n)) (now (places .entry)) ⌝ }
 {
@@ -223,7 +223,7 @@ fn fill_stream(n: Nest, s: Stream, first: u32, spans: &[u32], lanes: &[u16], pla
 // ---- all streams
 
 // The place of each element in the waiting list.
-pub fn fill_places(d: Description, spans: &[u32], lanes: &[u16], places: &mut [u32])
+pub fn fill_places(d: Description, spans: &[u32], lanes: &[u16], places: &mut [u16])
     requires { ⌜ (Placeable d) × (Spans (d .nest) (now spans)) × (spanWords ≤ length (now spans)) × (AllLanes d (now lanes))
         × (length (now places) ≡ elementsMost) ⌝ }
     ensures { λ r. ⌜ PlacesOf d (now (places .exit)) ⌝ }

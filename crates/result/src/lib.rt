@@ -45,7 +45,7 @@ fn all_out(ports: &[u32], state: &[u32], pipes: usize) -> bool
 }
 
 // The values at the places of their elements, element by element.
-fn put_in_order(received: &[u32], places: &[u32], elements: usize, output: &mut [u32])
+fn put_in_order(received: &[u32], places: &[u16], elements: usize, output: &mut [u32])
     requires { ⌜ Readable (now received) (now places) elements (now output) ⌝ }
     ensures { λ r. ⌜ now (output .exit) ≡ fillBy (placed (now (received .entry)) (now (places .entry))) elements (now (output .entry)) ⌝ }
 {
@@ -62,7 +62,7 @@ fn fill_output(d: Description, spans: &[u32], lanes: &[u16], received: &[u32], o
         × (Spans (d .nest) (now spans)) × (spanWords ≤ length (now spans)) × (AllLanes d (now lanes)) ⌝ }
     ensures { λ r. ⌜ now (output .exit) ≡ elementOrder d (now (received .entry)) ⌝ }
 {
-    let mut places = [0u32; ELEMENTS];
+    let mut places = [0u16; ELEMENTS];
     element_places::fill_places(d, spans, lanes, &mut places);
     put_in_order(received, &places, received.len(), output);
 }

@@ -23,7 +23,7 @@ use meaning::ELEMENTS;
 use meaning::Figures;
 
 // The values at the places of their elements.
-fn put_values(values: &[u32], places: &[u32], waiting: &mut [u32])
+fn put_values(values: &[u32], places: &[u16], waiting: &mut [u32])
     requires { ⌜ Puttable (now values) (now places) (now waiting) ⌝ }
     ensures { λ r. ⌜ now (waiting .exit)
         ≡ put (now (values .entry)) (now (places .entry)) (length (now (values .entry))) (now (waiting .entry)) ⌝ }
@@ -52,7 +52,7 @@ fn fill_memory(
     ensures { λ r. ⌜ memoryOf (now (waiting .exit)) (now (received .exit)) (now (state .exit))
         ≡ startedBy d (now (values .entry)) (memoryOf (now (waiting .entry)) (now (received .entry)) (now (state .entry))) ⌝ }
 {
-    let mut places = [0u32; ELEMENTS];
+    let mut places = [0u16; ELEMENTS];
     element_places::fill_places(d, spans, lanes, &mut places);
     put_values(values, &places, waiting);
     sweeps::clear(f.elements, received);

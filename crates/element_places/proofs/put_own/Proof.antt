@@ -40,7 +40,10 @@ add-e c =
     record { fits = omega (arith, number-fits a e (s .args .first) (s .pre .fits) (c .row-number .ensures)) }
 
 cast-places : tie.Need-cast-places
-cast-places c = search needs
+cast-places c = let p = c .before .before .before .before .before .before .before .pre in omega (arith, p .low)
+
+cast-places-2 : tie.Need-cast-places-2
+cast-places-2 c = search needs
 
 mul-places : tie.Need-mul-places
 mul-places c = search needs
@@ -77,6 +80,7 @@ put-own-spec =
     row-number-requires
     add-e
     cast-places
+    cast-places-2
     mul-places
     slice-write-places
     same-length

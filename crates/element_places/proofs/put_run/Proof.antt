@@ -30,7 +30,11 @@ number-after-requires : tie.Need-number-after-requires Inv-loop μ-loop
 number-after-requires c κs = counts (c .before .before .before .pre) (c .loop-test .taken)
 
 cast-places : tie.Need-cast-places Inv-loop μ-loop
-cast-places c = search needs
+cast-places c =
+    let p = c .before .before .before .pre in omega (arith, c .loop-test .taken, p .few, p .low)
+
+cast-places-2 : tie.Need-cast-places-2 Inv-loop μ-loop
+cast-places-2 c = search needs
 
 mul-places : tie.Need-mul-places Inv-loop μ-loop
 mul-places c = search needs
@@ -72,8 +76,9 @@ put-run-spec =
     μ-loop
     loop-holds
     add-places
-    number-after-requires
     cast-places
+    number-after-requires
+    cast-places-2
     mul-places
     slice-write-places
     add-k

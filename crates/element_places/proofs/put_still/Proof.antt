@@ -43,7 +43,10 @@ cast-put-own c = search needs
 put-own-requires : tie.Need-put-own-requires Inv-loop μ-loop
 put-own-requires c κs =
     let l = c .before .before .before in
-    owning (l .before .before .before .before .before .before .before .pre .own) (c .before .process-on .ensures .0) (l .loop .inv .1)
+    let s = l .before .before .before .before .before .before .before in
+    let low : l .loop .place ≤ 30208 =
+    omega (arith, next-most (l .loop .inv .2), s .pre .low, c .before .before .loop-test .taken, l .before .reach-of .ensures .1) in
+    owning (s .pre .own) (c .before .process-on .ensures .0) low (l .loop .inv .1)
 
 add-place : tie.Need-add-place Inv-loop μ-loop
 add-place c =
