@@ -16,14 +16,14 @@ use Rattle.lists.specs.Tests.{both-true}
 use Rattle.ports.specs.Rows.{rowOf}
 use Rattle.ports.specs.declared.Port.{Port}
 use Rattle.port_table.specs.declared.Size.{Size}
-use Rattle.port_table.specs.PortsOf.{portAt, RowsFit}
+use Rattle.port_table.specs.PortsOf.{portTableWords, portAt, RowsFit}
 use Rattle.step_rules.specs.Fits.{Inside}
 use Rattle.step_rules.specs.Meaning.{stepNamed, Kind, Kind.is-send, Kind.is-take, Kind.is-fire, Kind.is-give, Kind.is-receive, kind-of}
 use Rattle.step_rules.specs.Meaning.{Stands}
 
 -- a port table that has rows for so many processes and streams
 pub record Rows (b : List ℕ) (z : Size) : Type 0 where
-  pub words : length b ≡ 116736
+  pub words : length b ≡ portTableWords
   pub processes : z .processes ≤ 1024
   pub streams : z .streams ≤ 6
 

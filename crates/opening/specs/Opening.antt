@@ -31,7 +31,7 @@ use Rattle.ports.specs.Layout.{Regular}
 use Rattle.ports.specs.Rows.{rowOf}
 use Rattle.sound_rows.specs.Rows.{Single}
 use Rattle.port_table.specs.declared.Size.{Size}
-use Rattle.port_table.specs.PortsOf.{SizeOf, PortsOf, RowsFit, PartsFit}
+use Rattle.port_table.specs.PortsOf.{portTableWords, SizeOf, PortsOf, RowsFit, PartsFit}
 use Rattle.sound.specs.States.{stateSound}
 use Rattle.sound.specs.Meaning.{sound-is}
 use Rattle.port_fits.specs.Instances.{count-is, count-most, instance-is}
@@ -84,7 +84,7 @@ pub record Standing (d : Description) (z : Size) (state ports : List ℕ) : Type
   pub grounds : Grounds d
   pub size : z ≡ sizeOf d
   pub long : stateLength d ≤ length state
-  pub words : length ports ≡ 116736
+  pub words : length ports ≡ portTableWords
 
 module _ {d : Description} {z : Size} {state ports : List ℕ} (h : Standing d z state ports) {b : List ℕ} (p : PortsOf (arrayOf d) b) where
   pub rows-fit-in : RowsFit (length state) b z

@@ -37,32 +37,31 @@ use Rattle.addresses.specs.Pipes.{entryCount, base, entryAt, base-next, part-st
 use Rattle.addresses.specs.Through.{pointOf}
 use Rattle.addresses.specs.Ends.{number-lt, number-point, entry-inside}
 use Rattle.addresses.specs.Indices.{portWords as portSize, endsWords, strideOf, process-count, stream-count}
-use Rattle.ports.specs.declared.Port.{Port}
-use Rattle.ports.specs.declared.End.{End}
 use Rattle.ports.specs.Rows.{rowOf}
 use Rattle.ports.specs.Ends.{endOf}
 use Rattle.layout.specs.Spans.{Spans}
 use Rattle.elements.specs.Counts.{total-most}
-use Rattle.pipe_parts.specs.Starts.{entering, startAt, enteredAt, entered-next, one-yes}
-use Rattle.figures.specs.Shares.{Described, share-small, totals-room, stream-sharing}
+use Rattle.pipe_parts.specs.Starts.{entering, startAt, start-most, enteredAt, entered-next, one-yes}
+use Rattle.figures.specs.Shares.{Described, Sharing, share-small, totals-room, stream-sharing}
 use Rattle.port_rows.specs.declared.Strand.{Strand}
-use Rattle.port_rows.specs.Strands.{Narrow, endFrom}
+use Rattle.port_rows.specs.Strands.{Narrow, rowFrom, endFrom}
 use Rattle.port_rows.specs.Rows.{StrandOf, row-is, end-is}
-use Rattle.port_table.specs.Rows.{portWords, endWords}
-use Rattle.port_table.specs.PortsOf.{PortsOf}
+use Rattle.port_table.specs.Rows.{EndWide, read-port, read-end, port-stays, end-stays}
+use Rattle.port_table.specs.PortsOf.{PortsOf, portTableWords, portAt, endAt}
 use Rattle.port_fill.specs.declared.Sums.{Sums}
-use Rattle.port_fill.specs.Marks.{marks-length, marks-other, marks-at, read-port, read-end}
-use Rattle.port_fill.specs.Strung.{Slack, join, strandFrom, always, portPlace, portLine, portRows, onEnd, endLine, endSpot, endRows}
-use Rattle.port_fill.specs.Strung.{streamRows, StreamFillable, entered-few}
+use Rattle.port_fill.specs.Marks.{marks-length, marks-other, marks-at}
+use Rattle.port_fill.specs.Widths.{row-wide, end-wide}
+use Rattle.port_fill.specs.Strung.{Slack, join, strandFrom, strand-narrow, always, portPlace, portLine, portRows, onEnd, endLine}
+use Rattle.port_fill.specs.Strung.{endSpot, endRows, streamRows, StreamFillable, entered-few}
 
 -- ---- numbers and lists
 
 -- rows of an earlier stream lie apart
-rows-apart : (p k v r i : ℕ) → k < i → i < 6 → v < 10
-    → (60 * p + 10 * k + v < 60 * r + 10 * i) ⊎ (60 * r + 10 * i + 10 ≤ 60 * p + 10 * k + v)
+rows-apart : (p k v r i : ℕ) → k < i → i < 6 → v < 5
+    → (30 * p + 5 * k + v < 30 * r + 5 * i) ⊎ (30 * r + 5 * i + 5 ≤ 30 * p + 5 * k + v)
 rows-apart p k v r i l hi hv = go (decLe p r)
   where
-    go : Dec (p ≤ r) → (60 * p + 10 * k + v < 60 * r + 10 * i) ⊎ (60 * r + 10 * i + 10 ≤ 60 * p + 10 * k + v)
+    go : Dec (p ≤ r) → (30 * p + 5 * k + v < 30 * r + 5 * i) ⊎ (30 * r + 5 * i + 5 ≤ 30 * p + 5 * k + v)
     go (yes h) = inl (omega arith)
     go (no h) = inr (omega arith)
 
@@ -70,10 +69,9 @@ rows-apart p k v r i l hi hv = go (decLe p r)
 
 -- of the first i streams
 pub record Filled (d : Description) (i : ℕ) (l : List ℕ) : Type 0 where
-  pub words : length l ≡ 116736
-  pub ports : (p k : ℕ) → p < length (processes (d .nest)) → k < i → (v : ℕ) → v < 10
-      → getD l (60 * p + 10 * k + v) 0 ≡ getD (portWords (rowOf (arrayOf d) p k)) v 0
-  pub ends : (q : ℕ) → q < base d i → (v : ℕ) → v < 9 → getD l (61440 + 9 * q + v) 0 ≡ getD (endWords (endOf (arrayOf d) q)) v 0
+  pub words : length l ≡ portTableWords
+  pub ports : (p k : ℕ) → p < length (processes (d .nest)) → k < i → portAt l p k ≡ rowOf (arrayOf d) p k
+  pub ends : (q : ℕ) → q < base d i → endAt l q ≡ endOf (arrayOf d) q
 
 -- ---- the sums
 
@@ -184,7 +182,8 @@ module _ (d : Description) (h : Described d) where
 
   -- ---- a stream
 
-  module _ (laid : Laid d) (i : ℕ) (l : i < d .sizes .streams) {g : Strand} (sg : StrandOf d i g) (xs : List ℕ) (done : Filled d i xs) where
+  module _ (laid : Laid d) (i : ℕ) (l : i < d .sizes .streams) {g : Strand} (w : Narrow g) (sg : StrandOf d i g) (xs : List ℕ)
+      (done : Filled d i xs) where
     abbrev A : Array
     A = arrayOf d
 
@@ -212,33 +211,38 @@ module _ (d : Description) (h : Described d) where
     below : i < 6
     below = omega (arith, six)
 
+    sharing : Sharing nest s
+    sharing = h .streams i hi
+
     -- the rows of processes lie below those of pipes
-    low-stays : (a : ℕ) → a < 61440 → getD ys a 0 ≡ getD xs a 0
-    low-stays a k = marks-other (onEnd nest s) (endLine nest s g first) (endSpot nest s b) 9 P a xs (λ p _ _. inl (omega arith))
+    low-stays : (a : ℕ) → a < 30720 → getD ys a 0 ≡ getD xs a 0
+    low-stays a k = marks-other (onEnd nest s) (endLine nest s g first) (endSpot nest s b) 3 P a xs (λ p _ _. inl (omega arith))
 
-    high-stays : (a : ℕ) → 61440 ≤ a → getD zs a 0 ≡ getD ys a 0
-    high-stays a k = marks-other always (portLine nest s g) (portPlace i) 10 P a ys (λ r m _. inr (omega (arith, h .processes, below)))
+    high-stays : (a : ℕ) → 30720 ≤ a → getD zs a 0 ≡ getD ys a 0
+    high-stays a k = marks-other always (portLine nest s g) (portPlace i) 5 P a ys (λ r m _. inr (omega (arith, h .processes, below)))
 
-    row-stays : (p k v : ℕ) → p < P → k < i → v < 10 → getD zs (60 * p + 10 * k + v) 0 ≡ getD xs (60 * p + 10 * k + v) 0
-    row-stays p k v hp m hv =
-        marks-other always (portLine nest s g) (portPlace i) 10 P (60 * p + 10 * k + v) ys (λ r _ _. rows-apart p k v r i m below hv)
-        ∙ low-stays (60 * p + 10 * k + v) (omega (arith, h .processes, below))
+    word-stays : (p k v : ℕ) → p < P → k < i → v < 5 → getD zs (30 * p + 5 * k + v) 0 ≡ getD xs (30 * p + 5 * k + v) 0
+    word-stays p k v hp m hv =
+        marks-other always (portLine nest s g) (portPlace i) 5 P (30 * p + 5 * k + v) ys (λ r _ _. rows-apart p k v r i m below hv)
+        ∙ low-stays (30 * p + 5 * k + v) (omega (arith, h .processes, below))
 
-    ends-words : length ys ≡ 116736
-    ends-words = marks-length (onEnd nest s) (endLine nest s g first) (endSpot nest s b) 9 P xs ∙ done .words
+    ends-words : length ys ≡ portTableWords
+    ends-words = marks-length (onEnd nest s) (endLine nest s g first) (endSpot nest s b) 3 P xs ∙ done .words
 
-    own-port : (p : ℕ) → p < P → (v : ℕ) → v < 10 → getD zs (60 * p + 10 * i + v) 0 ≡ getD (portWords (rowOf A p i)) v 0
-    own-port p hp v hv =
-        marks-at always (portLine nest s g) (portPlace i) 10 P p v ys hp refl hv (omega (arith, ends-words, h .processes, below))
-        (λ r k _ _. inl (omega arith))
-        ∙ ap (λ (k : Port). getD (portWords k) v 0) (row-is laid sg p hp)
+    own-port : (p : ℕ) → p < P → portAt zs p i ≡ rowOf A p i
+    own-port p hp =
+        read-port zs (30 * p + 5 * i) (rowFrom nest s g p) (row-wide w (sharing .laid) hp (sharing .elements))
+        (λ v hv.
+        marks-at always (portLine nest s g) (portPlace i) 5 P p v ys hp refl hv (omega (arith, ends-words, h .processes, below))
+        (λ r k _ _. inl (omega arith)))
+        ∙ row-is laid sg p hp
 
-    ports-next : (p k : ℕ) → p < P → k < suc i → (v : ℕ) → v < 10 → getD zs (60 * p + 10 * k + v) 0 ≡ getD (portWords (rowOf A p k)) v 0
-    ports-next p k hp hk v hv = go (eq-or-lt-of-le (le-of-suc-le-suc hk))
+    ports-next : (p k : ℕ) → p < P → k < suc i → portAt zs p k ≡ rowOf A p k
+    ports-next p k hp hk = go (eq-or-lt-of-le (le-of-suc-le-suc hk))
       where
-        go : (k ≡ i) ⊎ (k < i) → getD zs (60 * p + 10 * k + v) 0 ≡ getD (portWords (rowOf A p k)) v 0
-        go (inl e) = subst (λ (k : ℕ). getD zs (60 * p + 10 * k + v) 0 ≡ getD (portWords (rowOf A p k)) v 0) (sym e) (own-port p hp v hv)
-        go (inr m) = row-stays p k v hp m hv ∙ done .ports p k hp m v hv
+        go : (k ≡ i) ⊎ (k < i) → portAt zs p k ≡ rowOf A p k
+        go (inl e) = subst (λ (k : ℕ). portAt zs p k ≡ rowOf A p k) (sym e) (own-port p hp)
+        go (inr m) = port-stays zs xs (30 * p + 5 * k) (λ v. word-stays p k v hp m) ∙ done .ports p k hp m
 
     -- more pipes enter before a later process
     up : (p r : ℕ) → p ≤ r → r ≤ P → enteredAt nest s p ≤ enteredAt nest s r
@@ -249,9 +253,8 @@ module _ (d : Description) (h : Described d) where
         go (inl e) ih = omega (arith, ap (enteredAt nest s) e)
         go (inr m) ih = omega (arith, ih (omega arith), entered-next nest s r (omega arith) _ refl)
 
-    own-end : (j : ℕ) → j < length (entries nest s) → (v : ℕ) → v < 9
-        → getD zs (61440 + 9 * (b + j) + v) 0 ≡ getD (endWords (endOf A (b + j))) v 0
-    own-end j hj v hv =
+    own-end : (j : ℕ) → j < length (entries nest s) → endAt zs (b + j) ≡ endOf A (b + j)
+    own-end j hj =
         let e = entryAt d i j in
         let p = rowIndex (space nest) e in
         let there : pointOf d p ≡ e = number-point d (entry-inside laid i j hi hj) in
@@ -267,30 +270,40 @@ module _ (d : Description) (h : Described d) where
         let start : startAt nest s first p ≡ partStart A (b + j) =
         sym (part-start d i j hi hj laid ∙ ap (λ (c : ℕ). first + partOf nest s c) (sym count)
         ∙ ap (λ (m : List V2). first + total (λ y. length (pipeElements nest s y)) m) (take-filter (entering nest s) p (processes nest))) in
-        high-stays (61440 + 9 * (b + j) + v) (omega arith) ∙ ap (λ (c : ℕ). getD ys (61440 + 9 * (b + c) + v) 0) (sym count)
-        ∙ marks-at (onEnd nest s) (endLine nest s g first) (endSpot nest s b) 9 P p v xs lt on hv
+        let c = enteredAt nest s p in
+        let row = endFrom nest s g (startAt nest s first p) c p in
+        let few : c ≤ 1024 = omega (arith, entered-few nest s p, h .processes) in
+        let early : startAt nest s first p ≤ 28672 =
+        omega (arith, start-most (sharing .laid .accepted) (sharing .elements) first p, first-most i l) in
+        let wide : EndWide row = end-wide w (sharing .laid) lt (sharing .elements) (startAt nest s first p) c early few in
+        ap (λ (c : ℕ). endAt zs (b + c)) (sym count)
+        ∙ read-end zs (30720 + 3 * (b + c)) row wide
+        (λ v hv.
+        high-stays (30720 + 3 * (b + c) + v) (omega arith)
+        ∙ marks-at (onEnd nest s) (endLine nest s g first) (endSpot nest s b) 3 P p v xs lt on hv
         (omega (arith, done .words, base-most i l, entered-few nest s p, h .processes))
-        (λ r m k _. inl (omega (arith, up (suc p) r m (omega arith), entered-next nest s p lt 1 (one-yes nest s p on))))
-        ∙ ap (λ (c : ℕ). getD (endWords (endFrom nest s g (startAt nest s first p) c p)) v 0) count
-        ∙ ap (λ (k : End). getD (endWords k) v 0) (end-is laid sg j hj start)
+        (λ r m k _. inl (omega (arith, up (suc p) r m (omega arith), entered-next nest s p lt 1 (one-yes nest s p on)))))
+        ∙ ap (λ (c : ℕ). endFrom nest s g (startAt nest s first p) c p) count ∙ end-is laid sg j hj start
 
-    ends-next : (q : ℕ) → q < base d (suc i) → (v : ℕ) → v < 9 → getD zs (61440 + 9 * q + v) 0 ≡ getD (endWords (endOf A q)) v 0
-    ends-next q hq v hv = go (decLe (suc q) b)
+    ends-next : (q : ℕ) → q < base d (suc i) → endAt zs q ≡ endOf A q
+    ends-next q hq = go (decLe (suc q) b)
       where
-        go : Dec (suc q ≤ b) → getD zs (61440 + 9 * q + v) 0 ≡ getD (endWords (endOf A q)) v 0
+        go : Dec (suc q ≤ b) → endAt zs q ≡ endOf A q
         go (yes k) =
-            high-stays (61440 + 9 * q + v) (omega arith)
-            ∙ marks-other (onEnd nest s) (endLine nest s g first) (endSpot nest s b) 9 P (61440 + 9 * q + v) xs (λ p _ _. inl (omega arith))
-            ∙ done .ends q k v hv
+            end-stays zs xs (30720 + 3 * q)
+            (λ v hv.
+            high-stays (30720 + 3 * q + v) (omega arith)
+            ∙ marks-other (onEnd nest s) (endLine nest s g first) (endSpot nest s b) 3 P (30720 + 3 * q + v) xs
+            (λ p _ _. inl (omega arith)))
+            ∙ done .ends q k
         go (no k) =
             let e : b + (q - b) ≡ q = omega arith in
-            subst (λ (q : ℕ). getD zs (61440 + 9 * q + v) 0 ≡ getD (endWords (endOf A q)) v 0) e
-            (own-end (q - b) (omega (arith, hq, base-next d i hi)) v hv)
+            subst (λ (q : ℕ). endAt zs q ≡ endOf A q) e (own-end (q - b) (omega (arith, hq, base-next d i hi)))
 
     stream-filled : Filled d (suc i) zs
     stream-filled =
         record {
-          words = marks-length always (portLine nest s g) (portPlace i) 10 P ys ∙ ends-words;
+          words = marks-length always (portLine nest s g) (portPlace i) 5 P ys ∙ ends-words;
           ports = ports-next;
           ends = ends-next;
         }
@@ -313,6 +326,12 @@ module _ {d : Description} {stride count : ℕ} {spans : List ℕ} (h : Started 
             ∙ ap (λ (t : Sums). length (processes (d .nest)) * strideOf d + t .ends) et;
       }
 
+  narrow-is : Narrow g
+  narrow-is =
+      subst Narrow (sym eg)
+      (strand-narrow (stream-sharing d (h .described) i l es .hop) (omega (arith, h .counted, h .described .processes)) (h .narrow)
+      (subst Slack (sym et) (sums-slack d (h .described) i (omega arith))))
+
   pub filled-next : {first : ℕ} → first ≡ streamStart (d .nest) (streamsOf d) i → (xs : List ℕ) {out : List ℕ}
       → out ≡ streamRows (d .nest) s g i first (t .pipes) xs → Filled d i xs → Filled d (i + 1) out
   filled-next {first} ef xs {out} o f =
@@ -320,9 +339,9 @@ module _ {d : Description} {stride count : ℕ} {spans : List ℕ} (h : Started 
       (subst (Filled d (suc i))
       (sym (o ∙ ap (λ (s : Stream). streamRows (d .nest) s g i first (t .pipes) xs) (stream-of d (h .described) i l es)
       ∙ ap₂ (λ (first base : ℕ). streamRows (d .nest) (streamAt d i) g i first base xs) ef (ap (λ (t : Sums). t .pipes) et)))
-      (stream-filled d (h .described) (h .laid) i l strand-is xs f))
+      (stream-filled d (h .described) (h .laid) i l narrow-is strand-is xs f))
 
-pub filled-zero : (d : Description) → {xs : List ℕ} → length xs ≡ 116736 → Filled d 0 xs
+pub filled-zero : (d : Description) → {xs : List ℕ} → length xs ≡ portTableWords → Filled d 0 xs
 filled-zero d e =
     record {
       words = e;
@@ -334,10 +353,8 @@ pub ports-is : (d : Description) → Described d → {i : ℕ} → i ≡ d .size
 ports-is d h {i} e {xs} f =
     record {
       words = f .words;
-      ports = λ p k hp hk.
-          read-port xs (60 * p + 10 * k) (rowOf (arrayOf d) p k)
-          (f .ports p k (omega (arith, process-count d)) (omega (arith, stream-count d, h .in-use)));
-      ends = λ q hq. read-end xs (61440 + 9 * q) (endOf (arrayOf d) q) (f .ends q (omega (arith, all)));
+      ports = λ p k hp hk. f .ports p k (omega (arith, process-count d)) (omega (arith, stream-count d, h .in-use));
+      ends = λ q hq. f .ends q (omega (arith, all));
     }
   where
     all : base d i ≡ pipeNumber (arrayOf d)

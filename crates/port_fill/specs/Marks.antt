@@ -1,20 +1,14 @@
 -- Rows of m words written one after the other, row p at place `at p` where a test says so: what stands, and what stays. Assumes nothing.
 use mathlib.Core.Path.{_≡_, refl, sym, _∙_, ap, subst}
 use mathlib.Core.Logic.{_⊎_, inl, inr}
-use mathlib.Core.Bool.{Bool, true, false, not, cond}
+use mathlib.Core.Bool.{Bool, true, false, cond}
 use mathlib.Core.List.{List}
 use Prim.Native.Nat.{ℕ, zero, suc, _+_, _≤_, _<_}
-use native.Mathlib.Nat.{eq-or-lt-of-le, le-of-suc-le-suc, add-zero}
+use native.Mathlib.Nat.{eq-or-lt-of-le, le-of-suc-le-suc}
 use native.Mathlib.Numerals.{add-one}
 use native.Mathlib.Omega.{arith}
-use lib.Dec.{eqb}
 use lib.ListN.{length, getD}
-use Rattle.ports.specs.declared.Port.{Port}
-use Rattle.ports.specs.declared.End.{End}
-use Rattle.ports.specs.Ports.{same-port}
-use Rattle.ports.specs.Ends.{same-end}
 use Rattle.words.specs.Stored.{stored, stored-length, stored-other, stored-at}
-use Rattle.port_table.specs.Rows.{portWords, endWords, portRead, endRead}
 
 module _ (on : ℕ → Bool) (row : ℕ → List ℕ) (at : ℕ → ℕ) (m : ℕ) where
   abbrev pub mark : ℕ → List ℕ → List ℕ
@@ -82,21 +76,3 @@ module _ (on : ℕ → Bool) (row : ℕ → List ℕ) (at : ℕ → ℕ) (m : �
           subst (λ (i : ℕ). getD (mark i (marks k l)) (at p + v) 0 ≡ getD (row p) v 0) e
           (mark-own p v (marks k l) o b (subst (λ (c : ℕ). at p + m ≤ c) (sym (marks-length k l)) r))
       go (inr i) ih = mark-other k (at p + v) (marks k l) (s k i (omega arith)) ∙ ih i
-
--- ---- rows read off words
-
-module _ (l : List ℕ) (a : ℕ) where
-  pub read-port : (k : Port) → ((v : ℕ) → v < 10 → getD l (a + v) 0 ≡ getD (portWords k) v 0) → portRead l a ≡ k
-  read-port k h =
-      same-port (ap (λ (x : ℕ). getD l x 0) (sym (add-zero a)) ∙ h 0 (omega arith)) (h 1 (omega arith)) (h 2 (omega arith))
-      (h 3 (omega arith)) (h 4 (omega arith)) (h 5 (omega arith)) (h 6 (omega arith)) (h 7 (omega arith)) (h 8 (omega arith))
-      (ap (λ (w : ℕ). not (eqb w 0)) (h 9 (omega arith)) ∙ truth (k .keeps))
-    where
-      truth : (b : Bool) → not (eqb (cond b 1 0) 0) ≡ b
-      truth true = refl
-      truth false = refl
-
-  pub read-end : (e : End) → ((v : ℕ) → v < 9 → getD l (a + v) 0 ≡ getD (endWords e) v 0) → endRead l a ≡ e
-  read-end e h =
-      same-end (ap (λ (x : ℕ). getD l x 0) (sym (add-zero a)) ∙ h 0 (omega arith)) (h 1 (omega arith)) (h 2 (omega arith))
-      (h 3 (omega arith)) (h 4 (omega arith)) (h 5 (omega arith)) (h 6 (omega arith)) (h 7 (omega arith)) (h 8 (omega arith))

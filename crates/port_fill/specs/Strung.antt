@@ -12,7 +12,7 @@ use Rattle.integers.specs.Vectors.{zero2}
 use Rattle.integers.specs.declared.V2.{V2}
 use Rattle.meaning.specs.declared.Nest.{Nest}
 use Rattle.meaning.specs.declared.Stream.{Stream}
-use Rattle.meaning.specs.Limits.{processWordsMost, endWordsMost}
+use Rattle.meaning.specs.Limits.{gaugeLimits, processWordsMost, endWordsMost}
 use Rattle.meaning.specs.Lists.{filter}
 use Rattle.meaning.specs.Space.{space, processes}
 use Rattle.meaning.specs.Streams.{elements}
@@ -21,6 +21,7 @@ use Rattle.lists.specs.Tests.{filter-fewer}
 use Rattle.geometry.specs.Places.{getD-in}
 use Rattle.geometry.specs.Boxes.{points-inside}
 use Rattle.layout.specs.Spans.{processOf, Spans}
+use Rattle.stream_lines.specs.StateWords.{process-words}
 use Rattle.ports.specs.declared.Port.{Port}
 use Rattle.ports.specs.declared.End.{End}
 use Rattle.lanes.specs.declared.Flow.{Flow}
@@ -49,6 +50,11 @@ join t hop pipes = record { words = t .words + (4 + hop); pipes = t .pipes + pip
 abbrev pub strandFrom : ℕ → ℕ → ℕ → Sums → Strand
 strandFrom hop processes stride t = record { hop = hop; stride = stride; offset = 1 + t .words; tail = processes * stride + t .ends }
 
+pub strand-narrow : {k count stride : ℕ} {t : Sums} → k ≤ gaugeLimits .hop → count ≤ gaugeLimits .processes → stride ≤ processWordsMost
+    → Slack t → Narrow (strandFrom k count stride t)
+strand-narrow a b c h =
+    record { hop = a; stride = c; offset = omega (arith, h .words); tail = omega (arith, process-words b c, h .ends) }
+
 -- ---- the rows
 
 -- the row of a process of stream i: every one has a row
@@ -56,26 +62,26 @@ abbrev pub always : ℕ → Bool
 always p = true
 
 abbrev pub portPlace : ℕ → ℕ → ℕ
-portPlace i p = 60 * p + 10 * i
+portPlace i p = 30 * p + 5 * i
 
 abbrev pub portLine : Nest → Stream → Strand → ℕ → List ℕ
 portLine n s g p = portWords (rowFrom n s g p)
 
 abbrev pub portRow : Nest → Stream → Strand → ℕ → ℕ → List ℕ → List ℕ
-portRow n s g i p l = mark always (portLine n s g) (portPlace i) 10 p l
+portRow n s g i p l = mark always (portLine n s g) (portPlace i) 5 p l
 
 abbrev pub portRows : Nest → Stream → Strand → ℕ → ℕ → List ℕ → List ℕ
-portRows n s g i k l = marks always (portLine n s g) (portPlace i) 10 k l
+portRows n s g i k l = marks always (portLine n s g) (portPlace i) 5 k l
 
 -- the row of the pipe that enters at a process
 abbrev pub onEnd : Nest → Stream → ℕ → Bool
 onEnd n s p = entering n s (processOf n p)
 
 abbrev pub endPlace : ℕ → ℕ → ℕ
-endPlace base j = 61440 + 9 * (base + j)
+endPlace base j = 30720 + 3 * (base + j)
 
 abbrev pub endRow : Nest → Stream → Strand → ℕ → ℕ → ℕ → ℕ → List ℕ → List ℕ
-endRow n s g start base j p l = cond (onEnd n s p) (stored (endWords (endFrom n s g start j p)) (endPlace base j) 9 l) l
+endRow n s g start base j p l = cond (onEnd n s p) (stored (endWords (endFrom n s g start j p)) (endPlace base j) 3 l) l
 
 abbrev pub endLine : Nest → Stream → Strand → ℕ → ℕ → List ℕ
 endLine n s g first p = endWords (endFrom n s g (startAt n s first p) (enteredAt n s p) p)
@@ -84,7 +90,7 @@ abbrev pub endSpot : Nest → Stream → ℕ → ℕ → ℕ
 endSpot n s base p = endPlace base (enteredAt n s p)
 
 abbrev pub endRows : Nest → Stream → Strand → ℕ → ℕ → ℕ → List ℕ → List ℕ
-endRows n s g first base k l = marks (onEnd n s) (endLine n s g first) (endSpot n s base) 9 k l
+endRows n s g first base k l = marks (onEnd n s) (endLine n s g first) (endSpot n s base) 3 k l
 
 abbrev pub streamRows : Nest → Stream → Strand → ℕ → ℕ → ℕ → List ℕ → List ℕ
 streamRows n s g i first base l = portRows n s g i (length (processes n)) (endRows n s g first base (length (processes n)) l)
@@ -193,16 +199,16 @@ module _ {f : Flow} {g : Strand} {total start base j p : ℕ} (h : EndFillable f
 -- ---- one row
 
 pub port-put : (n : Nest) (s : Stream) (g : Strand) (i p : ℕ) (l : List ℕ) {r : Port} → r ≡ rowFrom n s g p → {out : List ℕ}
-    → out ≡ stored (portWords r) (portPlace i p) 10 l → out ≡ portRow n s g i p l
-port-put n s g i p l er eo = eo ∙ ap (λ (r : Port). stored (portWords r) (portPlace i p) 10 l) er
+    → out ≡ stored (portWords r) (portPlace i p) 5 l → out ≡ portRow n s g i p l
+port-put n s g i p l er eo = eo ∙ ap (λ (r : Port). stored (portWords r) (portPlace i p) 5 l) er
 
 module _ (n : Nest) (s : Stream) (g : Strand) (start base j p : ℕ) (l : List ℕ) where
   abbrev ended : List ℕ
-  ended = stored (endWords (endFrom n s g start j p)) (endPlace base j) 9 l
+  ended = stored (endWords (endFrom n s g start j p)) (endPlace base j) 3 l
 
   pub end-put : onEnd n s p ≡ true → {r : End} → r ≡ endFrom n s g start j p → {out : List ℕ}
-      → out ≡ stored (endWords r) (endPlace base j) 9 l → out ≡ endRow n s g start base j p l
-  end-put t er eo = eo ∙ ap (λ (r : End). stored (endWords r) (endPlace base j) 9 l) er ∙ sym (ap (λ (b : Bool). cond b ended l) t)
+      → out ≡ stored (endWords r) (endPlace base j) 3 l → out ≡ endRow n s g start base j p l
+  end-put t er eo = eo ∙ ap (λ (r : End). stored (endWords r) (endPlace base j) 3 l) er ∙ sym (ap (λ (b : Bool). cond b ended l) t)
 
   pub end-left : onEnd n s p ≡ false → l ≡ endRow n s g start base j p l
   end-left t = sym (ap (λ (b : Bool). cond b ended l) t)
@@ -211,20 +217,20 @@ module _ (n : Nest) (s : Stream) (g : Strand) (start base j p : ℕ) (l : List �
 
 module _ (n : Nest) (s : Stream) (g : Strand) (i p : ℕ) (l : List ℕ) {x : List ℕ} (e : x ≡ portRows n s g i p l) where
   pub ports-length : length x ≡ length l
-  ports-length = ap length e ∙ marks-length always (portLine n s g) (portPlace i) 10 p l
+  ports-length = ap length e ∙ marks-length always (portLine n s g) (portPlace i) 5 p l
 
   pub ports-turn : {out : List ℕ} → out ≡ portRow n s g i p x → out ≡ portRows n s g i (p + 1) l
-  ports-turn o = o ∙ ap (portRow n s g i p) e ∙ sym (marks-step always (portLine n s g) (portPlace i) 10 p l)
+  ports-turn o = o ∙ ap (portRow n s g i p) e ∙ sym (marks-step always (portLine n s g) (portPlace i) 5 p l)
 
 module _ (n : Nest) (s : Stream) (g : Strand) (first base p : ℕ) (l : List ℕ) {x : List ℕ} (e : x ≡ endRows n s g first base p l) where
   pub ends-length : length x ≡ length l
-  ends-length = ap length e ∙ marks-length (onEnd n s) (endLine n s g first) (endSpot n s base) 9 p l
+  ends-length = ap length e ∙ marks-length (onEnd n s) (endLine n s g first) (endSpot n s base) 3 p l
 
   pub ends-turn : {start j : ℕ} → start ≡ startAt n s first p → j ≡ enteredAt n s p → {out : List ℕ} → out ≡ endRow n s g start base j p x
       → out ≡ endRows n s g first base (p + 1) l
   ends-turn es ej o =
       o ∙ ap₂ (λ (start j : ℕ). endRow n s g start base j p x) es ej ∙ ap (endRow n s g (startAt n s first p) base (enteredAt n s p) p) e
-      ∙ sym (marks-step (onEnd n s) (endLine n s g first) (endSpot n s base) 9 p l)
+      ∙ sym (marks-step (onEnd n s) (endLine n s g first) (endSpot n s base) 3 p l)
 
 -- ---- a stream by its flow
 

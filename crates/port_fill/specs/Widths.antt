@@ -1,4 +1,4 @@
--- The rows of a stream fit words. Assumes nothing.
+-- The numbers of a stream's rows fit their parts of a word. Assumes nothing.
 use mathlib.Core.Path.{_≡_, refl}
 use mathlib.Core.Bool.{Bool, true, false, cond}
 use Prim.Native.Nat.{ℕ, _+_, _≤_, _<_}
@@ -25,38 +25,32 @@ use Rattle.geometry.specs.Pipes.{Accepted, in-on}
 use Rattle.geometry.specs.Elements.{elements-distinct}
 use Rattle.addresses.specs.Ends.{backOf, onOf, exitOf, back-inside, on-inside, last-inside}
 use Rattle.layout.specs.Spans.{processOf}
-use Rattle.lanes.specs.declared.Flow.{Flow}
 use Rattle.lanes.specs.Held.{entryNumber}
-use Rattle.lanes.specs.Flow.{Flows}
+use Rattle.lanes.specs.Flow.{Laid}
 use Rattle.pipe_parts.specs.Starts.{entered-le}
 use Rattle.port_rows.specs.declared.Strand.{Strand}
 use Rattle.stream_lines.specs.StateWords.{process-words, end-words}
 use Rattle.port_rows.specs.Strands.{Narrow, portIndex, endIndex, beforeFrom, afterFrom, roomFrom, pipeOf, portFrom, offFrom, rowFrom}
 use Rattle.port_rows.specs.Strands.{endFrom, some-before, count-most}
+use Rattle.port_table.specs.Pack.{lowEnd}
 use Rattle.port_table.specs.Rows.{PortWide, EndWide}
 
-wide : {a : ℕ} → a ≤ stateWordsMost + endWordsMost + 2 → a < 4294967296
+wide : {a : ℕ} → a ≤ stateWordsMost + endWordsMost + 2 → a < lowEnd
 wide h = omega arith
 
-module _ {g : Strand} (w : Narrow g) {f : Flow} (h : Flows f) {p : ℕ} (lt : p < length (processes (f .nest)))
-    (small : length (elements (f .nest) (f .stream)) ≤ 4096) where
-  abbrev n : Nest
-  n = f .nest
-
-  abbrev s : Stream
-  s = f .stream
-
+module _ {g : Strand} (w : Narrow g) {n : Nest} {s : Stream} (h : Laid n s) {p : ℕ} (lt : p < length (processes n))
+    (small : length (elements n s) ≤ 4096) where
   abbrev y : V2
   y = processOf n p
 
   good : Accepted n s
-  good = h .laid .accepted
+  good = h .accepted
 
   inside : Inside (space n) y
   inside = points-inside (space n) y (getD-in (processes n) p zero2 lt)
 
   port-low : (q : ℕ) → q < length (processes n) → portIndex g q ≤ stateWordsMost
-  port-low q l = omega (arith, process-words {p = q} {w = g .stride} (omega (arith, h .laid .processes)) (w .stride), w .offset)
+  port-low q l = omega (arith, process-words {p = q} {w = g .stride} (omega (arith, h .processes)) (w .stride), w .offset)
 
   sent-low : (j : ℕ) → j ≤ 1024 → endIndex g j ≤ stateWordsMost + endWordsMost
   sent-low j l = omega (arith, end-words {j = j} {h = g .hop} l (w .hop), w .tail)
@@ -78,7 +72,7 @@ module _ {g : Strand} (w : Narrow g) {f : Flow} (h : Flows f) {p : ℕ} (lt : p 
       go false = total-low
 
   count-low : count n y ≤ 4096
-  count-low = omega (arith, count-most n y, h .laid .instances)
+  count-low = omega (arith, count-most n y, h .instances)
 
   module _ (sent : ℕ) (l : sent ≤ stateWordsMost + endWordsMost) where
     before-low : beforeFrom n s g sent p ≤ stateWordsMost + endWordsMost + 2
@@ -114,7 +108,7 @@ module _ {g : Strand} (w : Narrow g) {f : Flow} (h : Flows f) {p : ℕ} (lt : p 
         go false e = omega (arith, next-low e)
 
   own-low : endIndex g (pipeOf n s p) ≤ stateWordsMost + endWordsMost
-  own-low = sent-low (pipeOf n s p) (omega (arith, entered-le n s (entryNumber n s p), h .laid .processes))
+  own-low = sent-low (pipeOf n s p) (omega (arith, entered-le n s (entryNumber n s p), h .processes))
 
   port-wide : PortWide (portFrom n s g p)
   port-wide =
@@ -125,10 +119,10 @@ module _ {g : Strand} (w : Narrow g) {f : Flow} (h : Flows f) {p : ℕ} (lt : p 
         after = wide (after-low sent own-low);
         room = wide (room-low sent own-low);
         fired = wide (omega (arith, port-low p lt));
-        hop = wide (omega (arith, w .hop));
-        soak = wide (omega (arith, soak-low));
-        count = wide (omega (arith, count-low));
-        total = wide (omega (arith, total-low));
+        hop = omega (arith, w .hop);
+        soak = omega (arith, soak-low);
+        count = omega (arith, count-low);
+        total = omega (arith, total-low);
       }
 
   off-wide : PortWide (offFrom g (count n y) p)
@@ -139,10 +133,10 @@ module _ {g : Strand} (w : Narrow g) {f : Flow} (h : Flows f) {p : ℕ} (lt : p 
         after = wide (omega (arith, port-low p lt));
         room = wide (omega (arith, port-low p lt));
         fired = wide (omega (arith, port-low p lt));
-        hop = wide (omega arith);
-        soak = wide (omega arith);
-        count = wide (omega (arith, count-low));
-        total = wide (omega arith);
+        hop = omega arith;
+        soak = omega arith;
+        count = omega (arith, count-low);
+        total = omega arith;
       }
 
   pub row-wide : PortWide (rowFrom n s g p)
@@ -157,13 +151,13 @@ module _ {g : Strand} (w : Narrow g) {f : Flow} (h : Flows f) {p : ℕ} (lt : p 
       record {
         sent = wide (omega (arith, sent-low j b));
         after = wide (omega (arith, port-low p lt));
-        room = wide (omega (arith, port-low p lt));
+        room = refl;
         before =
             wide (omega
             (arith, port-low (rowIndex (space n) (exitOf n s y)) (row-lt (space n) (exitOf n s y) (last-inside good inside))));
-        received = wide (omega (arith, sent-low j b));
-        last = wide (omega (arith, sent-low j b));
-        hop = wide (omega (arith, w .hop));
-        total = wide (omega (arith, total-low));
-        offset = wide (omega arith);
+        received = refl;
+        last = refl;
+        hop = omega (arith, w .hop);
+        total = omega (arith, total-low);
+        offset = omega arith;
       }

@@ -1,3 +1,4 @@
--- Rows written into a list; the words of rows.
+-- Two numbers in a word; the words of rows; the port table of an array.
+pub mod Pack
 pub mod Rows
 pub mod PortsOf

@@ -13,19 +13,19 @@ use Rattle.ports.specs.Ends.{endOf, EndFits}
 use Rattle.port_table.specs.declared.Size.{Size}
 use Rattle.port_table.specs.Rows.{portRead, endRead}
 
--- the words of a port table: ten for each port, nine for each pipe
+-- the words of a port table: five for each port, three for each pipe
 abbrev pub portTableWords : ℕ
-portTableWords = gaugeLimits .processes * 60 + pipesMost * 9
+portTableWords = gaugeLimits .processes * 30 + pipesMost * 3
 
 -- the row of process p and stream i, the six rows of process p, and the row of pipe q
 abbrev pub portAt : List ℕ → ℕ → ℕ → Port
-portAt l p i = portRead l (60 * p + 10 * i)
+portAt l p i = portRead l (30 * p + 5 * i)
 
 abbrev pub portsAt : List ℕ → ℕ → List Port
 portsAt l p = portAt l p 0 ∷ portAt l p 1 ∷ portAt l p 2 ∷ portAt l p 3 ∷ portAt l p 4 ∷ portAt l p 5 ∷ []
 
 abbrev pub endAt : List ℕ → ℕ → End
-endAt l q = endRead l (61440 + 9 * q)
+endAt l q = endRead l (30720 + 3 * q)
 
 -- the size of an array that has streams
 pub record SizeOf (A : Array) (z : Size) : Type 0 where
@@ -36,13 +36,13 @@ pub record SizeOf (A : Array) (z : Size) : Type 0 where
 
 -- the port table of an array
 pub record PortsOf (A : Array) (l : List ℕ) : Type 0 where
-  pub words : length l ≡ 116736
+  pub words : length l ≡ portTableWords
   pub ports : (p i : ℕ) → p < processCount A → i < streamCount A → portAt l p i ≡ rowOf A p i
   pub ends : (q : ℕ) → q < pipeNumber A → endAt l q ≡ endOf A q
 
 -- a port table whose rows' words lie in a state of n words
 pub record RowsFit (n : ℕ) (l : List ℕ) (z : Size) : Type 0 where
-  pub words : length l ≡ 116736
+  pub words : length l ≡ portTableWords
   pub processes : z .processes ≤ 1024
   pub some : 0 < z .streams
   pub streams : z .streams ≤ 6

@@ -1,15 +1,17 @@
 // The port table: the rows of all ports and of all pipes' ends as words of one lent list, written once and read by number. Port (p, i) has
-// the ten words from 60 p + 10 i on, pipe q the nine from 61,440 + 9 q on.
+// the five words from 30 p + 5 i on, pipe q the three from 30,720 + 3 q on: each word has two of a row's numbers.
 //
 // specs/, by file:
 //
+//   Pack      two numbers in a word
 //   Rows      the words of rows, and rows read off them
 //   PortsOf   the port table of an array; port tables whose rows' words lie in a state
 ghost use mathlib.Core.Path.{_≡_};
 ghost use Prim.Native.Nat.{_+_, _≤_, _<_};
-ghost use lib.ListN.{length};
+ghost use lib.ListN.{length, getD};
 ghost use Rattle.meaning.specs.Limits.{gaugeLimits, pipesMost};
 ghost use Rattle.words.specs.Stored.{stored};
+ghost use Rattle.port_table.specs.Pack.{lowEnd, highEnd, pack, low, high};
 ghost use Rattle.port_table.specs.Rows.{PortWide, EndWide, portWords, endWords, portRead, endRead};
 ghost use Rattle.port_table.specs.PortsOf.{portAt, endAt, portsAt, portTableWords};
 use meaning::PIPES;
@@ -19,15 +21,18 @@ use ports::End;
 use ports::Port;
 
 // The words of a port, of a process and of a pipe's ends; where those of the pipes begin, and the words of all.
-pub const PORT: usize = 10;
+pub const PORT: usize = 5;
 
 pub const PROCESS: usize = STREAMS * PORT;
 
-pub const END: usize = 9;
+pub const END: usize = 3;
 
 pub const PIPE_ROWS: usize = PROCESSES * PROCESS;
 
 pub const PORTS: usize = PIPE_ROWS + PIPES * END;
+
+// What the high number of a word counts for.
+const HIGH: usize = 131072;
 
 // How many processes, streams and pipes there are.
 pub struct Size {
@@ -36,47 +41,59 @@ pub struct Size {
     pub pipes: usize,
 }
 
+// A word of a low and a high number.
+fn pack(low: usize, high: usize) -> u32
+    requires { ⌜ (low < lowEnd) × (high < highEnd) ⌝ }
+    ensures { λ r. ⌜ r ≡ pack low high ⌝ }
+{
+    (low + HIGH * high) as u32
+}
+
+// The low number of word i, and the high one.
+fn low(ports: &[u32], i: usize) -> usize
+    requires { ⌜ i < length (now ports) ⌝ }
+    ensures { λ r. ⌜ (r ≡ low (getD (now (ports .entry)) i 0)) × (r < lowEnd) ⌝ }
+{
+    ports::word(ports, i) % HIGH
+}
+
+fn high(ports: &[u32], i: usize) -> usize
+    requires { ⌜ i < length (now ports) ⌝ }
+    ensures { λ r. ⌜ r ≡ high (getD (now (ports .entry)) i 0) ⌝ }
+{
+    ports::word(ports, i) / HIGH
+}
+
 // The words of a port's row.
 fn port_words(k: Port) -> [u32; PORT]
     requires { ⌜ PortWide k ⌝ }
     ensures { λ r. ⌜ r ≡ portWords k ⌝ }
 {
     [
-        k.at as u32,
-        k.before as u32,
-        k.after as u32,
-        k.room as u32,
-        k.fired as u32,
-        k.hop as u32,
-        k.soak as u32,
-        k.count as u32,
-        k.total as u32,
-        words::flag(k.keeps),
+        pack(k.at, k.soak),
+        pack(k.before, k.count),
+        pack(k.after, k.total),
+        pack(k.room, k.hop),
+        pack(k.fired, words::flag(k.keeps) as usize),
     ]
 }
 
-// The words of the row of a pipe's ends.
+// The words of the row of a pipe's ends: what is not among them follows from what is.
 fn end_words(e: End) -> [u32; END]
     requires { ⌜ EndWide e ⌝ }
     ensures { λ r. ⌜ r ≡ endWords e ⌝ }
 {
     [
-        e.sent as u32,
-        e.after as u32,
-        e.room as u32,
-        e.before as u32,
-        e.received as u32,
-        e.last as u32,
-        e.hop as u32,
-        e.total as u32,
-        e.offset as u32,
+        pack(e.sent, e.offset),
+        pack(e.after, e.total),
+        pack(e.before, e.hop),
     ]
 }
 
 // The row of a port goes to place `at`.
 pub fn put_port(ports: &mut [u32], at: usize, k: Port)
-    requires { ⌜ (at + 10 ≤ length (now ports)) × (PortWide k) ⌝ }
-    ensures { λ r. ⌜ now (ports .exit) ≡ stored (portWords k) at 10 (now (ports .entry)) ⌝ }
+    requires { ⌜ (at + 5 ≤ length (now ports)) × (PortWide k) ⌝ }
+    ensures { λ r. ⌜ now (ports .exit) ≡ stored (portWords k) at 5 (now (ports .entry)) ⌝ }
 {
     let row = port_words(k);
     words::store(ports, at, &row);
@@ -84,8 +101,8 @@ pub fn put_port(ports: &mut [u32], at: usize, k: Port)
 
 // The row of a pipe's ends.
 pub fn put_end(ports: &mut [u32], at: usize, e: End)
-    requires { ⌜ (at + 9 ≤ length (now ports)) × (EndWide e) ⌝ }
-    ensures { λ r. ⌜ now (ports .exit) ≡ stored (endWords e) at 9 (now (ports .entry)) ⌝ }
+    requires { ⌜ (at + 3 ≤ length (now ports)) × (EndWide e) ⌝ }
+    ensures { λ r. ⌜ now (ports .exit) ≡ stored (endWords e) at 3 (now (ports .entry)) ⌝ }
 {
     let row = end_words(e);
     words::store(ports, at, &row);
@@ -93,38 +110,40 @@ pub fn put_end(ports: &mut [u32], at: usize, e: End)
 
 // The port's row at place `at`.
 fn port_read(ports: &[u32], at: usize) -> Port
-    requires { ⌜ (at + 10 ≤ length (now ports)) × (length (now ports) ≤ 4294967296) ⌝ }
+    requires { ⌜ (at + 5 ≤ length (now ports)) × (length (now ports) ≤ 4294967296) ⌝ }
     ensures { λ r. ⌜ r ≡ portRead (now (ports .entry)) at ⌝ }
 {
     Port {
-        at: ports::word(ports, at),
-        before: ports::word(ports, at + 1),
-        after: ports::word(ports, at + 2),
-        room: ports::word(ports, at + 3),
-        fired: ports::word(ports, at + 4),
-        hop: ports::word(ports, at + 5),
-        soak: ports::word(ports, at + 6),
-        count: ports::word(ports, at + 7),
-        total: ports::word(ports, at + 8),
-        keeps: ports::word(ports, at + 9) != 0,
+        at: low(ports, at),
+        before: low(ports, at + 1),
+        after: low(ports, at + 2),
+        room: low(ports, at + 3),
+        fired: low(ports, at + 4),
+        hop: high(ports, at + 3),
+        soak: high(ports, at),
+        count: high(ports, at + 1),
+        total: high(ports, at + 2),
+        keeps: high(ports, at + 4) != 0,
     }
 }
 
 // The row of a pipe's ends at place `at`.
 fn end_read(ports: &[u32], at: usize) -> End
-    requires { ⌜ (at + 9 ≤ length (now ports)) × (length (now ports) ≤ 4294967296) ⌝ }
+    requires { ⌜ (at + 3 ≤ length (now ports)) × (length (now ports) ≤ 4294967296) ⌝ }
     ensures { λ r. ⌜ r ≡ endRead (now (ports .entry)) at ⌝ }
 {
+    let sent = low(ports, at);
+    let after = low(ports, at + 1);
     End {
-        sent: ports::word(ports, at),
-        after: ports::word(ports, at + 1),
-        room: ports::word(ports, at + 2),
-        before: ports::word(ports, at + 3),
-        received: ports::word(ports, at + 4),
-        last: ports::word(ports, at + 5),
-        hop: ports::word(ports, at + 6),
-        total: ports::word(ports, at + 7),
-        offset: ports::word(ports, at + 8),
+        sent: sent,
+        after: after,
+        room: after + 4,
+        before: low(ports, at + 2),
+        received: sent + 1,
+        last: sent + 2,
+        hop: high(ports, at + 2),
+        total: high(ports, at + 1),
+        offset: high(ports, at),
     }
 }
 

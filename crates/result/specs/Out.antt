@@ -14,7 +14,7 @@ use Rattle.lists.specs.Rows.{same-every}
 use Rattle.ports.specs.declared.End.{End}
 use Rattle.ports.specs.Links.{word}
 use Rattle.port_table.specs.declared.Size.{Size}
-use Rattle.port_table.specs.PortsOf.{endAt, SizeOf, PortsOf, RowsFit}
+use Rattle.port_table.specs.PortsOf.{portTableWords, endAt, SizeOf, PortsOf, RowsFit}
 
 -- of pipe q, by the rows of a port table
 abbrev outOf : List ℕ → End → Bool
@@ -25,7 +25,7 @@ outBy b st q = outOf st (endAt b q)
 
 -- a port table whose rows of so many pipes say where their counts are in a state of n words
 pub record Asked (b : List ℕ) (n pipes : ℕ) : Type 0 where
-  pub words : length b ≡ 116736
+  pub words : length b ≡ portTableWords
   pub most : pipes ≤ 6144
   pub received : (q : ℕ) → q < pipes → endAt b q .received < n
 

@@ -34,7 +34,7 @@ put-end-requires c κs =
     let p = h .0 in (
       omega (arith, h .1, p .based, p .pipe),
       subst EndWide (sym (c .before .end-of .ensures))
-          (end-wide (p .narrow) (p .flows) (p .lt) (p .small) (a .start) (a .j) (p .begins) (omega (arith, p .pipe))),
+          (end-wide (p .narrow) (p .flows .laid) (p .lt) (p .small) (a .start) (a .j) (p .begins) (omega (arith, p .pipe))),
     )
 
 same-length : tie.Need-same-length

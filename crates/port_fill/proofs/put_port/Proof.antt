@@ -1,5 +1,5 @@
--- `port_fill::put_port` meets its contract: p is below 1,024 and i below 6, so that its ten words lie in the table, and each number of the
--- row fits a word. Assumes nothing.
+-- `port_fill::put_port` meets its contract: p is below 1,024 and i below 6, so that its five words lie in the table, and each number of the
+-- row fits its part of a word. Assumes nothing.
 use borrow.Author.Needs.{needs}
 use mathlib.Core.Path.{sym, subst}
 use native.Mathlib.Omega.{arith}
@@ -32,7 +32,7 @@ put-port-requires c κs =
     let p = c .before .before .before .before .before .before .pre in (
       omega (arith, p .1, p .0 .has-port .near .lt, few (p .0 .has-port .near), p .0 .stream),
       subst PortWide (sym (c .before .row-of .ensures))
-          (row-wide (p .0 .narrow) (p .0 .has-port .near .seen .flows) (p .0 .has-port .near .lt) (p .0 .small)),
+          (row-wide (p .0 .narrow) (p .0 .has-port .near .seen .flows .laid) (p .0 .has-port .near .lt) (p .0 .small)),
     )
 
 same-length : tie.Need-same-length

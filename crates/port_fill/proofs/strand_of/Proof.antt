@@ -4,7 +4,7 @@ use borrow.Author.Needs.{needs}
 use mathlib.Core.Path.{ap}
 use Prim.Native.Nat.{ℕ}
 use native.Mathlib.Omega.{arith}
-use Rattle.port_fill.specs.Strung.{strandFrom}
+use Rattle.port_fill.specs.Strung.{strandFrom, strand-narrow}
 use Rattle.stream_lines.specs.StateWords.{process-words}
 use Rattle.port_fill.proofs.strand_of.Statement.{statement}
 use Rattle.port_fill.proofs.strand_of.Tie as tie
@@ -24,14 +24,9 @@ add-t9 c = let p = c .before .before .before .pre in record { fits = omega (arit
 returns : tie.Need-returns
 returns c =
     let s = c .before .before .before in
-    let m = process-words (s .pre .1) (s .pre .2) in (
-      ap (λ (k : ℕ). strandFrom k (s .args .processes) (s .args .stride) (s .args .t)) (c .before .before .hop-of .ensures),
-      record {
-        hop = omega (arith, c .before .before .hop-of .ensures, s .pre .0 .hop);
-        stride = s .pre .2;
-        offset = omega (arith, s .pre .3 .words);
-        tail = omega (arith, m, s .pre .3 .ends);
-      },
+    let e = c .before .before .hop-of .ensures in (
+      ap (λ (k : ℕ). strandFrom k (s .args .processes) (s .args .stride) (s .args .t)) e,
+      strand-narrow (omega (arith, e, s .pre .0 .hop)) (s .pre .1) (s .pre .2) (s .pre .3),
     )
 
 pub strand-of-spec : {M : Type 1} → statement M

@@ -1,58 +1,53 @@
--- `port_table::port_words` meets its contract. Assumes nothing.
+-- `port_table::port_words` meets its contract: whether the process keeps an element is 0 or 1, which fits. Assumes nothing.
 use borrow.Author.Needs.{needs}
-use mathlib.Core.Path.{ap}
+use mathlib.Core.Path.{_∙_, ap}
 use mathlib.Core.List.{[], _∷_}
-use Prim.Native.Nat.{ℕ}
+use Rattle.port_table.specs.Pack.{pack}
+use Rattle.port_table.specs.Rows.{flag-low}
 use Rattle.port_table.proofs.port_words.Statement.{statement}
 use Rattle.port_table.proofs.port_words.Tie as tie
 
-cast-t2 : tie.Need-cast-t2
-cast-t2 c = search needs
+pack-requires : tie.Need-pack-requires
+pack-requires c κs = search needs
 
-cast-t3 : tie.Need-cast-t3
-cast-t3 c = search needs
+pack-requires-2 : tie.Need-pack-requires-2
+pack-requires-2 c κs = search needs
 
-cast-t4 : tie.Need-cast-t4
-cast-t4 c = search needs
+pack-requires-3 : tie.Need-pack-requires-3
+pack-requires-3 c κs = search needs
 
-cast-t5 : tie.Need-cast-t5
-cast-t5 c = search needs
-
-cast-t6 : tie.Need-cast-t6
-cast-t6 c = search needs
-
-cast-t7 : tie.Need-cast-t7
-cast-t7 c = search needs
-
-cast-t8 : tie.Need-cast-t8
-cast-t8 c = search needs
-
-cast-t9 : tie.Need-cast-t9
-cast-t9 c = search needs
-
-cast-t10 : tie.Need-cast-t10
-cast-t10 c = search needs
+pack-requires-4 : tie.Need-pack-requires-4
+pack-requires-4 c κs = search needs
 
 flag-requires : tie.Need-flag-requires
 flag-requires c κs = search needs
 
+cast-pack : tie.Need-cast-pack
+cast-pack c = search needs
+
+pack-requires-5 : tie.Need-pack-requires-5
+pack-requires-5 c κs = let s = c .before .before .before .before .before in
+    (s .pre .fired, flag-low (s .args .k .keeps) (c .flag .ensures))
+
 returns : tie.Need-returns
 returns c =
-    let k = c .before .before .before .before .before .before .before .before .before .before .args .k in
-    ap (λ (w : ℕ). k .at ∷ k .before ∷ k .after ∷ k .room ∷ k .fired ∷ k .hop ∷ k .soak ∷ k .count ∷ k .total ∷ w ∷ []) (c .flag .ensures)
+    let k = c .before .before .before .before .before .before .args .k in
+    let first = c .before .before .before .before .before .pack .ensures in
+    let second = c .before .before .before .before .pack2 .ensures in
+    let third = c .before .before .before .pack3 .ensures in
+    let fourth = c .before .before .pack4 .ensures in
+    let fifth = c .pack5 .ensures ∙ ap (pack (k .fired)) (c .before .flag .ensures) in
+    λ i. first i ∷ second i ∷ third i ∷ fourth i ∷ fifth i ∷ []
 
 pub port-words-spec : {M : Type 1} → statement M
 port-words-spec =
     tie.close
     (tie.spec
-    cast-t2
-    cast-t3
-    cast-t4
-    cast-t5
-    cast-t6
-    cast-t7
-    cast-t8
-    cast-t9
-    cast-t10
+    pack-requires
+    pack-requires-2
+    pack-requires-3
+    pack-requires-4
     flag-requires
+    cast-pack
+    pack-requires-5
     returns)
