@@ -7,6 +7,7 @@ use native.Mathlib.Omega.{arith}
 use lib.ListN.{length, getD}
 use lib.IntN.{pos}
 use lib.Signed.{ltZ}
+use Rattle.integers.specs.Differences.{Abs}
 use Rattle.integers.specs.Bounds.{Abs-wider, Abs-neg}
 use Rattle.integers.specs.Words.{eqZ, eqZ→eq}
 use Rattle.integers.specs.Vectors.{zero2, neg2, shift2}
@@ -28,6 +29,7 @@ use Rattle.vectors.specs.Within.{Within2}
 use Rattle.stream_lines.specs.InRange.{InRange}
 use Rattle.numbering.specs.Ranges.{between-apart}
 use Rattle.numbering.specs.Extents.{Spanning, boxed, box-spanning}
+use Rattle.counting.specs.Forms.{weigh}
 use Rattle.layout.specs.Rays.{Going}
 use Rattle.layout.specs.Spans.{processOf, Spans}
 use Rattle.lanes.specs.declared.Flow.{Flow}
@@ -71,6 +73,8 @@ pub record Flows (f : Flow) : Type 0 where
   pub pass-small : Within2 4800 (f .pass)
   pub against-is : f .against ≡ neg2 (pass (f .nest) (f .stream))
   pub against-small : Within2 4800 (f .against)
+  pub step-is : f .step ≡ weigh (space (f .nest)) (move (f .nest) (f .stream) .a) (move (f .nest) (f .stream) .b)
+  pub step-small : Abs (f .step) 1538
   pub moving-is : f .moving ≡ not (stationary (f .nest) (f .stream))
   pub turned-is : f .turned ≡ backward (move (f .nest) (f .stream))
 
@@ -109,10 +113,10 @@ module _ {f : Flow} (h : Flows f) where
   counted-is e = e ∙ ap (λ (b : Box). length (points b)) (h .space-is)
 
   module _ {p : ℕ} (lt : p < length (processes (f .nest))) {y : V2} (ey : y ≡ getD (points (boxed (f .space))) p zero2) where
-    pub point-is : y ≡ processOf (f .nest) p
+    point-is : y ≡ processOf (f .nest) p
     point-is = ey ∙ ap (λ (k : Box). getD (points k) p zero2) (h .space-is)
 
-    pub inside-space : Inside (space (f .nest)) y
+    inside-space : Inside (space (f .nest)) y
     inside-space = subst (Inside (space (f .nest))) (sym point-is)
         (points-inside (space (f .nest)) (processOf (f .nest) p) (getD-in (processes (f .nest)) p zero2 lt))
 

@@ -7,6 +7,7 @@
 // specs/, by file:
 //
 //   Lanes     the pass, by numbers alone
+//   Along     row numbers along a vector: `row-on`
 //   Held      what the lanes hold of a stream's pipes: `held-is`, `soak-held`
 //   Flow      what is known of a stream once and for all its processes: `Flows`
 //   All       the lanes of all streams, block by block: `LanesOf`
@@ -14,9 +15,12 @@
 ghost use mathlib.Core.Path.{_≡_};
 ghost use Prim.Native.Nat.{_<_};
 ghost use lib.ListN.{length};
+ghost use Rattle.integers.specs.Differences.{Abs};
 ghost use Rattle.meaning.specs.Space.{processes};
 ghost use Rattle.meaning.specs.Pipes.{backward};
 ghost use Rattle.vectors.specs.Within.{Within2};
+ghost use Rattle.numbering.specs.Extents.{Spanning, boxed};
+ghost use Rattle.counting.specs.Forms.{weigh};
 ghost use Rattle.lanes.specs.Lanes.{visited};
 ghost use Rattle.lanes.specs.Held.{entryNumber};
 ghost use Rattle.lanes.specs.Flow.{Laid, Flows, Visitable, Fillable, Seen};
@@ -39,8 +43,8 @@ pub const LANES: usize = 4 * PROCESSES;
 // The words of the lanes of all streams.
 pub const ALL: usize = STREAMS * LANES;
 
-// A stream in its nest: the process space and its own box, its move and index map times increment, each also turned round; whether it
-// moves, and whether its move leads back in row order.
+// A stream in its nest: the process space and its own box, its move and index map times increment, each also turned round; by how much its
+// move changes a process's number; whether it moves, and whether its move leads back in row order.
 pub struct Flow {
     pub nest: Nest,
     pub stream: Stream,
@@ -50,6 +54,7 @@ pub struct Flow {
     pub back: V2,
     pub pass: V2,
     pub against: V2,
+    pub step: i32,
     pub moving: bool,
     pub turned: bool,
 }
@@ -62,6 +67,16 @@ fn backward(v: V2) -> bool
     if v.a == 0 { v.b < 0 } else { v.a < 0 }
 }
 
+// By how much a vector changes the row numbers in a box.
+fn step_of(e: Extent, v: V2) -> i32
+    requires { ⌜ (Spanning (boxed e)) × (Within2 1 v) ⌝ }
+    ensures { λ r. ⌜ (r ≡ weigh (boxed e) (v .a) (v .b)) × (Abs r 1538) ⌝ }
+{
+    let lo = e.lo;
+    let hi = e.hi;
+    (numbering::distance(lo.b, hi.b) + 1) as i32 * v.a + v.b
+}
+
 pub fn flow_of(n: Nest, s: Stream) -> Flow
     requires { ⌜ Laid n s ⌝ }
     ensures { λ r. ⌜ (r .nest ≡ n) × (r .stream ≡ s) × (Flows r) ⌝ }
@@ -70,15 +85,17 @@ pub fn flow_of(n: Nest, s: Stream) -> Flow
     let map = s.map;
     let way = stream_lines::move_of(n, s);
     let pass = vectors::image_of(map, vectors::line_of(n, place));
+    let space = numbering::extent_of(n, place);
     Flow {
         nest: n,
         stream: s,
-        space: numbering::extent_of(n, place),
+        space: space,
         elements: numbering::extent_of(n, map),
         way: way,
         back: vectors::opposite(way),
         pass: pass,
         against: vectors::opposite(pass),
+        step: step_of(space, way),
         moving: stream_lines::moves(n, s),
         turned: backward(way),
     }

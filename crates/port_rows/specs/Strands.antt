@@ -5,26 +5,28 @@ use mathlib.Core.List.{List}
 use Prim.Native.Nat.{ℕ, zero, suc, _+_, _*_, _≤_, _<_}
 use native.Mathlib.Omega.{arith}
 use lib.Dec.{eqb}
-use lib.IntN.{pos}
+use lib.IntN.{ℤ, pos, _+ℤ_, _-ℤ_, _*ℤ_}
+use lib.Signed.{_≤ℤ_}
 use lib.ListN.{length, getD}
 use borrow.Author.Tests.{eq-eqb, ne-eqb, eqb-false}
+use Rattle.integers.specs.Differences.{zrules}
 use Rattle.integers.specs.Vectors.{zero2, shift2, image}
 use Rattle.integers.specs.declared.V2.{V2}
 use Rattle.meaning.specs.declared.Nest.{Nest}
 use Rattle.meaning.specs.declared.Stream.{Stream}
 use Rattle.meaning.specs.Limits.{gaugeLimits, processWordsMost, stateWordsMost}
 use Rattle.meaning.specs.Loops.{instances}
-use Rattle.meaning.specs.Space.{eq2, Box, points, rowIndex, space, processes, sentTo, count, computing}
+use Rattle.meaning.specs.Space.{eq2, rowIndex, space, processes, sentTo, count, computing}
 use Rattle.meaning.specs.Streams.{stationary, move}
 use Rattle.meaning.specs.Pipes.{reach, before, isPipe, pipeElements}
 use Rattle.meaning.specs.Array.{rowSoak}
 use Rattle.meaning.specs.Points.{Inside}
 use Rattle.lists.specs.Tests.{filter-fewer}
+use Rattle.geometry.specs.Places.{getD-in}
+use Rattle.geometry.specs.Boxes.{points-inside}
 use Rattle.geometry.specs.Reach.{reach-in}
-use Rattle.geometry.specs.RowOrder.{row-lt}
+use Rattle.geometry.specs.RowOrder.{row-lt, row-number}
 use Rattle.addresses.specs.Ends.{backOf, onOf, exitOf, back-inside}
-use Rattle.vectors.specs.Within.{Within2}
-use Rattle.numbering.specs.Extents.{boxed}
 use Rattle.layout.specs.Spans.{processOf}
 use Rattle.layout.specs.Rays.{reach-small}
 use Rattle.ports.specs.declared.Port.{Port}
@@ -34,7 +36,8 @@ use Rattle.pipe_parts.specs.Starts.{enteredAt, entered-le}
 use Rattle.pipe_parts.specs.Heads.{Heads, pipe-some}
 use Rattle.lanes.specs.declared.Flow.{Flow}
 use Rattle.lanes.specs.Held.{entryNumber}
-use Rattle.lanes.specs.Flow.{Flows, point-is, inside-space, going-on, reach-on}
+use Rattle.lanes.specs.Along.{row-on, row-back}
+use Rattle.lanes.specs.Flow.{Flows, going-on, reach-on}
 use Rattle.pipes.specs.Elements.{Near, computes-is, good, inside, entry-lt}
 use Rattle.port_rows.specs.declared.Strand.{Strand}
 
@@ -45,53 +48,55 @@ pub record Narrow (g : Strand) : Type 0 where
   pub offset : g .offset ≤ processWordsMost
   pub tail : g .tail ≤ stateWordsMost
 
--- ---- points on a line
+-- ---- numbers on a line
 
-module _ {f : Flow} (h : Flows f) {p : ℕ} (lt : p < length (processes (f .nest))) {y : V2}
-    (ey : y ≡ getD (points (boxed (f .space))) p zero2) where
-  pub way-small : Within2 1 (f .way)
-  way-small = subst (Within2 1) (sym (h .way-is)) (h .laid .small)
+module _ {f : Flow} (h : Flows f) {p : ℕ} (lt : p < length (processes (f .nest))) where
+  here-in : Inside (space (f .nest)) (processOf (f .nest) p)
+  here-in = points-inside (space (f .nest)) (processOf (f .nest) p) (getD-in (processes (f .nest)) p zero2 lt)
 
-  pub on-far : {k : ℕ} → k ≤ reach (space (f .nest)) (move (f .nest) (f .stream)) (processOf (f .nest) p) → k ≤ 1536
-  on-far l = omega (arith, reach-small (going-on h lt ey), reach-on h lt ey refl)
+  here-is : pos (rowIndex (space (f .nest)) (processOf (f .nest) p)) ≡ pos p
+  here-is = ap pos (row-number (space (f .nest)) p zero2 lt)
 
-  module _ {k : ℕ} (l : k ≤ reach (space (f .nest)) (move (f .nest) (f .stream)) (processOf (f .nest) p)) {z : V2}
-      (ez : z ≡ shift2 y (pos k) (f .way)) where
-    on-eq : z ≡ shift2 (processOf (f .nest) p) (pos k) (move (f .nest) (f .stream))
-    on-eq = ez ∙ ap₂ (λ (v w : V2). shift2 v (pos k) w) (point-is h lt ey) (h .way-is)
+  pub process-few : p ≤ 1024
+  process-few = omega (arith, h .laid .processes)
 
-    on-in : Inside (space (f .nest)) z
-    on-in =
-        subst (Inside (space (f .nest))) (sym on-eq)
-        (reach-in (space (f .nest)) (h .laid .accepted .goes)
-        (subst (Inside (space (f .nest))) (point-is h lt ey) (inside-space h lt ey)) k l)
+  module _ {k : ℕ} (l : k ≤ reach (space (f .nest)) (move (f .nest) (f .stream)) (processOf (f .nest) p)) where
+    abbrev there : V2
+    there = shift2 (processOf (f .nest) p) (pos k) (move (f .nest) (f .stream))
 
-    pub on-box : Inside (boxed (f .space)) z
-    on-box = subst (λ (b : Box). Inside b z) (sym (h .space-is)) on-in
+    on-in : Inside (space (f .nest)) there
+    on-in = reach-in (space (f .nest)) (h .laid .accepted .goes) here-in k l
 
-    pub on-number : {r : ℕ} → r ≡ rowIndex (boxed (f .space)) z
-        → (r ≡ rowIndex (space (f .nest)) (shift2 (processOf (f .nest) p) (pos k) (move (f .nest) (f .stream)))) × (r < 1024)
-    on-number e =
-        let e' = e ∙ ap (λ (b : Box). rowIndex b z) (h .space-is) in
-        (e' ∙ ap (rowIndex (space (f .nest))) on-eq, omega (arith, e', row-lt (space (f .nest)) z on-in, h .laid .processes))
+    pub on-far : k ≤ 1536
+    on-far = omega (arith, reach-small (going-on h lt refl), reach-on h lt refl refl)
 
-  module _ (l : 0 < before (f .nest) (f .stream) (processOf (f .nest) p)) {z : V2} (ez : z ≡ shift2 y (pos 1) (f .back)) where
-    back-eq : z ≡ backOf (f .nest) (f .stream) (processOf (f .nest) p)
-    back-eq = ez ∙ ap₂ (λ (v w : V2). shift2 v (pos 1) w) (point-is h lt ey) (h .back-is)
+    pub on-number : pos p +ℤ pos k *ℤ f .step ≡ pos (rowIndex (space (f .nest)) there)
+    on-number =
+        ap₂ (λ (a b : ℤ). a +ℤ pos k *ℤ b) (sym here-is) (h .step-is)
+        ∙ sym (row-on (space (f .nest)) (move (f .nest) (f .stream)) (pos k) here-in on-in)
 
-    back-in : Inside (space (f .nest)) z
-    back-in =
-        subst (Inside (space (f .nest))) (sym back-eq)
-        (back-inside (h .laid .accepted) (subst (Inside (space (f .nest))) (point-is h lt ey) (inside-space h lt ey)) l)
+    pub on-some : pos 0 ≤ℤ (pos p +ℤ pos k *ℤ f .step)
+    on-some = subst (λ (z : ℤ). pos 0 ≤ℤ z) (sym on-number) (omega (arith, zrules))
 
-    pub back-box : Inside (boxed (f .space)) z
-    back-box = subst (λ (b : Box). Inside b z) (sym (h .space-is)) back-in
+    pub on-lt : rowIndex (space (f .nest)) there < 1024
+    on-lt = omega (arith, row-lt (space (f .nest)) there on-in, h .laid .processes)
 
-    pub back-number : {r : ℕ} → r ≡ rowIndex (boxed (f .space)) z
-        → (r ≡ rowIndex (space (f .nest)) (backOf (f .nest) (f .stream) (processOf (f .nest) p))) × (r < 1024)
-    back-number e =
-        let e' = e ∙ ap (λ (b : Box). rowIndex b z) (h .space-is) in
-        (e' ∙ ap (rowIndex (space (f .nest))) back-eq, omega (arith, e', row-lt (space (f .nest)) z back-in, h .laid .processes))
+  module _ (l : 0 < before (f .nest) (f .stream) (processOf (f .nest) p)) where
+    abbrev behind : V2
+    behind = backOf (f .nest) (f .stream) (processOf (f .nest) p)
+
+    back-in : Inside (space (f .nest)) behind
+    back-in = back-inside (h .laid .accepted) here-in l
+
+    pub back-number : pos p -ℤ f .step ≡ pos (rowIndex (space (f .nest)) behind)
+    back-number =
+        ap₂ _-ℤ_ (sym here-is) (h .step-is) ∙ sym (row-back (space (f .nest)) (move (f .nest) (f .stream)) here-in back-in)
+
+    pub back-some : pos 0 ≤ℤ (pos p -ℤ f .step)
+    back-some = subst (λ (z : ℤ). pos 0 ≤ℤ z) (sym back-number) (omega (arith, zrules))
+
+    pub back-lt : rowIndex (space (f .nest)) behind < 1024
+    back-lt = omega (arith, row-lt (space (f .nest)) behind back-in, h .laid .processes)
 
 -- ---- the rows
 

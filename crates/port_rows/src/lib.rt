@@ -65,10 +65,7 @@ fn number_on(f: Flow, p: u32, k: u32) -> u32
     ensures { λ r. ⌜ (r ≡ rowIndex (space (f .nest)) (shift2 (processOf (f .nest) p) (pos k) (move (f .nest) (f .stream))))
         × (r < gaugeLimits .processes) ⌝ }
 {
-    let space = f.space;
-    let way = f.way;
-    let y = layout::point_at(space, p);
-    numbering::row_number(space, vectors::moved(y, way, k))
+    (p as i32 + k as i32 * f.step) as u32
 }
 
 // The number of the process before process p, which is no entry.
@@ -77,10 +74,7 @@ fn number_back(f: Flow, p: u32) -> u32
     ensures { λ r. ⌜ (r ≡ rowIndex (space (f .nest)) (backOf (f .nest) (f .stream) (processOf (f .nest) p)))
         × (r < gaugeLimits .processes) ⌝ }
 {
-    let space = f.space;
-    let back = f.back;
-    let y = layout::point_at(space, p);
-    numbering::row_number(space, vectors::moved(y, back, 1))
+    (p as i32 - f.step) as u32
 }
 
 // The number of the pipe of process p in the stream, and how many elements it has, 0 without a pipe: both at the entry of its line.

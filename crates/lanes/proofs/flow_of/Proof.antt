@@ -1,10 +1,15 @@
 -- `lanes::flow_of` meets its contract: the components of a move are at most 1 either way, and stay so as it is turned round.
 -- Assumes nothing.
-use mathlib.Core.Path.{refl, sym, _∙_, ap, subst}
+use mathlib.Core.Path.{refl, sym, _∙_, ap, ap₂, subst}
 use borrow.Author.Needs.{needs}
+use Rattle.integers.specs.Words.{held, held-abs}
 use Rattle.integers.specs.Vectors.{neg2, image}
+use Rattle.integers.specs.declared.V2.{V2}
+use Rattle.meaning.specs.Space.{Box}
 use Rattle.meaning.specs.Pipes.{backward}
 use Rattle.vectors.specs.Within.{Within2}
+use Rattle.numbering.specs.Extents.{Spanning, box-spanning}
+use Rattle.counting.specs.Forms.{weigh}
 use Rattle.lanes.specs.Flow.{wider2, neg-small}
 use Rattle.lanes.proofs.flow_of.Statement.{statement}
 use Rattle.lanes.proofs.flow_of.Tie as tie
@@ -32,24 +37,35 @@ opposite-requires c κs =
 opposite-requires-2 : tie.Need-opposite-requires-2
 opposite-requires-2 c κs = search needs
 
+step-of-requires : tie.Need-step-of-requires
+step-of-requires c κs =
+    let e = c .before .before .before in
+    let m = e .before .before .before in
+    let r = m .before .before .before .pre in (
+      subst Spanning (sym (e .extent-of .ensures .0)) (box-spanning (r .in-range .nest) (r .in-range .nest .place)),
+      subst (Within2 1) (sym (m .move-of .ensures)) (r .small),
+    )
+
 moves-requires : tie.Need-moves-requires
-moves-requires c κs = c .before .before .before .before .before .before .before .before .before .pre .in-range
+moves-requires c κs = c .before .before .before .before .before .before .before .before .before .before .pre .in-range
 
 backward-requires : tie.Need-backward-requires
 backward-requires c κs =
-    let m = c .before .before .before .before .before .before .before in
+    let m = c .before .before .before .before .before .before .before .before in
     subst (Within2 4800) (sym (m .move-of .ensures)) (wider2 (m .before .before .before .pre .small))
 
 returns : tie.Need-returns
 returns c =
-    let g = c .before .before in
+    let t = c .before .before in
+    let g = t .before in
     let k = g .before in
     let b = k .before in
     let i = b .before .before in
     let m = i .before .before in
     let s = m .before .before .before in
     let e = k .opposite .ensures .0 ∙ ap neg2 (m .move-of .ensures) in
-    let q = i .image-of .ensures .0 ∙ ap (image (s .args .s .map)) (i .before .line-of .ensures .0) in (
+    let q = i .image-of .ensures .0 ∙ ap (image (s .args .s .map)) (i .before .line-of .ensures .0) in
+    let z = ap₂ (λ (k : Box) (v : V2). weigh k (v .a) (v .b)) (b .before .extent-of .ensures .0) (m .move-of .ensures) in (
       refl,
       refl,
       record {
@@ -63,6 +79,8 @@ returns c =
         pass-small = i .image-of .ensures .1;
         against-is = g .opposite2 .ensures .0 ∙ ap neg2 q;
         against-small = g .opposite2 .ensures .1;
+        step-is = held (t .step-of .ok) (t .step-of .ensures .0 ∙ z);
+        step-small = held-abs (t .step-of .ok) (t .step-of .ensures .1);
         moving-is = c .before .moves .ensures;
         turned-is = c .backward .ensures ∙ ap backward (m .move-of .ensures);
       },
@@ -79,6 +97,7 @@ flow-of-spec =
     extent-of-requires-2
     opposite-requires
     opposite-requires-2
+    step-of-requires
     moves-requires
     backward-requires
     returns)

@@ -1,25 +1,30 @@
--- `port_rows::number_back` meets its contract. Assumes nothing.
+-- `port_rows::number_back` meets its contract: the process before p has a number, one step back. Assumes nothing.
+use borrow.Author.Needs.{needs}
+use mathlib.Core.Path.{_∙_, ap}
 use native.Mathlib.Omega.{arith}
-use Rattle.lanes.specs.Flow.{spanning, point-lt, point-small}
-use Rattle.port_rows.specs.Strands.{back-box, back-number}
+use lib.IntN.{natAbs}
+use Rattle.integers.specs.Words.{at, bits, box, sub, fits, cast-of}
+use Rattle.port_rows.specs.Strands.{process-few, back-number, back-some, back-lt}
 use Rattle.port_rows.proofs.number_back.Statement.{statement}
 use Rattle.port_rows.proofs.number_back.Tie as tie
 
-point-at-requires : tie.Need-point-at-requires
-point-at-requires c κs = let p = c .before .before .pre in (spanning (p .0), point-lt (p .0) (p .1))
+cast-result : tie.Need-cast-result
+cast-result c = search needs
 
-moved-requires : tie.Need-moved-requires
-moved-requires c κs = let p = c .before .before .before .pre in
-    (point-small (p .0) (p .1) (c .point-at .ensures), p .0 .back-small, omega arith)
+sub-result : tie.Need-sub-result
+sub-result c = let p = c .before .before .pre in fits tt (sub (bits tt (process-few (p .0) (p .1))) (at tt (p .0 .step-small)))
 
-row-number-requires : tie.Need-row-number-requires
-row-number-requires c κs = let p = c .before .before .before .before .pre in
-    (spanning (p .0), back-box (p .0) (p .1) (c .before .point-at .ensures) (p .2) (c .moved .ensures))
+cast-result-2 : tie.Need-cast-result-2
+cast-result-2 c =
+    let p = c .before .before .pre in
+    cast-of tt (box tt (sub (bits tt (process-few (p .0) (p .1))) (at tt (p .0 .step-small)))) (back-some (p .0) (p .1) (p .2))
 
 returns : tie.Need-returns
-returns c = let p = c .before .before .before .before .before .pre in
-    back-number (p .0) (p .1) (c .before .before .point-at .ensures) (p .2) (c .before .moved .ensures) (c .row-number .ensures)
+returns c =
+    let p = c .before .before .pre in
+    let e = ap natAbs (box tt (sub (bits tt (process-few (p .0) (p .1))) (at tt (p .0 .step-small))) .eq
+    ∙ back-number (p .0) (p .1) (p .2)) in
+    (e, omega (arith, e, back-lt (p .0) (p .1) (p .2)))
 
 pub number-back-spec : {M : Type 1} → statement M
-number-back-spec =
-    tie.close (tie.spec point-at-requires moved-requires row-number-requires returns)
+number-back-spec = tie.close (tie.spec cast-result sub-result cast-result-2 returns)
