@@ -7,7 +7,6 @@ ghost use Rattle.vectors.specs.Within.{Within};
 ghost use Rattle.layout.specs.Spans.{processOf};
 ghost use Rattle.instances.specs.Runs.{Computes, Runs};
 use integers::V3;
-use layout::FIRSTS;
 use meaning::Nest;
 
 // The first instance of process p.
@@ -15,7 +14,7 @@ pub fn first_of(n: Nest, spans: &[u32], p: usize) -> V3
     requires { ⌜ Computes n (now spans) p ⌝ }
     ensures { λ r. ⌜ (r ≡ first n (processOf n p)) × (Within 64 r) ⌝ }
 {
-    numbering::instance(n, spans[FIRSTS + p] - 1)
+    layout::first_at(spans, p)
 }
 
 // Its instance f, counted from 0.

@@ -2,4 +2,5 @@
 pub mod Rays
 pub mod Points
 pub mod Parts
+pub mod Codes
 pub mod Spans

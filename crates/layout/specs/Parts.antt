@@ -31,6 +31,10 @@ module _ {A : Type 0} (a k : ℕ) (xs ys : List A) (d : A) (h : a ≤ length xs)
       ap (λ (b : ℕ). getD (putMid a k xs ys) b d) s ∙ behind (length ys + j) ∙ getD-append-add ys (postOf a k xs) j d
       ∙ getD-drop k _ j d ∙ getD-drop a xs (k + j) d ∙ ap (λ (b : ℕ). getD xs b d) t
 
+-- the part itself
+pub mid-at : {A : Type 0} (a k : ℕ) (xs : List A) (d : A) (i : ℕ) → i < k → getD (midOf a k xs) i d ≡ getD xs (a + i) d
+mid-at a k xs d i l = getD-take k _ i d l ∙ getD-drop a xs i d
+
 -- a part whose first n members a loop has set
 module _ {A : Type 0} (f : ℕ → A) (n a k : ℕ) (xs ys : List A) (e : ys ≡ fillBy f n (midOf a k xs)) (h : a + k ≤ length xs) where
   mid : length (midOf a k xs) ≡ k

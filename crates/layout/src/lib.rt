@@ -6,31 +6,41 @@
 //   Rays      how often one can go on is the least that either coordinate allows
 //   Points    the point of a row number; points moved on
 //   Parts     what stands where a part of a list was replaced
+//   Codes     the coordinates of an instance in one word
 //   Spans     what the words say of the processes: `Spans`
 ghost use mathlib.Core.Path.{_≡_};
-ghost use Prim.Native.Nat.{_≤_, _<_, _/_};
+ghost use Prim.Native.Nat.{ℕ, _+_, _≤_, _<_, _/_};
 ghost use lib.ListN.{length, getD};
 ghost use Rattle.meaning.specs.Limits.{gaugeLimits};
+ghost use Rattle.integers.specs.Fill.{fillBy};
 ghost use Rattle.integers.specs.Vectors.{zero2};
 ghost use Rattle.meaning.specs.Loops.{instances};
 ghost use Rattle.meaning.specs.Space.{points, processes};
 ghost use Rattle.meaning.specs.Pipes.{reach};
 ghost use Rattle.geometry.specs.Processes.{Layout};
+ghost use Rattle.vectors.specs.Within.{Within};
 ghost use Rattle.numbering.specs.Ranges.{Bounded};
 ghost use Rattle.numbering.specs.Extents.{Spanning, boxed};
 ghost use Rattle.layout.specs.Rays.{roomOf, Along, firstRay, secondRay, Going};
-ghost use Rattle.layout.specs.Spans.{Spans, spanWords};
+ghost use Rattle.layout.specs.Codes.{codeOf, coded};
+ghost use Rattle.layout.specs.Spans.{Spans, spanWords, numbered};
 use integers::V2;
+use integers::V3;
 use meaning::INSTANCES;
 use meaning::Nest;
 use numbering::Extent;
 
 // The words of the processes: their counts, then their first and then their last instances.
-pub const FIRSTS: usize = sweeps::FIRSTS;
+const FIRSTS: usize = sweeps::FIRSTS;
 
 pub const LASTS: usize = sweeps::LASTS;
 
 pub const SPANS: usize = sweeps::SPANS;
+
+// A code's digits are to this base, and each is a coordinate counted from the least that there is.
+const BASE: u32 = 256;
+
+const LEAST: i32 = -64;
 
 // One coordinate of a box, of a point in it and of the way on from there.
 struct Ray {
@@ -116,6 +126,60 @@ pub fn point_at(e: Extent, p: u32) -> V2
     }
 }
 
+// The instance of a number plus one, zero for none.
+pub fn instance_numbered(n: Nest, k: u32) -> V3
+    requires { ⌜ (Bounded n) × (k ≤ length (instances n)) ⌝ }
+    ensures { λ r. ⌜ (r ≡ numbered n k) × (Within 64 r) ⌝ }
+{
+    if k == 0 {
+        V3 { x: 0, y: 0, z: 0 }
+    } else {
+        numbering::instance(n, k - 1)
+    }
+}
+
+// The coordinates of an instance in one word.
+fn code_of(x: V3) -> u32
+    requires { ⌜ Within 64 x ⌝ }
+    ensures { λ r. ⌜ r ≡ codeOf x ⌝ }
+{
+    (numbering::distance(LEAST, x.x) * BASE + numbering::distance(LEAST, x.y)) * BASE
+        + numbering::distance(LEAST, x.z)
+}
+
+// The coordinates that a word holds.
+fn instance_coded(w: u32) -> V3
+    ensures { λ r. ⌜ r ≡ coded w ⌝ }
+{
+    V3 {
+        x: (w / BASE / BASE) as i32 + LEAST,
+        y: (w / BASE % BASE) as i32 + LEAST,
+        z: (w % BASE) as i32 + LEAST,
+    }
+}
+
+// The first instance of process p, zero for none.
+pub fn first_at(spans: &[u32], p: usize) -> V3
+    requires { ⌜ gaugeLimits .processes + p < length (now spans) ⌝ }
+    ensures { λ r. ⌜ r ≡ coded (getD (now (spans .entry)) (gaugeLimits .processes + p) 0) ⌝ }
+{
+    instance_coded(spans[FIRSTS + p])
+}
+
+// The first instances of the processes, in place of their numbers plus one, so that nobody divides for them again.
+fn fill_firsts(n: Nest, processes: u32, firsts: &mut [u32])
+    requires { ⌜ (Bounded n) × (processes ≤ length (now firsts))
+        × ((p : ℕ) → p < processes → getD (now firsts) p 0 ≤ length (instances n)) ⌝ }
+    ensures { λ r. ⌜ now (firsts .exit)
+        ≡ fillBy (λ p. codeOf (numbered n (getD (now (firsts .entry)) p 0))) processes (now (firsts .entry)) ⌝ }
+{
+    let mut p: u32 = 0;
+    while p < processes {
+        firsts[p as usize] = code_of(instance_numbered(n, firsts[p as usize]));
+        p += 1;
+    }
+}
+
 // Of each process its count, its first and its last instance; how many processes there are.
 pub fn fill_processes(n: Nest, spans: &mut [u32]) -> u32
     requires { ⌜ (Bounded n) × (Layout n) × (length (instances n) ≤ gaugeLimits .instances)
@@ -131,5 +195,6 @@ pub fn fill_processes(n: Nest, spans: &mut [u32]) -> u32
     let mut numbers = [0u32; INSTANCES];
     counting::fill_numbers(n, place, space, &mut numbers);
     sweeps::fill_spans(&numbers, count, back, processes, spans);
+    fill_firsts(n, processes, &mut spans[FIRSTS..LASTS]);
     processes
 }

@@ -2,7 +2,7 @@
 use mathlib.Core.Path.{_≡_, refl, sym, _∙_, ap, ap₂, subst}
 use mathlib.Core.Bool.{Bool, true, false, not, cond}
 use mathlib.Core.List.{List, [], _∷_}
-use Prim.Native.Nat.{ℕ, zero, suc, _+_, _-_, _≤_, _<_}
+use Prim.Native.Nat.{ℕ, suc, _+_, _-_, _≤_, _<_}
 use native.Mathlib.Omega.{arith}
 use lib.Dec.{T, eqb}
 use lib.ListN.{length, getD}
@@ -33,7 +33,7 @@ use Rattle.geometry.specs.Arrays.{one-number}
 use Rattle.vectors.specs.Within.{Rows, wider}
 use Rattle.numbering.specs.Extents.{Spanning, boxed, box-spanning}
 use Rattle.layout.specs.Rays.{Going}
-use Rattle.layout.specs.Spans.{processOf, numbered, Spans}
+use Rattle.layout.specs.Spans.{processOf, numbered-one, Spans}
 use Rattle.lanes.specs.declared.Flow.{Flow}
 use Rattle.lanes.specs.Lanes.{One, One.nobody, One.somebody, held-le as held-most}
 use Rattle.lanes.specs.Held.{entryNumber, computes, heldOn, held-is, running-below, soak-held}
@@ -50,11 +50,6 @@ pub record At (f : Flow) (spans : List ℕ) (p : ℕ) : Type 0 where
 -- the drain of a row of the table
 abbrev pub rowDrain : Nest → Stream → V2 → ℕ
 rowDrain n s y = cond (computing n y) (drain n s y) 0
-
--- an instance by its number plus one
-numbered-is : (n : Nest) (k : ℕ) → 0 < k → numbered n k ≡ getD (instances n) (k - 1) zero3
-numbered-is n zero h = absurd (omega arith)
-numbered-is n (suc k) h = let e : k ≡ suc k - 1 = omega arith in ap (λ (i : ℕ). getD (instances n) i zero3) e
 
 module _ {f : Flow} {spans : List ℕ} {p : ℕ} (a : At f spans p) where
   abbrev n : Nest
@@ -78,17 +73,12 @@ module _ {f : Flow} {spans : List ℕ} {p : ℕ} (a : At f spans p) where
   some : 0 < count n y
   some = computing-count (accepted .layout) runs
 
-  pub first-number : (0 < getD spans (1024 + p) 0) × (getD spans (1024 + p) 0 - 1 < length (instances n))
-      × (getD (instances n) (getD spans (1024 + p) 0 - 1) zero3 ≡ first n y)
-  first-number =
-      let h = a .words .first-some p (a .lt) some in
-      (h, omega (arith, a .words .first-le p (a .lt)), sym (numbered-is n (getD spans (1024 + p) 0) h) ∙ a .words .firsts p (a .lt))
-
   pub last-number : (0 < getD spans (2048 + p) 0) × (getD spans (2048 + p) 0 - 1 < length (instances n))
       × (getD (instances n) (getD spans (2048 + p) 0 - 1) zero3 ≡ last n y)
   last-number =
       let h = a .words .last-some p (a .lt) some in
-      (h, omega (arith, a .words .last-le p (a .lt)), sym (numbered-is n (getD spans (2048 + p) 0) h) ∙ a .words .lasts p (a .lt))
+      let e = numbered-one n (getD spans (2048 + p) 0) (λ e. omega arith) ∙ a .words .lasts p (a .lt) in
+      (h, omega (arith, a .words .last-le p (a .lt)), e)
 
   pub wider-map : Rows 8 (s .map)
   wider-map = let m = a .flows .laid .in-range .map in record { top = wider tt (m .top); low = wider tt (m .low) }

@@ -26,7 +26,6 @@ use lanes::Flow;
 use lanes::HELD;
 use lanes::LANES;
 use lanes::ONE;
-use layout::FIRSTS;
 use layout::LASTS;
 use meaning::Nest;
 use meaning::PROCESSES;
@@ -42,9 +41,8 @@ pub fn first_element(f: Flow, spans: &[u32], p: usize) -> V2
     requires { ⌜ At f (now spans) p ⌝ }
     ensures { λ r. ⌜ r ≡ image (f .stream .map) (first (f .nest) (processOf (f .nest) p)) ⌝ }
 {
-    let n = f.nest;
     let map = f.stream.map;
-    vectors::image_of(map, numbering::instance(n, spans[FIRSTS + p] - 1))
+    vectors::image_of(map, layout::first_at(spans, p))
 }
 
 fn last_element(f: Flow, spans: &[u32], p: usize) -> V2

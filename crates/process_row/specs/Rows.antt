@@ -1,33 +1,23 @@
--- The rows as they are read off the columns: word p is the count of process p, words 1024 + p and 2048 + p are the numbers plus one of
--- its first and last instance, 0 for none, and words 3072 + 2048 i + p and 4096 + 2048 i + p its soak and drain on stream i.
--- Assumes nothing.
-use mathlib.Core.Path.{_≡_, refl, ap}
-use mathlib.Core.Logic.{_≢_}
+-- The rows as they are read off the columns: word p is the count of process p, word 1024 + p the code of its first instance, that of zero
+-- for none, word 2048 + p the number plus one of its last instance, 0 for none, and words 3072 + 2048 i + p and 4096 + 2048 i + p its soak
+-- and drain on stream i. Assumes nothing.
 use mathlib.Core.List.{List, [], _∷_}
-use Prim.Native.Nat.{ℕ, zero, suc, _+_, _-_, _≤_, _<_, _*_}
-use native.Mathlib.Omega.{arith}
+use Prim.Native.Nat.{ℕ, _+_, _≤_, _<_, _*_}
 use lib.ListN.{length, getD}
 use Rattle.meaning.specs.Limits.{gaugeLimits}
-use Rattle.integers.specs.Vectors.{zero2, zero3}
-use Rattle.meaning.specs.declared.Nest.{Nest}
+use Rattle.integers.specs.Vectors.{zero2}
 use Rattle.meaning.specs.declared.Row.{Row}
 use Rattle.meaning.specs.Loops.{instances}
 use Rattle.meaning.specs.Space.{points}
 use Rattle.numbering.specs.Ranges.{Bounded}
 use Rattle.numbering.specs.Extents.{Spanning, boxed}
+use Rattle.layout.specs.Codes.{coded}
 use Rattle.layout.specs.Spans.{numbered, spanWords}
 use Rattle.process_row.specs.declared.Shape.{Shape}
 
 -- the words of the columns: those of the processes, then for each stream soaks and drains
 abbrev pub columnWords : ℕ
 columnWords = spanWords + 6 * (2 * gaugeLimits .processes)
-
-pub numbered-none : (n : Nest) (k : ℕ) → k ≡ 0 → zero3 ≡ numbered n k
-numbered-none n k e = rw e refl
-
-pub numbered-one : (n : Nest) (k : ℕ) → k ≢ 0 → getD (instances n) (k - 1) zero3 ≡ numbered n k
-numbered-one n zero h = absurd (h refl)
-numbered-one n (suc k) h = let e : suc k - 1 ≡ k = omega arith in ap (λ (j : ℕ). getD (instances n) j zero3) e
 
 -- six words, 2048 apart
 abbrev pub byStream : List ℕ → ℕ → List ℕ
@@ -45,7 +35,7 @@ rowFrom h w p =
     record {
       point = getD (points (boxed (h .space))) p zero2;
       count = getD w p 0;
-      first = numbered (h .nest) (getD w (1024 + p) 0);
+      first = coded (getD w (1024 + p) 0);
       last = numbered (h .nest) (getD w (2048 + p) 0);
       soak = soakAt w p;
       drain = drainAt w p;
@@ -57,5 +47,4 @@ pub record Readable (h : Shape) (w : List ℕ) (p : ℕ) : Type 0 where
   pub bounded : Bounded (h .nest)
   pub spanning : Spanning (boxed (h .space))
   pub there : p < length (points (boxed (h .space)))
-  pub first : getD w (1024 + p) 0 ≤ length (instances (h .nest))
   pub last : getD w (2048 + p) 0 ≤ length (instances (h .nest))

@@ -1,14 +1,8 @@
 // One row of the table, read off the words of its columns. In specs/, Rows says where each word of a row stands there.
 ghost use mathlib.Core.Path.{_≡_};
-ghost use Prim.Native.Nat.{_<_, _≤_, _+_, _*_};
-ghost use lib.ListN.{length};
+ghost use Prim.Native.Nat.{_<_, _+_, _*_};
 ghost use Rattle.meaning.specs.Limits.{gaugeLimits};
-ghost use Rattle.meaning.specs.Loops.{instances};
-ghost use Rattle.numbering.specs.Ranges.{Bounded};
-ghost use Rattle.layout.specs.Spans.{numbered};
 ghost use Rattle.process_row.specs.Rows.{byStream, rowFrom, Readable, columnWords};
-use integers::V3;
-use layout::FIRSTS;
 use layout::LASTS;
 use layout::SPANS;
 use meaning::Nest;
@@ -29,18 +23,6 @@ pub struct Shape {
     pub rows: usize,
     pub nest: Nest,
     pub space: Extent,
-}
-
-// The instance of a number plus one, zero for none.
-fn instance_numbered(n: Nest, k: u32) -> V3
-    requires { ⌜ (Bounded n) × (k ≤ length (instances n)) ⌝ }
-    ensures { λ r. ⌜ r ≡ numbered n k ⌝ }
-{
-    if k == 0 {
-        V3 { x: 0, y: 0, z: 0 }
-    } else {
-        numbering::instance(n, k - 1)
-    }
 }
 
 // The words of all streams at one process, the first stream's at word k.
@@ -65,13 +47,12 @@ pub fn row_at(shape: Shape, words: &[u32; COLUMNS], p: usize) -> Row
 {
     let nest = shape.nest;
     let space = shape.space;
-    let first = words[FIRSTS + p];
     let last = words[LASTS + p];
     Row {
         point: layout::point_at(space, p as u32),
         count: words[p],
-        first: instance_numbered(nest, first),
-        last: instance_numbered(nest, last),
+        first: layout::first_at(words, p),
+        last: layout::instance_numbered(nest, last),
         soak: by_stream(words, SPANS + p),
         drain: by_stream(words, DRAINS + p),
     }

@@ -26,6 +26,7 @@ use Rattle.lists.specs.Members.{map-at}
 use Rattle.numbering.specs.Ranges.{Bounded}
 use Rattle.numbering.specs.Extents.{Spanning, boxed, box-spanning}
 use Rattle.counting.specs.Numbers.{filled}
+use Rattle.layout.specs.Codes.{coded}
 use Rattle.layout.specs.Spans.{processOf, numbered, Spans}
 use Rattle.pipes.specs.Elements.{rowDrain}
 use Rattle.declines.specs.Tests.{tableLengths}
@@ -118,7 +119,7 @@ module _ {d : Description} {h : Shape} {w : List ℕ} (g : Drawn d h w) where
   drawn-row p l =
       let k : p < length (processes n) = omega (arith, g .shaped .rows) in
       let count = g .copied p (omega (arith, g .few)) ∙ g .spans .counts p k in
-      let first = ap₂ numbered (g .shaped .nest) (g .copied (1024 + p) (omega (arith, g .few))) ∙ g .spans .firsts p k in
+      let first = ap coded (g .copied (1024 + p) (omega (arith, g .few))) ∙ g .spans .firsts p k in
       let last = ap₂ numbered (g .shaped .nest) (g .copied (2048 + p) (omega (arith, g .few))) ∙ g .spans .lasts p k in
       let soak =
       by-stream (λ t. rowSoak n t (processOf n p)) ss w (3072 + p) (g .most) (λ i l. g .streams .soaks i p l k)
@@ -143,12 +144,13 @@ module _ {d : Description} {h : Shape} {w : List ℕ} (g : Drawn d h w) where
         bounded = subst Bounded (sym (g .shaped .nest)) (g .bounded);
         spanning = subst Spanning (sym (g .shaped .space)) (box-spanning (g .bounded) (g .bounded .place));
         there = subst (λ (b : Box). p < length (points b)) (sym (g .shaped .space)) l;
-        first = at (1024 + p) (omega (arith, g .few)) (g .spans .first-le p l);
-        last = at (2048 + p) (omega (arith, g .few)) (g .spans .last-le p l);
+        last = omega (
+          arith,
+          g .copied (2048 + p) (omega (arith, g .few)),
+          g .spans .last-le p l,
+          ap (λ (m : Nest). length (instances m)) (g .shaped .nest),
+        );
       }
-    where
-      at : (k : ℕ) → k < 3072 → getD (g .front) k 0 ≤ length (instances n) → getD w k 0 ≤ length (instances (h .nest))
-      at k l m = omega (arith, g .copied k l, ap (λ (m : Nest). length (instances m)) (g .shaped .nest))
 
 -- ---- all rows
 

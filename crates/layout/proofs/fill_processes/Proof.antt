@@ -1,12 +1,14 @@
 -- `layout::fill_processes` meets its contract: the table holds the process of every instance, and the test says which way the increment
--- leads, so that what is met first and last is the first and the last one of each process. Assumes nothing.
+-- leads, so that what is met first and last is the first and the last one of each process; the codes of the firsts lie between the counts
+-- and the lasts. Assumes nothing.
 use mathlib.Core.Path.{_∙_, ap}
 use native.Mathlib.Omega.{arith}
+use borrow.Rule.Slice.PartMut.{mid-len}
 use borrow.Author.Needs.{needs}
 use Rattle.meaning.specs.Accept.{against}
 use Rattle.vectors.specs.Within.{directions-small}
 use Rattle.sweeps.specs.Tables.{table-listed}
-use Rattle.layout.specs.Spans.{process-table, ends-are}
+use Rattle.layout.specs.Spans.{process-table, first-le, ends-are}
 use Rattle.layout.proofs.fill_processes.Statement.{statement}
 use Rattle.layout.proofs.fill_processes.Tie as tie
 
@@ -43,19 +45,48 @@ fill-spans-requires c κs =
     (i .before .before .extent-of .ensures .0) in
     record { table = table-listed (s .pre .0 .directed) t; few = omega (arith, t .sized, s .pre .3); words = s .pre .4 }
 
-same-length : tie.Need-same-length
-same-length c = search needs
+sub-fill-firsts : tie.Need-sub-fill-firsts
+sub-fill-firsts c = search needs
 
-returns : tie.Need-returns
-returns c =
-    let f = c .before .before .before .before .before .before in
+part-fill-firsts-start : tie.Need-part-fill-firsts-start
+part-fill-firsts-start c = search needs
+
+part-fill-firsts-end : tie.Need-part-fill-firsts-end
+part-fill-firsts-end c = search needs
+
+fill-firsts-requires : tie.Need-fill-firsts-requires
+fill-firsts-requires c κs =
+    let w = c .before .before .before in
+    let v = w .fill-spans .last .1 .1 .1 .1 .0 in
+    let f = w .before .before .before .before in
     let i = f .before .before in
     let a = i .before .before .before in
     let s = a .before .before .before .before .before in
     let t = process-table _ (f .fill-numbers .ensures) (i .instance-count .ensures .0) (i .before .size-of .ensures .0)
     (i .before .before .extent-of .ensures .0) in
-    let b = a .against .ensures ∙ ap (against (s .args .n .direction)) (a .before .line-of .ensures .0) in
-    (t .sized, ends-are (s .pre .1) t b (c .before .before .fill-spans .ensures))
+    let b = a .against .ensures ∙ ap (against (s .args .n .direction)) (a .before .line-of .ensures .0) in (
+      s .pre .0,
+      omega (arith, t .sized, s .pre .3, mid-len 1024 2048 v (omega (arith, w .fill-spans .kept .1 .1 .1 .1 .0, s .pre .4))),
+      first-le (s .pre .1) t b (w .fill-spans .ensures) (omega (arith, t .sized, s .pre .3)),
+    )
+
+same-length : tie.Need-same-length
+same-length c = search needs
+
+returns : tie.Need-returns
+returns c =
+    let w = c .before .before .before .before .before .before in
+    let f = w .before .before .before .before in
+    let i = f .before .before in
+    let a = i .before .before .before in
+    let s = a .before .before .before .before .before in
+    let t = process-table _ (f .fill-numbers .ensures) (i .instance-count .ensures .0) (i .before .size-of .ensures .0)
+    (i .before .before .extent-of .ensures .0) in
+    let b = a .against .ensures ∙ ap (against (s .args .n .direction)) (a .before .line-of .ensures .0) in (
+      t .sized,
+      ends-are (s .pre .1) t b (w .fill-spans .ensures) (omega (arith, t .sized, s .pre .3)) (s .pre .0)
+          (w .fill-spans .kept .1 .1 .1 .1 .0 ∙ s .pre .4) _ (c .before .before .fill-firsts .ensures),
+    )
 
 pub fill-processes-spec : {M : Type 1} → statement M
 fill-processes-spec =
@@ -70,5 +101,9 @@ fill-processes-spec =
     fill-numbers-requires
     slice-aggregate-fill-spans
     fill-spans-requires
+    sub-fill-firsts
+    part-fill-firsts-start
+    part-fill-firsts-end
+    fill-firsts-requires
     same-length
     returns)

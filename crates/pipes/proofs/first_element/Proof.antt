@@ -1,45 +1,25 @@
--- `pipes::first_element` meets its contract: a computing process has a first instance, so that the word of its number plus one is not 0.
--- Assumes nothing.
-use borrow.Author.Needs.{needs}
-use mathlib.Core.Path.{_∙_, ap}
+-- `pipes::first_element` meets its contract: the words of the processes hold the code of its first instance. Assumes nothing.
+use mathlib.Core.Path.{_∙_, ap, subst, sym}
 use native.Mathlib.Omega.{arith}
 use Rattle.integers.specs.Vectors.{image}
-use Rattle.vectors.specs.Within.{wider}
-use Rattle.pipes.specs.Elements.{first-number, wider-map}
+use Rattle.vectors.specs.Within.{Within, wider}
+use Rattle.pipes.specs.Elements.{wider-map}
 use Rattle.pipes.proofs.first_element.Statement.{statement}
 use Rattle.pipes.proofs.first_element.Tie as tie
 
-add-instance : tie.Need-add-instance
-add-instance c = search needs
-
-mul-instance : tie.Need-mul-instance
-mul-instance c = search needs
-
-shared-slice-read-instance : tie.Need-shared-slice-read-instance
-shared-slice-read-instance c = search needs
-
-sub-instance : tie.Need-sub-instance
-sub-instance c = let p = c .before .before .before .before .pre in omega (arith, first-number p .0)
-
-instance-requires : tie.Need-instance-requires
-instance-requires c κs = let p = c .before .before .before .before .pre in (p .flows .laid .in-range .nest, first-number p .1)
+first-at-requires : tie.Need-first-at-requires
+first-at-requires c κs = let p = c .before .before .pre in omega (arith, p .lt, p .long, p .flows .laid .processes)
 
 image-of-requires : tie.Need-image-of-requires
-image-of-requires c κs = let p = c .before .before .before .before .before .pre in (wider-map p, wider tt (c .instance .ensures .1))
+image-of-requires c κs =
+    let s = c .before .before .before in
+    (wider-map (s .pre), wider tt (subst (Within 64) (sym (c .first-at .ensures)) (s .pre .words .first-small (s .args .p) (s .pre .lt))))
 
 returns : tie.Need-returns
 returns c =
-    let s = c .before .before .before .before .before .before in
-    c .image-of .ensures .0 ∙ ap (image (s .args .f .stream .map)) (c .before .instance .ensures .0 ∙ first-number (s .pre) .2)
+    let s = c .before .before .before .before in
+    c .image-of .ensures .0
+    ∙ ap (image (s .args .f .stream .map)) (c .before .first-at .ensures ∙ s .pre .words .firsts (s .args .p) (s .pre .lt))
 
 pub first-element-spec : {M : Type 1} → statement M
-first-element-spec =
-    tie.close
-    (tie.spec
-    add-instance
-    mul-instance
-    shared-slice-read-instance
-    sub-instance
-    instance-requires
-    image-of-requires
-    returns)
+first-element-spec = tie.close (tie.spec first-at-requires image-of-requires returns)

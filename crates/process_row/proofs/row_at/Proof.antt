@@ -3,15 +3,6 @@ use borrow.Author.Needs.{needs}
 use Rattle.process_row.proofs.row_at.Statement.{statement}
 use Rattle.process_row.proofs.row_at.Tie as tie
 
-add-first : tie.Need-add-first
-add-first c = search needs
-
-mul-first : tie.Need-mul-first
-mul-first c = search needs
-
-element-copy-out-first : tie.Need-element-copy-out-first
-element-copy-out-first c = search needs
-
 add-last : tie.Need-add-last
 add-last c = search needs
 
@@ -27,17 +18,17 @@ cast-point-at c = search needs
 point-at-requires : tie.Need-point-at-requires
 point-at-requires c κs = search needs
 
-mul-t8 : tie.Need-mul-t8
-mul-t8 c = search needs
+mul-t7 : tie.Need-mul-t7
+mul-t7 c = search needs
 
-element-copy-out-t18 : tie.Need-element-copy-out-t18
-element-copy-out-t18 c = search needs
+element-copy-out-t15 : tie.Need-element-copy-out-t15
+element-copy-out-t15 c = search needs
+
+first-at-requires : tie.Need-first-at-requires
+first-at-requires c κs = search needs
 
 instance-numbered-requires : tie.Need-instance-numbered-requires
 instance-numbered-requires c κs = search needs
-
-instance-numbered-requires-2 : tie.Need-instance-numbered-requires-2
-instance-numbered-requires-2 c κs = search needs
 
 add-by-stream : tie.Need-add-by-stream
 add-by-stream c = search needs
@@ -53,31 +44,28 @@ by-stream-requires-2 c κs = search needs
 
 returns : tie.Need-returns
 returns c =
-    let i = c .before .before .before in
+    let f = c .before .before .before in
     rw (
       c .by-stream2 .ensures,
       c .before .by-stream .ensures,
-      c .before .before .instance-numbered2 .ensures,
-      i .instance-numbered .ensures,
-      i .before .before .point-at .ensures,
+      c .before .before .instance-numbered .ensures .0,
+      f .first-at .ensures,
+      f .before .before .before .point-at .ensures,
     )
 
 pub row-at-spec : {M : Type 1} → statement M
 row-at-spec =
     tie.close
     (tie.spec
-    add-first
-    mul-first
-    element-copy-out-first
     add-last
     mul-last
     element-copy-out-last
     cast-point-at
     point-at-requires
-    mul-t8
-    element-copy-out-t18
+    mul-t7
+    element-copy-out-t15
+    first-at-requires
     instance-numbered-requires
-    instance-numbered-requires-2
     add-by-stream
     by-stream-requires
     add-by-stream-2
