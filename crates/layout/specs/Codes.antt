@@ -1,7 +1,6 @@
 -- The coordinates of an instance in one word, as three digits to the base 256, each a coordinate counted from −64. Assumes nothing.
 use mathlib.Core.Path.{_≡_, _∙_, ap}
 use Prim.Native.Nat.{ℕ, _+_, _*_, _/_, _%_, _^_, _≤_, _<_}
-use native.Mathlib.Nat.{add-zero, mul-add-div-right, mul-add-mod-self-right, div-eq-of-lt, mod-eq-of-lt, div-lt-iff-lt-mul, mod-lt}
 use native.Mathlib.Omega.{arith}
 use lib.IntN.{ℤ, pos, negsuc, _+ℤ_, _-ℤ_}
 use lib.Signed.{_≤ℤ_}
@@ -20,9 +19,11 @@ digit z = up (z -ℤ negsuc 63)
 abbrev undigit : ℕ → ℤ
 undigit d = pos d +ℤ negsuc 63
 
+-- the word of three coordinates
 abbrev pub codeOf : V3 → ℕ
 codeOf v = (digit (v .x) * 256 + digit (v .y)) * 256 + digit (v .z)
 
+-- the coordinates of a word
 abbrev pub coded : ℕ → V3
 coded w = record { x = undigit (w / 256 / 256); y = undigit (w / 256 % 256); z = undigit (w % 256) }
 
@@ -45,10 +46,10 @@ digit-small = linear 0 1 _ λ p m. simp (gaps, parts) (omega arith)
 
 -- the digits of a number
 front : (q d : ℕ) → d < 256 → (q * 256 + d) / 256 ≡ q
-front q d l = mul-add-div-right {m = 256} (omega arith) q d ∙ ap (λ (j : ℕ). q + j) (div-eq-of-lt l) ∙ add-zero q
+front q d l = omega arith
 
 low : (q d : ℕ) → d < 256 → (q * 256 + d) % 256 ≡ d
-low q d l = mul-add-mod-self-right q 256 d ∙ mod-eq-of-lt l
+low q d l = omega arith
 
 pub coded-code : (v : V3) → Within 64 v → coded (codeOf v) ≡ v
 coded-code v h =
@@ -63,23 +64,18 @@ coded-code v h =
 
 -- ---- the digits of any word are small
 
-abbrev some : 0 < 256
-some = omega arith
-
 pub high-small : (w : ℕ) → w < 2 ^ 32 → w / 256 / 256 ≤ 65535
-high-small w h =
-    let k : w / 256 < 65536 * 256 = div-lt-iff-lt-mul some .1 h in
-    let l : w / 256 / 256 < 65536 = div-lt-iff-lt-mul some .1 k in omega arith
+high-small w h = omega arith
 
 pub low-small : (w : ℕ) → w % 256 ≤ 255
-low-small w = omega (arith, mod-lt w some)
+low-small w = omega arith
 
 pub least-small : Abs (negsuc 63) 64
 least-small = record { abs = omega arith }
 
 -- a coordinate lies above the least one
 pub above : {z : ℤ} → Abs z 64 → Apart (negsuc 63) z
-above {z} h = record { low = record { abs = omega arith }; high = Abs-wider tt h; ordered = go z h }
+above {z} h = record { low = Abs-wider tt least-small; high = Abs-wider tt h; ordered = go z h }
   where
     go : (z : ℤ) → Abs z 64 → negsuc 63 ≤ℤ z
     go = linear 0 1 _ λ p m. simp (gaps, parts) (omega arith)

@@ -33,9 +33,10 @@ returns c =
     let b = c .before .before in
     let a = b .before .before in
     let h = a .before .before .pre in
-    ap₂ (λ (q d : ℕ). q * 256 + d)
-    (ap₂ (λ (q d : ℕ). q * 256 + d) (words-up (above (h .xs)) (a .distance .ensures .0)) (words-up (above (h .ys)) (b .distance2 .ensures .0)))
-    (words-up (above (h .zs)) (c .distance3 .ensures .0))
+    let x = words-up (above (h .xs)) (a .distance .ensures .0) in
+    let y = words-up (above (h .ys)) (b .distance2 .ensures .0) in
+    let z = words-up (above (h .zs)) (c .distance3 .ensures .0) in
+    ap₂ (λ (q d : ℕ). q * 256 + d) (ap₂ (λ (q d : ℕ). q * 256 + d) x y) z
 
 pub code-of-spec : {M : Type 1} → statement M
 code-of-spec =
