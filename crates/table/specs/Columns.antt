@@ -162,6 +162,9 @@ module _ {l : Limits} {s : List ℕ} {room : ℕ} {h : Shape} {w : List ℕ} (g 
       go true e = drawn-readable (g .drawn (eqb-true (h .refusal) 0 e)) p k
       go false e = absurd (omega (arith, g .none (eqb-false (h .refusal) 0 e)))
 
+  pub columns-row : h .refusal ≡ 0 → (p : ℕ) → p < h .rows → rowFrom h w p ≡ rowOf l s (processOf (descriptionOf s .nest) p)
+  columns-row z = drawn-row (g .drawn z)
+
 module _ {l : Limits} {s : List ℕ} (rows : List Row) {h : Shape} {w : List ℕ} (g : Columns l s (length rows) h w) where
   pub columns-answer : answer (h .refusal) ≡ table l s rows .answer
   unfolding table

@@ -7,7 +7,7 @@ use native.Mathlib.Omega.{arith}
 use lib.Dec.{eqb}
 use lib.ListN.{length, getD}
 use lib.Seq.{getD-take}
-use borrow.Author.Tests.{eqb-true, eqb-false, eq-eqb, ne-eqb, lt-ltb, le-ltb, ltb-false}
+use borrow.Author.Tests.{eqb-true, eqb-false, eq-eqb, ne-eqb, ltb-false}
 use Rattle.meaning.specs.declared.Stream.{Stream}
 use Rattle.meaning.specs.declared.Description.{Description}
 use Rattle.meaning.specs.declared.Limits.{Limits}
@@ -18,7 +18,7 @@ use Rattle.meaning.specs.Description.{sizesOf, descriptionOf, streamsOf, noStre
 use Rattle.meaning.specs.Accept.{refusalOf}
 use Rattle.geometry.specs.Descriptions.{laid}
 use Rattle.decode.specs.Offsets.{Sized}
-use Rattle.decode.specs.Refusals.{refuses, passes, accepts, passed}
+use Rattle.decode.specs.Refusals.{passed}
 use Rattle.declines.specs.Tests.{tableLengths}
 use Rattle.numbering.specs.Ranges.{Bounded}
 use Rattle.stream_lines.specs.InRange.{nest-bounded}
@@ -77,12 +77,6 @@ module _ (l : Limits) (s : List ℕ) (room : ℕ) where
   pub refused-own : {r n : ℕ} → refusalOf l s ≡ 0 → n ≡ length (processes (descriptionOf s .nest)) → r ≡ refusal (tableLengths n room)
       → r ≡ refusedFor l s room
   refused-own e n h = h ∙ ap (λ (n : ℕ). refusal (tableLengths n room)) n ∙ then-own e
-
-  pub refused-18 : refusalOf l s ≡ 0 → room < length (processes (descriptionOf s .nest)) → 18 ≡ refusedFor l s room
-  refused-18 e h = refused-own e refl (refuses 18 [] (lt-ltb room _ h))
-
-  pub refused-none : refusalOf l s ≡ 0 → length (processes (descriptionOf s .nest)) ≤ room → 0 ≡ refusedFor l s room
-  refused-none e h = refused-own e refl (passes 18 [] (le-ltb room _ h) accepts)
 
   -- a refusal of 0
   pub none-refused : refusedFor l s room ≡ 0 → (refusalOf l s ≡ 0) × (length (processes (descriptionOf s .nest)) ≤ room)

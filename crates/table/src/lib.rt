@@ -139,7 +139,7 @@ fn refusal_for(s: &[u8], limits: Limits, room: usize, spans: &mut [u32; SPANS]) 
 }
 
 // The columns of the call; their words come as zeros.
-fn fill_columns(s: &[u8], board: u32, room: usize, words: &mut [u32; COLUMNS]) -> Shape
+pub fn fill_columns(s: &[u8], board: u32, room: usize, words: &mut [u32; COLUMNS]) -> Shape
     requires { ⌜ now words ≡ replicate columnWords 0 ⌝ }
     ensures { λ r. ⌜ Columns (limitsOf board) (now (s .entry)) room r (now (words .exit)) ⌝ }
 {

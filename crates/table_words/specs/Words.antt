@@ -2,6 +2,7 @@
 use mathlib.Core.Path.{_≡_, refl, sym, _∙_, ap, ap₂}
 use mathlib.Core.List.{List, [], _∷_, _++_, append-assoc, append-nil}
 use Prim.Native.Nat.{ℕ, zero, suc, _+_, _*_, _^_, _≤_, _<_}
+use native.Mathlib.Nat.{le-refl}
 use native.Mathlib.Numerals.{add-one}
 use native.Mathlib.Omega.{arith}
 use lib.ListN.{length, getD, take, drop, length-append}
@@ -11,7 +12,6 @@ use lib.Signed.{mag}
 use mir.Syntax.{w32}
 use mir.Val.{toZ, ofZ}
 use Rattle.integers.specs.Words.{tower}
-use Rattle.integers.specs.Vectors.{zero2, zero3}
 use Rattle.integers.specs.declared.V3.{V3}
 use Rattle.meaning.specs.declared.Row.{Row}
 
@@ -32,19 +32,15 @@ abbrev pub rowWords : Row → List ℕ
 rowWords r =
     ofZ w32 (r .point .a) ∷ ofZ w32 (r .point .b) ∷ r .count ∷ (bits3 (r .first) ++ (bits3 (r .last) ++ (six (r .soak) ++ six (r .drain))))
 
--- what is read past the end of a list of rows
-abbrev pub noRow : Row
-noRow = record { point = zero2; count = 0; first = zero3; last = zero3; soak = []; drain = [] }
-
 -- rows one after another
 unfoldable pub rowsWords : List Row → List ℕ
 rowsWords [] = []
 rowsWords (r ∷ rs) = rowWords r ++ rowsWords rs
 
--- the first rows, as a loop lays them
-unfoldable pub wordsOf : List Row → ℕ → List ℕ
-wordsOf rows zero = []
-wordsOf rows (suc p) = wordsOf rows p ++ rowWords (getD rows p noRow)
+-- the rows by number, as a loop lays them
+unfoldable pub wordsOf : (ℕ → Row) → ℕ → List ℕ
+wordsOf f zero = []
+wordsOf f (suc p) = wordsOf f p ++ rowWords (f p)
 
 -- ---- signed numbers
 
@@ -72,19 +68,18 @@ pub row-made : (r : Row) {a b : ℕ} {f l : List ℕ} → a ≡ ofZ w32 (r .poin
     ∷ (six (r .soak) ++ six (r .drain)) ≡ rowWords r
 row-made r a b f l = rw (a, b, f, l) refl
 
-pub words-none : (rows : List Row) → wordsOf rows 0 ≡ []
+pub words-none : (f : ℕ → Row) → wordsOf f 0 ≡ []
 unfolding wordsOf
-words-none rows = refl
+words-none f = refl
 
-words-next : (rows : List Row) (p : ℕ) → wordsOf rows (p + 1) ≡ wordsOf rows p ++ rowWords (getD rows p noRow)
+words-next : (f : ℕ → Row) (p : ℕ) → wordsOf f (p + 1) ≡ wordsOf f p ++ rowWords (f p)
 unfolding wordsOf
-words-next rows p = ap (λ (k : ℕ). wordsOf rows k) (add-one p)
+words-next f p = ap (λ (k : ℕ). wordsOf f k) (add-one p)
 
-words-length : (rows : List Row) (p : ℕ) → length (wordsOf rows p) ≡ 21 * p
+words-length : (f : ℕ → Row) (p : ℕ) → length (wordsOf f p) ≡ 21 * p
 unfolding wordsOf
-words-length rows zero = refl
-words-length rows (suc p) =
-    length-append (wordsOf rows p) (rowWords (getD rows p noRow)) ∙ omega (arith, words-length rows p)
+words-length f zero = refl
+words-length f (suc p) = length-append (wordsOf f p) (rowWords (f p)) ∙ omega (arith, words-length f p)
 
 rows-append : (xs : List Row) (r : Row) → rowsWords (xs ++ (r ∷ [])) ≡ rowsWords xs ++ rowWords r
 unfolding rowsWords
@@ -92,21 +87,21 @@ rows-append [] r = append-nil (rowWords r)
 rows-append (x ∷ xs) r =
     ap (λ (ws : List ℕ). rowWords x ++ ws) (rows-append xs r) ∙ sym (append-assoc (rowWords x) (rowsWords xs) (rowWords r))
 
-words-take : (rows : List Row) (n : ℕ) → n ≤ length rows → wordsOf rows n ≡ rowsWords (take n rows)
-unfolding wordsOf rowsWords
-words-take rows zero h = refl
-words-take rows (suc n) h =
-    ap (λ (ws : List ℕ). ws ++ rowWords (getD rows n noRow)) (words-take rows n (omega arith))
-    ∙ sym (rows-append (take n rows) (getD rows n noRow)) ∙ ap rowsWords (sym (take-suc rows n noRow h))
+-- those of a list whose rows they are
+module _ (f : ℕ → Row) (rows : List Row) (d : Row) (e : (p : ℕ) → p < length rows → f p ≡ getD rows p d) where
+  words-take : (n : ℕ) → n ≤ length rows → wordsOf f n ≡ rowsWords (take n rows)
+  unfolding wordsOf rowsWords
+  words-take zero h = refl
+  words-take (suc n) h =
+      ap₂ (λ (ws : List ℕ) (r : Row). ws ++ rowWords r) (words-take n (omega arith)) (e n h)
+      ∙ sym (rows-append (take n rows) (getD rows n d)) ∙ ap rowsWords (sym (take-suc rows n d h))
 
--- those of the rows in front
-pub words-front : (xs ys : List Row) → wordsOf (xs ++ ys) (length xs) ≡ rowsWords xs
-words-front xs ys =
-    words-take (xs ++ ys) (length xs) (omega (arith, length-append xs ys)) ∙ ap rowsWords (take-append-seam xs ys)
+  pub words-rows : wordsOf f (length rows) ≡ rowsWords rows
+  words-rows = words-take (length rows) (le-refl (length rows)) ∙ ap rowsWords (take-length rows)
 
 -- one row more
-pub rows-next : (rows : List Row) (p : ℕ) (words₀ : List ℕ) {words row out : List ℕ} → words ≡ laid (wordsOf rows p) words₀
-    → row ≡ rowWords (getD rows p noRow) → out ≡ paste words (21 * p) row (length row) → out ≡ laid (wordsOf rows (p + 1)) words₀
-rows-next rows p words₀ {row} e f g =
-    g ∙ ap₂ (λ (ws : List ℕ) (k : ℕ). paste ws k row (length row)) e (sym (words-length rows p)) ∙ laid-next (wordsOf rows p) row words₀
-    ∙ ap (λ (ws : List ℕ). laid ws words₀) (ap (λ (ws : List ℕ). wordsOf rows p ++ ws) f ∙ sym (words-next rows p))
+pub rows-next : (f : ℕ → Row) (p : ℕ) (words₀ : List ℕ) {words row out : List ℕ} → words ≡ laid (wordsOf f p) words₀
+    → row ≡ rowWords (f p) → out ≡ paste words (21 * p) row (length row) → out ≡ laid (wordsOf f (p + 1)) words₀
+rows-next f p words₀ {row} e g h =
+    h ∙ ap₂ (λ (ws : List ℕ) (k : ℕ). paste ws k row (length row)) e (sym (words-length f p)) ∙ laid-next (wordsOf f p) row words₀
+    ∙ ap (λ (ws : List ℕ). laid ws words₀) (ap (λ (ws : List ℕ). wordsOf f p ++ ws) g ∙ sym (words-next f p))

@@ -5,18 +5,17 @@
 //   Words     rows of the table as words
 //   Lent      what Table leaves in lent words
 ghost use mathlib.Core.Path.{_≡_};
-ghost use Prim.Native.Nat.{_*_, _≤_};
+ghost use Prim.Native.Nat.{ℕ, _*_, _≤_, _<_};
 ghost use lib.ListN.{length};
-ghost use Rattle.meaning.specs.Limits.{limitsOf, gaugeLimits};
-ghost use Rattle.meaning.specs.Space.{processes};
-ghost use Rattle.meaning.specs.Description.{descriptionOf};
-ghost use Rattle.meaning.specs.Accept.{refusalOf};
+ghost use Rattle.meaning.specs.Limits.{limitsOf};
+ghost use Rattle.process_row.specs.Rows.{rowFrom, Readable};
 ghost use Rattle.table_words.specs.Words.{laid, bits3, rowWords, wordsOf};
 ghost use Rattle.table_words.specs.Lent.{tableNumber, tableWords};
 use integers::V3;
 use integers::bits_of;
-use meaning::PROCESSES;
 use meaning::Row;
+use process_row::COLUMNS;
+use process_row::Shape;
 
 // The words of a row.
 const ROW_WORDS: usize = 21;
@@ -63,26 +62,18 @@ fn row_words(r: Row) -> [u32; ROW_WORDS]
     ]
 }
 
-// The first rows go into the words.
-fn put_rows(rows: [Row; PROCESSES], count: usize, words: &mut [u32])
-    requires { ⌜ (count ≤ gaugeLimits .processes) × (21 * count ≤ length (now words)) ⌝ }
-    ensures { λ r. ⌜ now (words .exit) ≡ laid (wordsOf rows count) (now (words .entry)) ⌝ }
+// The rows, read off the columns, go into the words.
+fn put_rows(shape: Shape, columns: &[u32; COLUMNS], words: &mut [u32])
+    requires { ⌜ (21 * shape .rows ≤ length (now words)) × ((p : ℕ) → p < shape .rows → Readable shape (now columns) p) ⌝ }
+    ensures { λ r. ⌜ now (words .exit) ≡ laid (wordsOf (rowFrom shape (now (columns .entry))) (shape .rows)) (now (words .entry)) ⌝ }
 {
+    let count = shape.rows;
     let mut p: usize = 0;
     while p < count {
-        let row = row_words(rows[p]);
+        let row = row_words(process_row::row_at(shape, columns, p));
         words::store(words, ROW_WORDS * p, &row);
         p += 1;
     }
-}
-
-fn process_count(s: &[u8]) -> usize
-    requires { ⌜ refusalOf gaugeLimits (now s) ≡ 0 ⌝ }
-    ensures { λ r. ⌜ r ≡ length (processes (descriptionOf (now (s .entry)) .nest)) ⌝ }
-{
-    let n = decode::description(s).nest;
-    let place = n.place;
-    numbering::size_of(numbering::extent_of(n, place)) as usize
 }
 
 // The rows, 21 words each; 18 if fewer fit than there are processes.
@@ -91,14 +82,8 @@ pub fn table_words(board: u32, bytes: &[u8], words: &mut [u32]) -> u32
         × (now (words .exit)
         ≡ laid (tableWords (limitsOf board) (now (bytes .entry)) (length (now (words .entry)))) (now (words .entry))) ⌝ }
 {
-    let listed = table_rows::table(bytes, words.len() / ROW_WORDS, board);
-    let answer = listed.answer;
-    let number = answer_words::number_of(answer);
-    if number == 0 {
-        let rows = listed.rows;
-        put_rows(rows, process_count(bytes), words);
-        0
-    } else {
-        number
-    }
+    let mut columns = [0u32; COLUMNS];
+    let shape = table::fill_columns(bytes, board, words.len() / ROW_WORDS, &mut columns);
+    put_rows(shape, &columns, words);
+    shape.refusal
 }

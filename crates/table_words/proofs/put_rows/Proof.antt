@@ -7,26 +7,25 @@ use lib.ListN.{length}
 use denote.Ref.{now}
 use borrow.Author.Needs.{needs}
 use Rattle.words.specs.Stored.{stored-paste}
-use Rattle.table_words.specs.Words.{laid, wordsOf, words-none, rows-next}
+use Rattle.process_row.specs.Rows.{rowFrom}
+use Rattle.table_words.specs.Words.{laid, rowWords, wordsOf, words-none, rows-next}
 use Rattle.table_words.proofs.put_rows.Statement.{statement}
 use Rattle.table_words.proofs.put_rows.Tie as tie
 
 abbrev Inv-loop : tie.InvT-loop
-Inv-loop count words₀ rows p₀ words p =
-    (p ≤ count) × (length rows ≡ 1024) × (length words ≡ length words₀) × (words ≡ laid (wordsOf rows p) words₀)
+Inv-loop shape columns words₀ count p₀ words p =
+    (p ≤ shape .rows) × (length words ≡ length words₀) × (words ≡ laid (wordsOf (rowFrom shape columns) p) words₀)
 
 abbrev μ-loop : tie.MeasureT-loop
-μ-loop count words₀ rows p₀ words p = count - p
+μ-loop shape columns words₀ count p₀ words p = shape .rows - p
 
 loop-holds : tie.Need-loop-holds Inv-loop μ-loop
 loop-holds c =
-    (omega arith, search needs, refl, sym (ap (λ (ws : List ℕ). laid ws (now (c .before .args .words))) (words-none (c .before .args .t1))))
+    let a = c .before .args in
+    (omega arith, refl, sym (ap (λ (ws : List ℕ). laid ws (now (a .words))) (words-none (rowFrom (a .shape) (now (a .columns))))))
 
-mul-row-words : tie.Need-mul-row-words Inv-loop μ-loop
-mul-row-words c = search needs
-
-array-copy-out-row-words : tie.Need-array-copy-out-row-words Inv-loop μ-loop
-array-copy-out-row-words c = search needs
+row-at-requires : tie.Need-row-at-requires Inv-loop μ-loop
+row-at-requires c κs = c .before .before .before .pre .1 _ (c .loop-test .taken)
 
 row-words-requires : tie.Need-row-words-requires Inv-loop μ-loop
 row-words-requires c κs = search needs
@@ -50,13 +49,13 @@ loop-less c = search needs
 loop-again : tie.Need-loop-again Inv-loop μ-loop
 loop-again c =
     let f = c .before .before in
-    let r = f .before .before .before in
-    let l = r .before .before .before in
-    let s = l .before .before in (
+    let w = f .before .before .before in
+    let l = w .before .before .before .loop in
+    let a = w .before .before .before .before .before .args in (
       omega arith,
-      l .loop .inv .1,
-      f .store .kept .0 ∙ l .loop .inv .2,
-      rows-next (s .args .t1) (l .loop .p) (now (s .args .words)) (l .loop .inv .3) (r .row-words .ensures)
+      f .store .kept .0 ∙ l .inv .1,
+      rows-next (rowFrom (a .shape) (now (a .columns))) (l .p) (now (a .words)) (l .inv .2)
+          (w .row-words .ensures ∙ ap rowWords (w .before .row-at .ensures))
           (f .store .ensures ∙ stored-paste _ _ _ _ (omega arith) (omega arith)),
     )
 
@@ -67,7 +66,8 @@ returns : tie.Need-returns Inv-loop μ-loop
 returns c =
     let l = c .before .loop in
     let a = c .before .before .before .args in
-    let e : l .p ≡ a .count = omega arith in l .inv .3 ∙ ap (λ (p : ℕ). laid (wordsOf (a .t1) p) (now (a .words))) e
+    let e : l .p ≡ a .shape .rows = omega arith in
+    l .inv .2 ∙ ap (λ (p : ℕ). laid (wordsOf (rowFrom (a .shape) (now (a .columns))) p) (now (a .words))) e
 
 pub put-rows-spec : {M : Type 1} → statement M
 put-rows-spec =
@@ -76,8 +76,7 @@ put-rows-spec =
     Inv-loop
     μ-loop
     loop-holds
-    mul-row-words
-    array-copy-out-row-words
+    row-at-requires
     row-words-requires
     mul-store
     slice-aggregate-store
