@@ -135,7 +135,7 @@ module _ {f : Flow} {from start : ℕ} {spans : List ℕ} {p : ℕ} {places : Li
   is-entry = point-is flows (h .own .lt) ey
 
   -- so many processes it has
-  pub line-length : length (pipe (f .nest) (f .stream) (processOf (f .nest) p)) ≡ suc r
+  line-length : length (pipe (f .nest) (f .stream) (processOf (f .nest) p)) ≡ suc r
   line-length =
       omega (arith, pipe-length (flows .laid .accepted) (processOf (f .nest) p), h .zero, reach-on flows (h .own .lt) ey er)
 

@@ -100,7 +100,7 @@ module _ {f : Flow} {spans : List ℕ} {p : ℕ} (a : At f spans p) where
         (subst (λ (k : Box). Inside k (image (s .map) x)) (sym (a .flows .elements-is))
         (box-has (accepted .layout .dirs) (s .map) (r .within)))
 
-    pub going-back : {x : V3} → RunAt n y x → {e : V2} → e ≡ image (s .map) x → Going (boxed (f .elements)) (f .against) e
+    going-back : {x : V3} → RunAt n y x → {e : V2} → e ≡ image (s .map) x → Going (boxed (f .elements)) (f .against) e
     going-back r e =
         record {
           box = box-spans;

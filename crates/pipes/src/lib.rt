@@ -112,7 +112,7 @@ pub fn one_at(f: Flow, spans: &[u32], lanes: &[u16], p: usize) -> u32
 }
 
 // Of a stationary stream: its soak, the number of computing processes before it on its pipe.
-pub fn rank_at(f: Flow, spans: &[u32], lanes: &[u16], p: usize) -> u32
+fn rank_at(f: Flow, spans: &[u32], lanes: &[u16], p: usize) -> u32
     requires { ⌜ (Near f (now spans) (now lanes) p) × (T (computes (f .nest) p)) × (f .moving ≡ false) ⌝ }
     ensures { λ r. ⌜ r ≡ soak (f .nest) (f .stream) (processOf (f .nest) p) ⌝ }
 {
