@@ -20,7 +20,7 @@ cast-result c = search needs
 mul-result : tie.Need-mul-result
 mul-result c =
     let p = c .before .before .before .before .before .before .before .pre in
-    let columns = leaf (columns-held (p .0 .second) (c .before .before .distance .ensures .0)) in fits tt (mul columns (at tt (p .1 .first)))
+    fits tt (mul (leaf (columns-held (p .0 .second) (c .before .before .distance .ensures .0))) (at tt (p .1 .first)))
 
 add-result-2 : tie.Need-add-result-2
 add-result-2 c =
