@@ -6,7 +6,7 @@ use Prim.Native.Nat.{ℕ, _+_, _*_, _^_, _≤_, _<_}
 use native.Mathlib.Omega.{arith}
 use lib.Dec.{T}
 use lib.ListN.{length, getD}
-use lib.IntN.{ℤ, pos, negsuc, _+ℤ_, _-ℤ_, _*ℤ_}
+use lib.IntN.{ℤ, pos, _+ℤ_, _-ℤ_, _*ℤ_}
 use lib.Signed.{mag, _≤ℤ_}
 use mir.Syntax.{w32}
 use mir.Val.{toZ, ofZ}
@@ -14,12 +14,11 @@ use Rattle.integers.specs.Differences.{Abs, gaps, parts, zrules, up, le-in, sum
 use Rattle.integers.specs.Variables.{linear}
 use Rattle.integers.specs.Ring.{ring, quotes, solve}
 use Rattle.integers.specs.Words.{Holds, tower, bits}
-use Rattle.integers.specs.Vectors.{zero2, neg2, shift2, image}
+use Rattle.integers.specs.Vectors.{zero2, neg2, image}
 use Rattle.integers.specs.declared.V3.{V3}
 use Rattle.integers.specs.declared.V2.{V2}
 use Rattle.meaning.specs.declared.Nest.{Nest}
 use Rattle.meaning.specs.declared.Stream.{Stream}
-use Rattle.meaning.specs.Loops.{size}
 use Rattle.meaning.specs.Space.{Box, rowIndex, boxOf, space}
 use Rattle.meaning.specs.Streams.{stationary, elements, pass}
 use Rattle.meaning.specs.Pipes.{reach, lineIn, pipeElements}
@@ -32,8 +31,8 @@ use Rattle.geometry.specs.BoxLines.{line-at, line-on}
 use Rattle.geometry.specs.Processes.{RunAt}
 use Rattle.geometry.specs.Pipes.{Accepted, passes, in-space}
 use Rattle.geometry.specs.Moving.{pipe-line, length-is}
-use Rattle.numbering.specs.Ranges.{not-below}
 use Rattle.counting.specs.Forms.{weigh}
+use Rattle.lanes.specs.Along.{row-on}
 use Rattle.element_places.specs.declared.Run.{Run}
 use Rattle.element_places.specs.Order.{numberOn, number-lt}
 
@@ -81,27 +80,6 @@ counts {r} {room} h {k} l =
 pub strides : {r : Run} {k : ℕ} → Counts r k → mag (r .stride) < 2 ^ 31
     → Holds (toZ w32 k *ℤ toZ w32 (ofZ w32 (r .stride))) (pos k *ℤ r .stride) 24576
 strides {r} h l = record { eq = ap₂ _*ℤ_ (bits {n = 4096} tt (h .few) .eq) (tower (r .stride) l); le = h .far }
-
--- ---- numbers in a box, along a vector
-
-row-weighed : (k : Box) {e : V2} → Inside k e → pos (rowIndex k e) ≡ weigh k (e .a -ℤ k .lo .a) (e .b -ℤ k .lo .b)
-row-weighed k {e} h = go _ (e .a -ℤ k .lo .a) (e .b -ℤ k .lo .b) (not-below _ _ (h .ina .lo)) (not-below _ _ (h .inb .lo))
-  where
-    go : (c : ℕ) (u v : ℤ) → pos 0 ≤ℤ u → pos 0 ≤ℤ v → pos (up u * c + up v) ≡ pos c *ℤ u +ℤ v
-    go c (pos i) (pos j) h l = ap pos (omega arith)
-    go c (negsuc i) v h l = absurd (h .le)
-    go c (pos i) (negsuc j) h l = absurd (l .le)
-
--- so many times so far on
-row-on : (k : Box) {e : V2} (d : V2) (j : ℤ) → Inside k e → Inside k (shift2 e j d)
-    → pos (rowIndex k (shift2 e j d)) ≡ pos (rowIndex k e) +ℤ j *ℤ weigh k (d .a) (d .b)
-row-on k {e} d j h l =
-    row-weighed k l ∙ go (pos (size (k .lo .b) (k .hi .b))) (e .a) (e .b) (d .a) (d .b) (k .lo .a) (k .lo .b) j
-    ∙ ap (λ (z : ℤ). z +ℤ j *ℤ weigh k (d .a) (d .b)) (sym (row-weighed k h))
-  where
-    go : (c a b x y u v j : ℤ)
-        → c *ℤ (a +ℤ j *ℤ x -ℤ u) +ℤ (b +ℤ j *ℤ y -ℤ v) ≡ c *ℤ (a -ℤ u) +ℤ (b -ℤ v) +ℤ j *ℤ (c *ℤ x +ℤ y)
-    go = ring 0 8 _ λ ρ. simp quotes (solve ρ _ _ tt)
 
 -- how far apart the numbers of the elements of a moving pipe lie
 abbrev pub strideOf : Nest → Stream → ℤ
