@@ -113,10 +113,10 @@ module _ {f : Flow} (h : Flows f) where
   counted-is e = e ∙ ap (λ (b : Box). length (points b)) (h .space-is)
 
   module _ {p : ℕ} (lt : p < length (processes (f .nest))) {y : V2} (ey : y ≡ getD (points (boxed (f .space))) p zero2) where
-    point-is : y ≡ processOf (f .nest) p
+    pub point-is : y ≡ processOf (f .nest) p
     point-is = ey ∙ ap (λ (k : Box). getD (points k) p zero2) (h .space-is)
 
-    inside-space : Inside (space (f .nest)) y
+    pub inside-space : Inside (space (f .nest)) y
     inside-space = subst (Inside (space (f .nest))) (sym point-is)
         (points-inside (space (f .nest)) (processOf (f .nest) p) (getD-in (processes (f .nest)) p zero2 lt))
 
