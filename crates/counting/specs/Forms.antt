@@ -14,12 +14,13 @@ use Rattle.integers.specs.Bounds.{Abs-add, Abs-mul, Abs-wider}
 use Rattle.integers.specs.Words.{bits}
 use Rattle.integers.specs.Vectors.{zero3, dot, image}
 use Rattle.integers.specs.declared.V3.{V3}
+use Rattle.integers.specs.declared.V2.{V2}
 use Rattle.integers.specs.declared.Matrix.{Matrix}
 use Rattle.meaning.specs.declared.Nest.{Nest}
 use Rattle.meaning.specs.Loops.{size, instances}
 use Rattle.meaning.specs.Space.{Box, rowIndex, boxOf}
 use Rattle.meaning.specs.Points.{Inside}
-use Rattle.vectors.specs.Within.{Within, Rows}
+use Rattle.vectors.specs.Within.{Within, Within2, Rows}
 use Rattle.numbering.specs.declared.Extent.{Extent}
 use Rattle.counting.specs.declared.Form.{Form}
 use Rattle.numbering.specs.Ranges.{Apart, not-below, size-words, instance-small}
@@ -100,6 +101,10 @@ columns-are {a} {b} h e =
 
 pub columns-held : {a b : ℤ} {r : ℕ} → Apart a b → r ≡ up (toZ w32 (ofZ w32 b) -ℤ toZ w32 (ofZ w32 a)) → Abs (toZ w32 (r + 1)) 1537
 columns-held h e = subst (λ (z : ℤ). Abs z 1537) (sym (columns-are h e)) (columns-most h)
+
+-- a vector of small components changes row numbers by little
+pub stride-small : {k : Box} {v : V2} → Spanning k → Within2 1 v → Abs (weigh k (v .a) (v .b)) 1538
+stride-small s h = Abs-add (Abs-mul (columns-most (s .second)) (h .first)) (h .second)
 
 pub same-form : {f g : Form} → f .weight ≡ g .weight → f .base ≡ g .base → f ≡ g
 same-form e h = λ i. record { weight = e i; base = h i }

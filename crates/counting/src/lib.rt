@@ -15,14 +15,15 @@ ghost use lib.ListN.{length, drop};
 ghost use Rattle.integers.specs.Differences.{Abs, up};
 ghost use Rattle.integers.specs.Fill.{fillBy};
 ghost use Rattle.meaning.specs.Loops.{instances};
-ghost use Rattle.vectors.specs.Within.{Within, Rows};
+ghost use Rattle.vectors.specs.Within.{Within, Within2, Rows};
 ghost use Rattle.numbering.specs.Ranges.{Bounded};
 ghost use Rattle.numbering.specs.Extents.{Spanning, boxed};
 ghost use Rattle.counting.specs.Course.{Runs, courseOf, nextOf};
-ghost use Rattle.counting.specs.Forms.{Light, Numbers, formOf, formAt};
+ghost use Rattle.counting.specs.Forms.{Light, Numbers, weigh, formOf, formAt};
 ghost use Rattle.counting.specs.Strides.{strides, RowFits, Agrees, PlaneFits, AgreesAll};
 ghost use Rattle.counting.specs.Numbers.{Fillable, numbersOf};
 use integers::Matrix;
+use integers::V2;
 use integers::V3;
 use meaning::Nest;
 use numbering::Extent;
@@ -112,6 +113,16 @@ pub fn form_of(m: Matrix, e: Extent) -> Form
         },
         base: weight_of(columns, lo.a, lo.b),
     }
+}
+
+// By how much a vector changes the row numbers in a box.
+pub fn stride_of(e: Extent, v: V2) -> i32
+    requires { ⌜ (Spanning (boxed e)) × (Within2 4800 v) ⌝ }
+    ensures { λ r. ⌜ r ≡ weigh (boxed e) (v .a) (v .b) ⌝ }
+{
+    let lo = e.lo;
+    let hi = e.hi;
+    (numbering::distance(lo.b, hi.b) + 1) as i32 * v.a + v.b
 }
 
 // The number that a form gives an instance.

@@ -19,7 +19,6 @@ use Rattle.integers.specs.declared.V2.{V2}
 use Rattle.meaning.specs.declared.Nest.{Nest}
 use Rattle.meaning.specs.declared.Stream.{Stream}
 use Rattle.meaning.specs.declared.Description.{Description}
-use Rattle.meaning.specs.Loops.{size}
 use Rattle.meaning.specs.Space.{Box, rowIndex, boxOf, processes, first}
 use Rattle.meaning.specs.Streams.{stationary, elements, pass}
 use Rattle.meaning.specs.Pipes.{reach, before, pipeElements}
@@ -81,11 +80,8 @@ module _ {f : Flow} (h : Flows f) where
   pub elements-spanning : Spanning (boxed (f .elements))
   elements-spanning = subst Spanning (sym (h .elements-is)) (box-spanning (h .laid .in-range .nest) (h .laid .in-range .map))
 
-  pub stride-is : {c : ℤ} → c ≡ pos (size (f .elements .lo .b) (f .elements .hi .b))
-      → c *ℤ f .pass .a +ℤ f .pass .b ≡ strideOf (f .nest) (f .stream)
-  stride-is e =
-      ap (λ (c : ℤ). c *ℤ f .pass .a +ℤ f .pass .b) e
-      ∙ ap₂ (λ (k : Box) (v : V2). weigh k (v .a) (v .b)) (h .elements-is) (h .pass-is)
+  pub stride-is : weigh (boxed (f .elements)) (f .pass .a) (f .pass .b) ≡ strideOf (f .nest) (f .stream)
+  stride-is = ap₂ (λ (k : Box) (v : V2). weigh k (v .a) (v .b)) (h .elements-is) (h .pass-is)
 
 -- ---- the first element of a computing process
 

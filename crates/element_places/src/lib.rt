@@ -20,13 +20,12 @@ ghost use Rattle.meaning.specs.Limits.{gaugeLimits, elementsMost};
 ghost use Rattle.meaning.specs.Space.{processes};
 ghost use Rattle.geometry.specs.Wiring.{processAt};
 ghost use Rattle.layout.specs.Spans.{processOf, Spans, spanWords};
-ghost use Rattle.lanes.specs.Flow.{Flows};
 ghost use Rattle.lanes.specs.All.{LanesIn};
 ghost use Rattle.figures.specs.Shares.{AllLanes};
 ghost use Rattle.pipe_parts.specs.Starts.{entering, enteringLength};
 ghost use Rattle.element_places.specs.Spread.{spread};
 ghost use Rattle.element_places.specs.Order.{saidOn, Put, said, PlacesOf, Placeable};
-ghost use Rattle.element_places.specs.Runs.{numberAfter, Counts, Fits, strideOf, RunOf};
+ghost use Rattle.element_places.specs.Runs.{numberAfter, Counts, Fits, RunOf};
 ghost use Rattle.element_places.specs.Walked.{oneOf, ownSaid};
 ghost use Rattle.element_places.specs.Lent.{Placing, Running, Saying, Streaming};
 ghost use Rattle.element_places.specs.Lines.{Lined, Owning, Walking};
@@ -72,17 +71,6 @@ fn put_run(r: Run, places: &mut [u16])
 
 // ---- a pipe of a moving stream
 
-// How far apart the numbers of its elements lie.
-fn stride_of(f: Flow) -> i32
-    requires { ⌜ Flows f ⌝ }
-    ensures { λ r. ⌜ r ≡ strideOf (f .nest) (f .stream) ⌝ }
-{
-    let lo = f.elements.lo;
-    let hi = f.elements.hi;
-    let by = f.pass;
-    (numbering::distance(lo.b, hi.b) + 1) as i32 * by.a + by.b
-}
-
 // Its elements, by the first one that its computing process q uses; the stream's have the numbers from `first` on, and its part begins at
 // `start`.
 fn run_of(f: Flow, spans: &[u32], first: u32, start: u32, q: usize) -> Run
@@ -94,7 +82,7 @@ fn run_of(f: Flow, spans: &[u32], first: u32, start: u32, q: usize) -> Run
     let pass = f.pass;
     let e = pipes::first_element(f, spans, q);
     let before = layout::reach_of(elements, against, e);
-    let stride = stride_of(f);
+    let stride = counting::stride_of(elements, pass);
     Run {
         number: (first + numbering::row_number(elements, e)) as i32 - before as i32 * stride,
         stride: stride,

@@ -15,12 +15,9 @@
 ghost use mathlib.Core.Path.{_≡_};
 ghost use Prim.Native.Nat.{_<_};
 ghost use lib.ListN.{length};
-ghost use Rattle.integers.specs.Differences.{Abs};
 ghost use Rattle.meaning.specs.Space.{processes};
 ghost use Rattle.meaning.specs.Pipes.{backward};
 ghost use Rattle.vectors.specs.Within.{Within2};
-ghost use Rattle.numbering.specs.Extents.{Spanning, boxed};
-ghost use Rattle.counting.specs.Forms.{weigh};
 ghost use Rattle.lanes.specs.Lanes.{visited};
 ghost use Rattle.lanes.specs.Held.{entryNumber};
 ghost use Rattle.lanes.specs.Flow.{Laid, Flows, Visitable, Fillable, Seen};
@@ -67,16 +64,6 @@ fn backward(v: V2) -> bool
     if v.a == 0 { v.b < 0 } else { v.a < 0 }
 }
 
-// By how much a vector changes the row numbers in a box.
-fn step_of(e: Extent, v: V2) -> i32
-    requires { ⌜ (Spanning (boxed e)) × (Within2 1 v) ⌝ }
-    ensures { λ r. ⌜ (r ≡ weigh (boxed e) (v .a) (v .b)) × (Abs r 1538) ⌝ }
-{
-    let lo = e.lo;
-    let hi = e.hi;
-    (numbering::distance(lo.b, hi.b) + 1) as i32 * v.a + v.b
-}
-
 pub fn flow_of(n: Nest, s: Stream) -> Flow
     requires { ⌜ Laid n s ⌝ }
     ensures { λ r. ⌜ (r .nest ≡ n) × (r .stream ≡ s) × (Flows r) ⌝ }
@@ -95,7 +82,7 @@ pub fn flow_of(n: Nest, s: Stream) -> Flow
         back: vectors::opposite(way),
         pass: pass,
         against: vectors::opposite(pass),
-        step: step_of(space, way),
+        step: counting::stride_of(space, way),
         moving: stream_lines::moves(n, s),
         turned: backward(way),
     }

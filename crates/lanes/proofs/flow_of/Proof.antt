@@ -2,14 +2,16 @@
 -- Assumes nothing.
 use mathlib.Core.Path.{refl, sym, _∙_, ap, ap₂, subst}
 use borrow.Author.Needs.{needs}
-use Rattle.integers.specs.Words.{held, held-abs}
+use lib.IntN.{ℤ}
+use Rattle.integers.specs.Differences.{Abs}
+use Rattle.integers.specs.Words.{held}
 use Rattle.integers.specs.Vectors.{neg2, image}
 use Rattle.integers.specs.declared.V2.{V2}
 use Rattle.meaning.specs.Space.{Box}
 use Rattle.meaning.specs.Pipes.{backward}
 use Rattle.vectors.specs.Within.{Within2}
 use Rattle.numbering.specs.Extents.{Spanning, box-spanning}
-use Rattle.counting.specs.Forms.{weigh}
+use Rattle.counting.specs.Forms.{weigh, stride-small}
 use Rattle.lanes.specs.Flow.{wider2, neg-small}
 use Rattle.lanes.proofs.flow_of.Statement.{statement}
 use Rattle.lanes.proofs.flow_of.Tie as tie
@@ -37,13 +39,13 @@ opposite-requires c κs =
 opposite-requires-2 : tie.Need-opposite-requires-2
 opposite-requires-2 c κs = search needs
 
-step-of-requires : tie.Need-step-of-requires
-step-of-requires c κs =
+stride-of-requires : tie.Need-stride-of-requires
+stride-of-requires c κs =
     let e = c .before .before .before in
     let m = e .before .before .before in
     let r = m .before .before .before .pre in (
       subst Spanning (sym (e .extent-of .ensures .0)) (box-spanning (r .in-range .nest) (r .in-range .nest .place)),
-      subst (Within2 1) (sym (m .move-of .ensures)) (r .small),
+      subst (Within2 4800) (sym (m .move-of .ensures)) (wider2 (r .small)),
     )
 
 moves-requires : tie.Need-moves-requires
@@ -65,7 +67,8 @@ returns c =
     let s = m .before .before .before in
     let e = k .opposite .ensures .0 ∙ ap neg2 (m .move-of .ensures) in
     let q = i .image-of .ensures .0 ∙ ap (image (s .args .s .map)) (i .before .line-of .ensures .0) in
-    let z = ap₂ (λ (k : Box) (v : V2). weigh k (v .a) (v .b)) (b .before .extent-of .ensures .0) (m .move-of .ensures) in (
+    let z = ap₂ (λ (k : Box) (v : V2). weigh k (v .a) (v .b)) (b .before .extent-of .ensures .0) (m .move-of .ensures) in
+    let st = held (t .stride-of .ok) (t .stride-of .ensures ∙ z) in (
       refl,
       refl,
       record {
@@ -79,8 +82,9 @@ returns c =
         pass-small = i .image-of .ensures .1;
         against-is = g .opposite2 .ensures .0 ∙ ap neg2 q;
         against-small = g .opposite2 .ensures .1;
-        step-is = held (t .step-of .ok) (t .step-of .ensures .0 ∙ z);
-        step-small = held-abs (t .step-of .ok) (t .step-of .ensures .1);
+        step-is = st;
+        step-small = subst (λ (k : ℤ). Abs k 1538) (sym st)
+            (stride-small (box-spanning (s .pre .in-range .nest) (s .pre .in-range .nest .place)) (s .pre .small));
         moving-is = c .before .moves .ensures;
         turned-is = c .backward .ensures ∙ ap backward (m .move-of .ensures);
       },
@@ -97,7 +101,7 @@ flow-of-spec =
     extent-of-requires-2
     opposite-requires
     opposite-requires-2
-    step-of-requires
+    stride-of-requires
     moves-requires
     backward-requires
     returns)
