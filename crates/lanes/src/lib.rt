@@ -1,8 +1,8 @@
 // The lanes of a stream: which line of processes each process is on, and who computes there.
 //
 // One pass over the processes leaves the lanes, 1,024 words each: the entry of a process's line; how many before it compute there; for an
-// entry, how many compute on its line, and the number plus one of one of them. All else is then found at once for each process. A call makes
-// the lanes of all streams once and hands them on.
+// entry, how many compute on its line, and the number plus one of one of them. All else is then found at once for each process. A call
+// makes the lanes of all streams once and hands them on.
 //
 // specs/, by file:
 //

@@ -166,14 +166,5 @@ pub fn open(
         (memoryOf (now (waiting .entry)) (now (received .entry)) (now (state .entry))) (now (ports .exit)) (now (spans .exit)) r ⌝ }
 {
     let mut lanes = [0u16; ALL];
-    open_with_lanes(
-        board,
-        s,
-        waiting,
-        received,
-        state,
-        spans,
-        &mut lanes,
-        ports,
-    )
+    open_with_lanes(board, s, waiting, received, state, spans, &mut lanes, ports)
 }

@@ -247,17 +247,7 @@ fn fill_streams(
         let base = sums.pipes;
         let a = LANES * i as usize;
         let e = a + LANES;
-        let pipes = fill_stream(
-            n,
-            s,
-            g,
-            i as usize,
-            first,
-            base,
-            spans,
-            &lanes[a..e],
-            ports,
-        );
+        let pipes = fill_stream(n, s, g, i as usize, first, base, spans, &lanes[a..e], ports);
         let hop = g.hop;
         sums = joined(sums, hop, pipes);
         i += 1;

@@ -58,4 +58,5 @@ returns-2 c = refuses _ (now (c .before .before .before .before .args .s)) (c .b
 pub accept-spec : {M : Type 1} → statement M
 accept-spec =
     tie.close
-    (tie.spec refusal-of-requires description-requires slice-aggregate-figures-of figures-of-requires divisors-of-requires returns returns-2)
+    (tie.spec refusal-of-requires description-requires slice-aggregate-figures-of figures-of-requires divisors-of-requires returns
+        returns-2)

@@ -28,14 +28,19 @@ cast-stream : tie.Need-cast-stream Inv-loop μ-loop
 cast-stream c = search needs
 
 stream-requires : tie.Need-stream-requires Inv-loop μ-loop
-stream-requires c κs = omega (arith, c .loop-test .taken, c .before .before .before .before .before .before .pre .0 .described .few .ranged .sized .most-streams)
+stream-requires c κs =
+    let p = c .before .before .before .before .before .before .pre .0 in
+    omega (arith, c .loop-test .taken, p .described .few .ranged .sized .most-streams)
 
 elements-in-requires : tie.Need-elements-in-requires Inv-loop μ-loop
-elements-in-requires c κs = (c .before .before .before .before .before .before .before .pre .0 .described .few, omega (arith, c .before .loop-test .taken))
+elements-in-requires c κs =
+    (c .before .before .before .before .before .before .before .pre .0 .described .few, omega (arith, c .before .loop-test .taken))
 
 -- stream i is one of six
 stream-lt : (c : tie.After-elements-in Inv-loop μ-loop) → c .before .before .before .loop .i < 6
-stream-lt c = omega (arith, c .before .before .loop-test .taken, c .before .before .before .before .before .before .before .before .pre .0 .described .few .ranged .sized .most-streams)
+stream-lt c =
+    let p = c .before .before .before .before .before .before .before .before .pre .0 in
+    omega (arith, c .before .before .loop-test .taken, p .described .few .ranged .sized .most-streams)
 
 cast-a : tie.Need-cast-a Inv-loop μ-loop
 cast-a c = omega (arith, stream-lt c)
@@ -72,9 +77,10 @@ fill-stream-requires c κs =
     )
 
 add-i : tie.Need-add-i Inv-loop μ-loop
-add-i c = record {
-  fits = omega (arith, c .before .before .before .before .before .before .before .loop-test .taken, c .before .before .before .before .before .before .before .before .before .before .before .before .before .pre .0 .described .few .ranged .sized .most-streams);
-}
+add-i c =
+    let p = c .before .before .before .before .before .before .before .before .before .before .before .before .before .pre .0 in
+    let t = c .before .before .before .before .before .before .before .loop-test .taken in
+    record { fits = omega (arith, t, p .described .few .ranged .sized .most-streams) }
 
 loop-less : tie.Need-loop-less Inv-loop μ-loop
 loop-less c = search needs
@@ -84,7 +90,8 @@ loop-again c =
     let s = c .before .before .before .before .before .before .before .before .before .before .before .before .before in
     let l = c .before .before .before .before .before .before .before .before .loop in
     let t = c .before .before .before .before .before .before .before .loop-test .taken in
-    let n = next-right (s .pre .0) (l .i) t (c .before .before .before .before .before .before .stream .ensures) (c .before .before .before .before .before .elements-in .ensures) (l .places) _
+    let n = next-right (s .pre .0) (l .i) t (c .before .before .before .before .before .before .stream .ensures)
+        (c .before .before .before .before .before .elements-in .ensures) (l .places) _
     (c .before .before .fill-stream .ensures) (l .inv .1) (l .inv .2) in
     (omega (arith, t), n .0, n .1)
 

@@ -46,7 +46,8 @@ mul-t16 c =
     let r = c .before .before .reach-of .ensures in
     let t = c .before .stride-of in
     let a = c .before .before .before .before .before .before .before .before in
-    fits tt (back-holds (a .pre) (c .before .before .before .first-element .ensures) (r .0) (r .1) (t .ensures ∙ stride-is (a .pre .at .flows)) (t .ok))
+    fits tt (back-holds (a .pre) (c .before .before .before .first-element .ensures) (r .0) (r .1)
+        (t .ensures ∙ stride-is (a .pre .at .flows)) (t .ok))
 
 sub-t17 : tie.Need-sub-t17
 sub-t17 c =

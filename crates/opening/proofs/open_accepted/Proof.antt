@@ -54,7 +54,8 @@ returns c =
     )
 
 same-length-3 : tie.Need-same-length-3
-same-length-3 c = c .before .before .before .before .before .figures-of .ensures .1 .words ∙ sym (zero-words (c .before .before .before .before .before .before .before .before .before .before .before .before .before .pre .3))
+same-length-3 c = c .before .before .before .before .before .figures-of .ensures .1 .words ∙ sym
+    (zero-words (c .before .before .before .before .before .before .before .before .before .before .before .before .before .pre .3))
 
 returns-2 : tie.Need-returns-2
 returns-2 c =

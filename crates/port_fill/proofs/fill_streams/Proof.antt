@@ -41,11 +41,13 @@ strand-of-requires c κs =
     )
 
 elements-in-requires : tie.Need-elements-in-requires Inv-loop μ-loop
-elements-in-requires c κs = (c .before .before .before .before .before .before .before .before .pre .0 .described .few, c .before .before .before .loop .inv .0)
+elements-in-requires c κs = (c .before .before .before .before .before .before .before .before .pre .0 .described .few,
+    c .before .before .before .loop .inv .0)
 
 -- stream i is one of six
 stream-lt : (c : tie.After-elements-in Inv-loop μ-loop) → c .before .before .before .before .loop .i < 6
-stream-lt c = let s = c .before .before .before .before .before .before .before .before .before in omega (arith, c .before .before .before .loop-test .taken, six (s .args .d) (s .pre .0 .described))
+stream-lt c = let s = c .before .before .before .before .before .before .before .before .before in omega
+    (arith, c .before .before .before .loop-test .taken, six (s .args .d) (s .pre .0 .described))
 
 cast-a : tie.Need-cast-a Inv-loop μ-loop
 cast-a c = omega (arith, stream-lt c)
@@ -69,7 +71,8 @@ part-fill-stream-start : tie.Need-part-fill-stream-start Inv-loop μ-loop
 part-fill-stream-start c = search needs
 
 part-fill-stream-end : tie.Need-part-fill-stream-end Inv-loop μ-loop
-part-fill-stream-end c = omega (arith, stream-lt c, c .before .before .before .before .before .before .before .before .before .pre .1 .words)
+part-fill-stream-end c = omega (arith, stream-lt c, c .before .before .before .before .before .before .before .before .before .pre .1
+    .words)
 
 fill-stream-requires : tie.Need-fill-stream-requires Inv-loop μ-loop
 fill-stream-requires c κs =
@@ -116,7 +119,8 @@ loop-again c =
     let k = c .before .before .before .fill-stream .ensures in (
       omega (arith, t),
       c .joined .ensures ∙ sums-next (s .args .d) (s .pre .0 .described) (l .i) t e (ap (λ (g : Strand). g .hop) g) (k .0) (l .inv .1),
-      filled-next (s .pre .0) (l .i) t e (l .inv .1) g (c .before .before .before .before .before .before .elements-in .ensures) (l .ports) (k .1) (l .inv .2),
+      filled-next (s .pre .0) (l .i) t e (l .inv .1) g (c .before .before .before .before .before .before .elements-in .ensures)
+          (l .ports) (k .1) (l .inv .2),
     )
 
 same-length : tie.Need-same-length Inv-loop μ-loop

@@ -10,7 +10,8 @@ slice-aggregate-fill-places : tie.Need-slice-aggregate-fill-places
 slice-aggregate-fill-places c = search needs
 
 fill-places-requires : tie.Need-fill-places-requires
-fill-places-requires c κs = let p = c .before .before .before .before .before .before .before .pre in (p .0 .placeable, p .1, p .2, p .3, omega arith)
+fill-places-requires c κs = let p = c .before .before .before .before .before .before .before .pre in
+    (p .0 .placeable, p .1, p .2, p .3, omega arith)
 
 slice-aggregate-put-values : tie.Need-slice-aggregate-put-values
 slice-aggregate-put-values c = search needs
@@ -23,7 +24,8 @@ put-values-requires c κs =
 
 clear-requires : tie.Need-clear-requires
 clear-requires c κs =
-    let p = c .before .before .before .before .before .before .before .before .before .before .before .before .before .before .before .pre .0 in
+    let f = c .before .before .before .before .before .before .before in
+    let p = f .before .before .before .before .before .before .before .before .pre .0 in
     omega (arith, elements-is p, p .received)
 
 clear-requires-2 : tie.Need-clear-requires-2

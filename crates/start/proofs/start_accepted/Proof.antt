@@ -46,7 +46,9 @@ returns c =
     let f = c .before .before .before .before .before .before .before .before .before .before .before .before .before .before in
     let a = f .before .before .before .before .before .before .before .args in
     call-done (a .d) (f .figures-of .ensures .0) (now (a .values)) (memoryOf (now (a .waiting)) (now (a .received)) (now (a .state)))
-    (c .before .before .before .before .before .before .before .before .before .before .before .before .of-start .ensures) (c .before .before .before .before .before .before .before .before .before .before .before .if1 .taken) (c .before .before .before .before .before .before .fill-memory .ensures)
+    (c .before .before .before .before .before .before .before .before .before .before .before .before .of-start .ensures)
+    (c .before .before .before .before .before .before .before .before .before .before .before .if1 .taken)
+    (c .before .before .before .before .before .before .fill-memory .ensures)
 
 returns-2 : tie.Need-returns-2
 returns-2 c =
