@@ -6,7 +6,7 @@
 // number by which it declines, or 0, and the sum of its list, one row or word more than the call names. An array of at most 12 elements has
 // the walk's instances, its rows, values and final values printed as well. A description that is declined counts as one process and one
 // element.
-ghost use Prim.Native.Nat.{_≤_, _<_, _+_};
+ghost use Prim.Native.Nat.{_≤_, _<_, _+_, _*_};
 ghost use lib.ListN.{length};
 ghost use Rattle.meaning.specs.Limits.{gaugeLimits, elementsMost};
 use integers::V3;
@@ -84,15 +84,15 @@ fn sum_of_rows(rows: [Row; PROCESSES], count: usize) -> u32 {
     sum
 }
 
-// The same of whole numbers, from 0.
-fn sum_of_signed(numbers: &[i32], count: usize) -> u32
-    requires { ⌜ count ≤ length (now numbers) ⌝ }
+// The same of the walk's first instances, from 0.
+fn sum_of_walk(walk: &[i8], instances: usize) -> u32
+    requires { ⌜ 3 * instances ≤ length (now walk) ⌝ }
 {
     let mut sum: u32 = 0;
-    let mut i: usize = 0;
-    while i < count {
-        sum = mix_signed(sum, numbers[i]);
-        i += 1;
+    let mut k: usize = 0;
+    while k < instances {
+        sum = mix_vector(sum, walk::instance_at(walk, k));
+        k += 1;
     }
     sum
 }
@@ -158,13 +158,13 @@ fn print_words(words: &[u32], count: usize)
     }
 }
 
-fn print_signeds(numbers: &[i32], count: usize)
-    requires { ⌜ count ≤ length (now numbers) ⌝ }
+fn print_instances(walk: &[i8], instances: usize)
+    requires { ⌜ 3 * instances ≤ length (now walk) ⌝ }
 {
-    let mut i: usize = 0;
-    while i < count {
-        print_signed(numbers[i]);
-        i += 1;
+    let mut k: usize = 0;
+    while k < instances {
+        print_vector(walk::instance_at(walk, k));
+        k += 1;
     }
 }
 
@@ -278,28 +278,28 @@ fn accept_line(board: u32, s: &[u8]) -> Extents
     }
 }
 
-// Of the walk's first coordinates the sum, and all of them if the array is small.
-fn print_visits(walk: &[i32], coordinates: usize, small: bool)
-    requires { ⌜ coordinates ≤ length (now walk) ⌝ }
+// Of the walk's first instances the sum, and all of them if the array is small.
+fn print_visits(walk: &[i8], instances: usize, small: bool)
+    requires { ⌜ 3 * instances ≤ length (now walk) ⌝ }
 {
-    print_number(sum_of_signed(walk, coordinates));
+    print_number(sum_of_walk(walk, instances));
     print(b"\n");
     if small {
         print(b"along");
-        print_signeds(walk, coordinates);
+        print_instances(walk, instances);
         print(b"\n");
     }
 }
 
 fn walk_lines(board: u32, s: &[u8], small: bool) {
     let mut spans = [0u32; SPANS];
-    let mut walk = [0i32; WALK];
+    let mut walk = [0i8; WALK];
     let refusal = walkable::walk_of(board, s, &mut spans, &mut walk);
     print(b"walk");
     print_number(refusal);
     if refusal == 0 {
         let n = walkable::nest_of(s);
-        print_visits(&walk, 3 * numbering::instance_count(n) as usize, small);
+        print_visits(&walk, numbering::instance_count(n) as usize, small);
     } else {
         print(b" 0\n");
     }

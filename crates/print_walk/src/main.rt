@@ -34,7 +34,7 @@ fn print_visit(n: Nest, x: V3, loops: u32)
     text::print_page(page, end);
 }
 
-fn print_visits(n: Nest, walk: &[i32], instances: usize, loops: u32)
+fn print_visits(n: Nest, walk: &[i8], instances: usize, loops: u32)
     requires { ⌜ Readable n (now walk) instances ⌝ }
 {
     let mut k: usize = 0;
@@ -56,7 +56,7 @@ fn print_figures(processes: u32, instances: u32) {
     text::print_page(page, end);
 }
 
-fn print_whole(n: Nest, walk: &[i32], loops: u32)
+fn print_whole(n: Nest, walk: &[i8], loops: u32)
     requires { ⌜ (Bounded n) × (Along n (now walk)) ⌝ }
 {
     let place = n.place;
@@ -68,7 +68,7 @@ fn print_whole(n: Nest, walk: &[i32], loops: u32)
 
 fn print_walk(board: u32, s: &[u8]) {
     let mut spans = [0u32; SPANS];
-    let mut walk = [0i32; WALK];
+    let mut walk = [0i8; WALK];
     let refusal = walkable::walk_of(board, s, &mut spans, &mut walk);
     if refusal == 0 {
         print_whole(walkable::nest_of(s), &walk, integers::bits_at(s, 0));

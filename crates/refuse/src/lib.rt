@@ -14,7 +14,7 @@ use meaning::Limits;
 use walk::WALK;
 
 // The first of the refusals 11 to 17 that applies to a stream, lowest first, 0 if none does.
-fn streams_refusal(d: Description, limits: Limits, walk: &[i32]) -> u32
+fn streams_refusal(d: Description, limits: Limits, walk: &[i8]) -> u32
     requires { ⌜ (Ranged d) × (Along (d .nest) (now walk)) ⌝ }
     ensures { λ r. ⌜ r ≡ refusal (testsFrom limits d 0 (streamsOf d)) ⌝ }
 {
@@ -38,7 +38,7 @@ pub fn refusal_within(s: &[u8], limits: Limits, spans: &mut [u32; SPANS]) -> u32
     ensures { λ r. ⌜ (r ≡ refusalOf limits (now (s .entry)))
         × (r ≡ 0 → Spans (descriptionOf (now (s .entry)) .nest) (now (spans .exit))) ⌝ }
 {
-    let mut walk = [0i32; WALK];
+    let mut walk = [0i8; WALK];
     let r = walkable::walk_within(s, limits, spans, &mut walk);
     if r == 0 {
         streams_refusal(decode::description(s), limits, &walk)

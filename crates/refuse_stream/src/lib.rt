@@ -11,7 +11,7 @@ use meaning::Nest;
 use meaning::Stream;
 
 // Refusal 17: some element of the box is touched by no instance. With more elements than instances some are; else the walk tells.
-fn elements_refused(n: Nest, s: Stream, walk: &[i32]) -> bool
+fn elements_refused(n: Nest, s: Stream, walk: &[i8]) -> bool
     requires { ⌜ (InRange n s) × (Along n (now walk)) ⌝ }
     ensures { λ r. ⌜ r ≡ refused17 n s ⌝ }
 {
@@ -28,7 +28,7 @@ fn elements_refused(n: Nest, s: Stream, walk: &[i32]) -> bool
 }
 
 // The first of the refusals 15 to 17 that applies, 0 if none does.
-fn order_refusal(n: Nest, s: Stream, written: bool, walk: &[i32]) -> u32
+fn order_refusal(n: Nest, s: Stream, written: bool, walk: &[i8]) -> u32
     requires { ⌜ (InRange n s) × (Along n (now walk)) ⌝ }
     ensures { λ r. ⌜ r ≡ refusal (orderTests n written s) ⌝ }
 {
@@ -44,7 +44,7 @@ fn order_refusal(n: Nest, s: Stream, written: bool, walk: &[i32]) -> u32
 }
 
 // The same of 13 to 17.
-fn move_refusal(n: Nest, s: Stream, written: bool, limits: Limits, walk: &[i32]) -> u32
+fn move_refusal(n: Nest, s: Stream, written: bool, limits: Limits, walk: &[i8]) -> u32
     requires { ⌜ (InRange n s) × (Along n (now walk)) ⌝ }
     ensures { λ r. ⌜ r ≡ refusal (moveTests limits n written s) ⌝ }
 {
@@ -58,7 +58,7 @@ fn move_refusal(n: Nest, s: Stream, written: bool, limits: Limits, walk: &[i32])
 }
 
 // The same of 11 to 17.
-pub fn stream_refusal(n: Nest, s: Stream, written: bool, limits: Limits, walk: &[i32]) -> u32
+pub fn stream_refusal(n: Nest, s: Stream, written: bool, limits: Limits, walk: &[i8]) -> u32
     requires { ⌜ (InRange n s) × (Along n (now walk)) ⌝ }
     ensures { λ r. ⌜ r ≡ refusal (streamTests limits n written s) ⌝ }
 {

@@ -10,7 +10,7 @@ ghost use Rattle.untouched.specs.Search.{numberOn, Numberable, Searching
 use counting::Form;
 
 // The number of the element that instance k of the walk touches.
-fn number_at(f: Form, walk: &[i32], k: usize) -> usize
+fn number_at(f: Form, walk: &[i8], k: usize) -> usize
     requires { ⌜ Numberable f (now walk) k ⌝ }
     ensures { λ r. ⌜ r ≡ numberOn f (now (walk .entry)) k ⌝ }
 {
@@ -22,7 +22,7 @@ fn number_at(f: Form, walk: &[i32], k: usize) -> usize
 // walk is over.
 pub fn untouched(
     f: Form,
-    walk: &[i32],
+    walk: &[i8],
     instances: usize,
     elements: usize,
     marks: &mut [bool],

@@ -19,7 +19,7 @@ use Rattle.meaning.specs.Points.{Within as InBounds}
 use Rattle.meaning.specs.Walk.{ownLine, walk}
 use Rattle.lists.specs.Members.{map-at, each-part, each-length, numbers-length, numbers-at}
 use Rattle.lists.specs.Sums.{total-none, total-next}
-use Rattle.geometry.specs.Processes.{Layout, runAt}
+use Rattle.geometry.specs.Processes.{Layout, runAt, instance-at}
 use Rattle.geometry.specs.Places.{getD-in}
 use Rattle.geometry.specs.Walk.{walk-length, nothing-else}
 use Rattle.vectors.specs.Within.{Within}
@@ -75,10 +75,9 @@ pub record Walking (n : Nest) (many : ℕ) (spans : List ℕ) (w : List ℤ) : T
 
 -- the same for the line of process p, which begins at a place
 pub record Lining (n : Nest) (i : V3) (spans : List ℕ) (p from : ℕ) (w : List ℤ) : Type 0 where
-  pub nest : Bounded n
+  pub walkable : Walkable n
   pub held : Spans n spans
   pub words : length spans ≡ 3072
-  pub few : length (processes n) ≤ 1024
   pub process : p < length (processes n)
   pub increment : i ≡ increment n
   pub within : Within 200 i
@@ -96,6 +95,17 @@ module _ {n : Nest} {i : V3} {spans : List ℕ} {p from : ℕ} {w : List ℤ} (l
       (omega arith, subst (λ (c : ℕ). Lined (runAt n y) from c w w) z (lined-none (runAt n y) from w))
 
   -- the words of the others say where it begins and how long it is
+  on-line : {f : V3} → f ≡ first n y → (k : ℕ) → shift3 f (pos k) i ≡ runAt n y k
+  on-line e k = ap₂ (λ (a b : V3). shift3 a (pos k) b) e (l .increment)
+
+  on-count : (k : ℕ) → k < getD spans p 0 → k < count n y
+  on-count k = subst (λ (c : ℕ). k < c) (l .held .counts p (l .process))
+
+  pub own-small : {f : V3} → f ≡ first n y → (k : ℕ) → k < getD spans p 0 → Within 64 (shift3 f (pos k) i)
+  own-small e k h =
+      subst (Within 64) (sym (on-line e k))
+      (point-small (l .walkable .nest) (instance-at (l .walkable .layout) y k (on-count k h) .within))
+
   pub own-line : {f : V3} {w' : List ℤ} → f ≡ first n y → Lined (λ k. shift3 f (pos k) i) from (getD spans p 0) w w'
       → Lined (runAt n y) from (count n y) w w'
   own-line {f} {w'} e s =
@@ -103,8 +113,7 @@ module _ {n : Nest} {i : V3} {spans : List ℕ} {p from : ℕ} {w : List ℤ} (l
         long = s .long;
         before = s .before;
         stored = λ k h.
-            s .stored k (subst (λ (c : ℕ). k < c) (sym (l .held .counts p (l .process))) h)
-            ∙ ap₂ (λ (a b : V3). shift3 a (pos k) b) e (l .increment);
+            s .stored k (subst (λ (c : ℕ). k < c) (sym (l .held .counts p (l .process))) h) ∙ on-line e k;
       }
 
 -- ---- process by process

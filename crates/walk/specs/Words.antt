@@ -1,16 +1,54 @@
--- Instances as words of a list, three for each, and lines of them stored one after the other. Assumes nothing.
-use mathlib.Core.Path.{_≡_, refl, sym, _∙_, ap}
+-- Instances as words of 8 bits in a list, three for each, and lines of them stored one after the other. Assumes nothing.
+use mathlib.Core.Path.{_≡_, refl, sym, _∙_, ap, subst}
 use mathlib.Core.Logic.{_⊎_, inl, inr}
 use mathlib.Core.List.{List}
-use Prim.Native.Nat.{ℕ, _+_, _*_, _≤_, _<_}
+use Prim.Native.Nat.{ℕ, _+_, _*_, _^_, _≤_, _<_}
 use native.Mathlib.Nat.{eq-or-lt-of-le}
 use native.Mathlib.Omega.{arith}
 use lib.ListN.{length, getD, set, length-set}
 use lib.Seq.{getD-set-same, getD-set-other}
-use lib.IntN.{ℤ, pos}
-use Rattle.integers.specs.Vectors.{same3}
+use lib.IntN.{ℤ, pos, negsuc, natAbs}
+use lib.Signed.{mag}
+use mir.Syntax.{Width, w8, w32}
+use mir.Val.{SFits, toZ, ofZ}
+use mir.Facts.{toZ-ofZ, sfits-widen}
+use Rattle.integers.specs.Differences.{Abs}
+use Rattle.integers.specs.Vectors.{same3, shift3}
 use Rattle.integers.specs.declared.V3.{V3}
 use Rattle.vectors.specs.Within.{Within}
+
+-- ---- a coordinate in a word
+
+-- a cast of a number that both widths hold
+module _ {u w : Width} {z : ℤ} (f : SFits u z) (g : SFits w z) where
+  cast-fits : SFits w (toZ u (ofZ u z))
+  cast-fits = subst (SFits w) (sym (toZ-ofZ f)) g
+
+  cast-same : toZ w (ofZ w (toZ u (ofZ u z))) ≡ z
+  cast-same = ap (λ (y : ℤ). toZ w (ofZ w y)) (toZ-ofZ f) ∙ toZ-ofZ g
+
+-- what 8 bits hold is read as it is
+pub widens : (z : ℤ) → mag z < 2 ^ 7 → SFits w32 (toZ w8 (ofZ w8 z))
+widens z h = let f : SFits w8 z = record { sfits = h } in cast-fits f (sfits-widen tt f)
+
+pub widened : {z : ℤ} → mag z < 2 ^ 7 → toZ w32 (ofZ w32 (toZ w8 (ofZ w8 z))) ≡ z
+widened {z} h = let f : SFits w8 z = record { sfits = h } in cast-same f (sfits-widen tt f)
+
+-- and a coordinate, which they hold, stored as it is
+in-byte : {z : ℤ} → Abs z 64 → SFits w8 z
+in-byte {z} h = record { sfits = go z (h .abs) }
+  where
+    go : (z : ℤ) → natAbs z ≤ 64 → mag z < 2 ^ 7
+    go (pos n) b = omega arith
+    go (negsuc n) b = omega arith
+
+pub narrows : {z : ℤ} → Abs z 64 → SFits w8 (toZ w32 (ofZ w32 z))
+narrows h = cast-fits (sfits-widen tt (in-byte h)) (in-byte h)
+
+pub narrowed : {z : ℤ} → Abs z 64 → toZ w8 (ofZ w8 (toZ w32 (ofZ w32 z))) ≡ z
+narrowed h = cast-same (sfits-widen tt (in-byte h)) (in-byte h)
+
+-- ---- an instance in three
 
 -- instance k
 abbrev pub vectorAt : List ℤ → ℕ → V3
@@ -19,6 +57,14 @@ vectorAt w k = record { x = getD w (3 * k) (pos 0); y = getD w (3 * k + 1) (pos 
 -- put there
 abbrev pub put : List ℤ → ℕ → V3 → List ℤ
 put w k v = set (set (set w (3 * k) (v .x)) (3 * k + 1) (v .y)) (3 * k + 2) (v .z)
+
+-- from words that hold its coordinates
+pub put-by : (w : List ℤ) (k : ℕ) (v : V3) {a b c : ℤ} → a ≡ v .x → b ≡ v .y → c ≡ v .z
+    → set (set (set w (3 * k) a) (3 * k + 1) b) (3 * k + 2) c ≡ put w k v
+put-by w k v {a} {b} {c} p q r =
+    ap (λ (x : ℤ). set (set (set w (3 * k) x) (3 * k + 1) b) (3 * k + 2) c) p
+    ∙ ap (λ (y : ℤ). set (set (set w (3 * k) (v .x)) (3 * k + 1) y) (3 * k + 2) c) q
+    ∙ ap (λ (z : ℤ). set (set (set w (3 * k) (v .x)) (3 * k + 1) (v .y)) (3 * k + 2) z) r
 
 pub put-length : (w : List ℤ) (k : ℕ) (v : V3) → length (put w k v) ≡ length w
 put-length w k v = simp length-set refl
@@ -57,6 +103,7 @@ put-other w k j v f =
 -- what it is stored by
 pub record Running (first increment : V3) (count from : ℕ) (w : List ℤ) : Type 0 where
   pub small : Within 64 first
+  pub inside : (k : ℕ) → k < count → Within 64 (shift3 first (pos k) increment)
   pub short : Within 200 increment
   pub fits : from + count ≤ 4096
   pub room : length w ≡ 12288

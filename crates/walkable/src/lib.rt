@@ -55,7 +55,7 @@ pub fn nest_of(s: &[u8]) -> Nest
 }
 
 // The words of the processes and of the walk.
-fn fill_nest(n: Nest, spans: &mut [u32; SPANS], walk: &mut [i32; WALK])
+fn fill_nest(n: Nest, spans: &mut [u32; SPANS], walk: &mut [i8; WALK])
     requires { ⌜ Walkable n ⌝ }
     ensures { λ r. ⌜ (Spans n (now (spans .exit))) × (Along n (now (walk .exit))) ⌝ }
 {
@@ -64,12 +64,7 @@ fn fill_nest(n: Nest, spans: &mut [u32; SPANS], walk: &mut [i32; WALK])
 }
 
 // The same of a description, if there is no such refusal, else they stay.
-pub fn walk_within(
-    s: &[u8],
-    limits: Limits,
-    spans: &mut [u32; SPANS],
-    walk: &mut [i32; WALK],
-) -> u32
+pub fn walk_within(s: &[u8], limits: Limits, spans: &mut [u32; SPANS], walk: &mut [i8; WALK]) -> u32
     requires { ⌜ UpTo limits gaugeLimits ⌝ }
     ensures { λ r. ⌜ (r ≡ walkRefusal limits (now (s .entry)))
         × (r ≡ 0 → (Spans (descriptionOf (now (s .entry)) .nest) (now (spans .exit)))
@@ -86,7 +81,7 @@ pub fn walk_within(
 
 // The number by which 33 and 1 to 10 refuse a description, and then no word changes, or 0, and then the words of its processes and of its
 // walk are filled.
-pub fn walk_of(board: u32, s: &[u8], spans: &mut [u32; SPANS], walk: &mut [i32; WALK]) -> u32
+pub fn walk_of(board: u32, s: &[u8], spans: &mut [u32; SPANS], walk: &mut [i8; WALK]) -> u32
     ensures { λ r. ⌜ (r ≡ walkRefusal (limitsOf board) (now (s .entry)))
         × (r ≡ 0 → (Spans (descriptionOf (now (s .entry)) .nest) (now (spans .exit)))
         × (Along (descriptionOf (now (s .entry)) .nest) (now (walk .exit))))

@@ -31,9 +31,6 @@ instance-count-requires c κs = search needs
 cast-print-visits : tie.Need-cast-print-visits
 cast-print-visits c = search needs
 
-mul-print-visits : tie.Need-mul-print-visits
-mul-print-visits c = search needs
-
 print-visits-requires : tie.Need-print-visits-requires
 print-visits-requires c κs =
     let b = c .before .before .before in
@@ -64,7 +61,6 @@ walk-lines-spec =
     slice-aggregate-print-visits
     instance-count-requires
     cast-print-visits
-    mul-print-visits
     print-visits-requires
     slice-aggregate-print-2
     print-requires-2

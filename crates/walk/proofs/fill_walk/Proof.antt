@@ -38,10 +38,9 @@ put-line-requires c κs =
     let p = s .pre in
     let h : l .p < length (processesOf (s .args .n)) = omega (arith, p .counted) in
     record {
-      nest = p .walkable .nest;
+      walkable = p .walkable;
       held = p .held;
       words = p .words;
-      few = p .walkable .processes;
       process = h;
       increment = i .ensures .0;
       within = i .ensures .1;

@@ -6,6 +6,7 @@ use lib.IntN.{pos}
 use lib.ListN.{length}
 use borrow.Author.Needs.{needs}
 use Rattle.integers.specs.Vectors.{shift3}
+use Rattle.vectors.specs.Within.{Within}
 use Rattle.walk.specs.Words.{put-length, Lined, lined-none, lined-on}
 use Rattle.walk.proofs.put_instances.Statement.{statement}
 use Rattle.walk.proofs.put_instances.Tie as tie
@@ -32,7 +33,10 @@ later-requires c κs = let p = c .before .before .before .pre in (p .small, p .s
 put-instance-requires : tie.Need-put-instance-requires Inv-loop μ-loop
 put-instance-requires c κs =
     let p = c .before .before .before .before .pre in
-    let v = c .before .before .before .loop .inv in omega (arith, p .fits, p .room, v .1)
+    let l = c .before .before .before .loop in (
+      omega (arith, p .fits, p .room, l .inv .1),
+      subst (Within 64) (sym (c .later .ensures)) (p .inside (l .k) (omega arith)),
+    )
 
 add-k : tie.Need-add-k Inv-loop μ-loop
 add-k c = search needs

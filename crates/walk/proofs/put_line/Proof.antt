@@ -3,7 +3,7 @@ use mathlib.Core.Path.{ap}
 use Prim.Native.Nat.{ℕ, _+_}
 use native.Mathlib.Omega.{arith}
 use borrow.Author.Needs.{needs}
-use Rattle.walk.specs.Walked.{no-line, own-line}
+use Rattle.walk.specs.Walked.{no-line, own-small, own-line}
 use Rattle.walk.proofs.put_line.Statement.{statement}
 use Rattle.walk.proofs.put_line.Tie as tie
 
@@ -11,7 +11,7 @@ mul-count : tie.Need-mul-count
 mul-count c = search needs
 
 shared-slice-read-count : tie.Need-shared-slice-read-count
-shared-slice-read-count c = let p = c .before .before .pre in omega (arith, p .process, p .few, p .words)
+shared-slice-read-count c = let p = c .before .before .pre in omega (arith, p .process, p .walkable .processes, p .words)
 
 returns : tie.Need-returns
 returns c = no-line (c .before .before .before .pre) (c .if1 .taken)
@@ -21,10 +21,10 @@ first-of-requires c κs =
     let p = c .before .before .before .pre in
     let e = p .held .counts _ (p .process) in
     record {
-      nest = p .nest;
+      nest = p .walkable .nest;
       held = p .held;
       words = p .words;
-      few = p .few;
+      few = p .walkable .processes;
       process = p .process;
       some = omega (arith, e, c .if1 .left);
     }
@@ -32,8 +32,10 @@ first-of-requires c κs =
 put-instances-requires : tie.Need-put-instances-requires
 put-instances-requires c κs =
     let p = c .before .before .before .before .before .pre in
+    let f = c .before .first-of .ensures in
     record {
-      small = c .before .first-of .ensures .1;
+      small = f .1;
+      inside = own-small p (f .0);
       short = p .within;
       fits = omega (arith, p .held .counts _ (p .process), p .fits);
       room = p .room;
