@@ -101,6 +101,7 @@ module _ {n : Nest} {i : V3} {spans : List ℕ} {p from : ℕ} {w : List ℤ} (l
   on-count : (k : ℕ) → k < getD spans p 0 → k < count n y
   on-count k = subst (λ (c : ℕ). k < c) (l .held .counts p (l .process))
 
+  -- it runs through instances, small ones
   pub own-small : {f : V3} → f ≡ first n y → (k : ℕ) → k < getD spans p 0 → Within 64 (shift3 f (pos k) i)
   own-small e k h =
       subst (Within 64) (sym (on-line e k))

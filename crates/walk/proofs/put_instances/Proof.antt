@@ -35,7 +35,7 @@ put-instance-requires c κs =
     let p = c .before .before .before .before .pre in
     let l = c .before .before .before .loop in (
       omega (arith, p .fits, p .room, l .inv .1),
-      subst (Within 64) (sym (c .later .ensures)) (p .inside (l .k) (omega arith)),
+      subst (Within 64) (sym (c .later .ensures)) (p .inside _ (omega arith)),
     )
 
 add-k : tie.Need-add-k Inv-loop μ-loop
