@@ -59,4 +59,4 @@ pub accept-spec : {M : Type 1} → statement M
 accept-spec =
     tie.close
     (tie.spec refusal-of-requires description-requires slice-aggregate-figures-of figures-of-requires divisors-of-requires returns
-        returns-2)
+    returns-2)

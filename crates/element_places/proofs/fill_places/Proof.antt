@@ -91,7 +91,7 @@ loop-again c =
     let l = c .before .before .before .before .before .before .before .before .loop in
     let t = c .before .before .before .before .before .before .before .loop-test .taken in
     let n = next-right (s .pre .0) (l .i) t (c .before .before .before .before .before .before .stream .ensures)
-        (c .before .before .before .before .before .elements-in .ensures) (l .places) _
+    (c .before .before .before .before .before .elements-in .ensures) (l .places) _
     (c .before .before .fill-stream .ensures) (l .inv .1) (l .inv .2) in
     (omega (arith, t), n .0, n .1)
 

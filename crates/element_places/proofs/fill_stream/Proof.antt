@@ -29,7 +29,7 @@ returns c =
     let k = c .before .before .before .before in
     let f = k .before .before .flow-of in
     said-stream (f .result) (f .ensures .0) (f .ensures .1) (k .before .before .before .before .before .before .pre .0)
-        (counted-is (f .ensures .2) (k .size-of .ensures .0))
+    (counted-is (f .ensures .2) (k .size-of .ensures .0))
     (c .before .before .put-places .ensures)
 
 pub fill-stream-spec : {M : Type 1} → statement M

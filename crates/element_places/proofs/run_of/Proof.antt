@@ -47,7 +47,7 @@ mul-t16 c =
     let t = c .before .stride-of in
     let a = c .before .before .before .before .before .before .before .before in
     fits tt (back-holds (a .pre) (c .before .before .before .first-element .ensures) (r .0) (r .1)
-        (t .ensures ∙ stride-is (a .pre .at .flows)) (t .ok))
+    (t .ensures ∙ stride-is (a .pre .at .flows)) (t .ok))
 
 sub-t17 : tie.Need-sub-t17
 sub-t17 c =

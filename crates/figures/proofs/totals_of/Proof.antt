@@ -34,8 +34,12 @@ cast-stream : tie.Need-cast-stream Inv-loop μ-loop
 cast-stream c = search needs
 
 stream-requires : tie.Need-stream-requires Inv-loop μ-loop
-stream-requires c κs = omega (arith, c .loop-test .taken, c .before .before .before .before .before .pre .0 .few .ranged .sized
-    .most-streams)
+stream-requires c κs = omega (
+  arith,
+  c .loop-test .taken,
+  c .before .before .before .before .before .pre .0 .few .ranged .sized
+      .most-streams,
+)
 
 mul-share-of : tie.Need-mul-share-of Inv-loop μ-loop
 mul-share-of c = search needs

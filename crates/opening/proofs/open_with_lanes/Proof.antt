@@ -10,7 +10,7 @@ limits-of-requires c κs = search needs
 open-within-requires : tie.Need-open-within-requires
 open-within-requires c κs =
     let p = c .before .before .before .before .before .before .before .before .before .before .pre in
-        (c .before .before .before .limits-of .ensures .1, p .0, p .1)
+    (c .before .before .before .limits-of .ensures .1, p .0, p .1)
 
 same-length : tie.Need-same-length
 same-length c = search needs

@@ -16,7 +16,7 @@ fill-ports-requires c κs =
 sound-requires : tie.Need-sound-requires
 sound-requires c κs =
     rows-fit-in (c .before .before .before .before .before .before .before .before .before .pre .0)
-        (c .before .before .before .fill-ports .ensures)
+    (c .before .before .before .fill-ports .ensures)
 
 of-state-requires : tie.Need-of-state-requires
 of-state-requires c κs = search needs

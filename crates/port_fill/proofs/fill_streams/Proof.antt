@@ -41,8 +41,10 @@ strand-of-requires c κs =
     )
 
 elements-in-requires : tie.Need-elements-in-requires Inv-loop μ-loop
-elements-in-requires c κs = (c .before .before .before .before .before .before .before .before .pre .0 .described .few,
-    c .before .before .before .loop .inv .0)
+elements-in-requires c κs = (
+  c .before .before .before .before .before .before .before .before .pre .0 .described .few,
+  c .before .before .before .loop .inv .0,
+)
 
 -- stream i is one of six
 stream-lt : (c : tie.After-elements-in Inv-loop μ-loop) → c .before .before .before .before .loop .i < 6
@@ -71,8 +73,12 @@ part-fill-stream-start : tie.Need-part-fill-stream-start Inv-loop μ-loop
 part-fill-stream-start c = search needs
 
 part-fill-stream-end : tie.Need-part-fill-stream-end Inv-loop μ-loop
-part-fill-stream-end c = omega (arith, stream-lt c, c .before .before .before .before .before .before .before .before .before .pre .1
-    .words)
+part-fill-stream-end c = omega (
+  arith,
+  stream-lt c,
+  c .before .before .before .before .before .before .before .before .before .pre .1
+      .words,
+)
 
 fill-stream-requires : tie.Need-fill-stream-requires Inv-loop μ-loop
 fill-stream-requires c κs =

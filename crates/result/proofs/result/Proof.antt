@@ -28,7 +28,7 @@ result-opened-requires : tie.Need-result-opened-requires
 result-opened-requires c κs =
     let z = c .before .before .before .before .before .before .if1 .taken in
     let e = c .before .before .before .before .before .before .before .before .before .open-with-lanes .ensures in
-        (drawable (e .0 .opened z), e .0 .spans z, omega arith, e .1 z)
+    (drawable (e .0 .opened z), e .0 .spans z, omega arith, e .1 z)
 
 same-length : tie.Need-same-length
 same-length c = search needs

@@ -17,7 +17,7 @@ of-result-requires c κs = search needs
 description-requires : tie.Need-description-requires
 description-requires c κs =
     accepted-within gaugeLimits _ (c .before .before .before .before .before .before .before .before .before .before .pre .0 .accepted) .0
-        .sized
+    .sized
 
 fill-output-requires : tie.Need-fill-output-requires
 fill-output-requires c κs =
