@@ -57,11 +57,11 @@ use Rattle.port_fill.specs.Strung.{endSpot, endRows, streamRows, StreamF
 -- ---- numbers and lists
 
 -- rows of an earlier stream lie apart
-rows-apart : (p k v r i : ℕ) → k < i → i < 6 → v < 4
-    → (24 * p + 4 * k + v < 24 * r + 4 * i) ⊎ (24 * r + 4 * i + 4 ≤ 24 * p + 4 * k + v)
+rows-apart : (p k v r i : ℕ) → k < i → i < 6 → v < 5
+    → (30 * p + 5 * k + v < 30 * r + 5 * i) ⊎ (30 * r + 5 * i + 5 ≤ 30 * p + 5 * k + v)
 rows-apart p k v r i l hi hv = go (decLe p r)
   where
-    go : Dec (p ≤ r) → (24 * p + 4 * k + v < 24 * r + 4 * i) ⊎ (24 * r + 4 * i + 4 ≤ 24 * p + 4 * k + v)
+    go : Dec (p ≤ r) → (30 * p + 5 * k + v < 30 * r + 5 * i) ⊎ (30 * r + 5 * i + 5 ≤ 30 * p + 5 * k + v)
     go (yes h) = inl (omega arith)
     go (no h) = inr (omega arith)
 
@@ -215,25 +215,25 @@ module _ (d : Description) (h : Described d) where
     sharing = h .streams i hi
 
     -- the rows of processes lie below those of pipes
-    low-stays : (a : ℕ) → a < 24576 → getD ys a 0 ≡ getD xs a 0
+    low-stays : (a : ℕ) → a < 30720 → getD ys a 0 ≡ getD xs a 0
     low-stays a k = marks-other (onEnd nest s) (endLine nest s g first) (endSpot nest s b) 3 P a xs (λ p _ _. inl (omega arith))
 
-    high-stays : (a : ℕ) → 24576 ≤ a → getD zs a 0 ≡ getD ys a 0
-    high-stays a k = marks-other always (portLine nest s g) (portPlace i) 4 P a ys (λ r m _. inr (omega (arith, h .processes, below)))
+    high-stays : (a : ℕ) → 30720 ≤ a → getD zs a 0 ≡ getD ys a 0
+    high-stays a k = marks-other always (portLine nest s g) (portPlace i) 5 P a ys (λ r m _. inr (omega (arith, h .processes, below)))
 
-    word-stays : (p k v : ℕ) → p < P → k < i → v < 4 → getD zs (24 * p + 4 * k + v) 0 ≡ getD xs (24 * p + 4 * k + v) 0
+    word-stays : (p k v : ℕ) → p < P → k < i → v < 5 → getD zs (30 * p + 5 * k + v) 0 ≡ getD xs (30 * p + 5 * k + v) 0
     word-stays p k v hp m hv =
-        marks-other always (portLine nest s g) (portPlace i) 4 P (24 * p + 4 * k + v) ys (λ r _ _. rows-apart p k v r i m below hv)
-        ∙ low-stays (24 * p + 4 * k + v) (omega (arith, h .processes, below))
+        marks-other always (portLine nest s g) (portPlace i) 5 P (30 * p + 5 * k + v) ys (λ r _ _. rows-apart p k v r i m below hv)
+        ∙ low-stays (30 * p + 5 * k + v) (omega (arith, h .processes, below))
 
     ends-words : length ys ≡ portTableWords
     ends-words = marks-length (onEnd nest s) (endLine nest s g first) (endSpot nest s b) 3 P xs ∙ done .words
 
     own-port : (p : ℕ) → p < P → portAt zs p i ≡ rowOf A p i
     own-port p hp =
-        read-port zs (24 * p + 4 * i) (rowFrom nest s g p) (row-wide w (sharing .laid) hp (sharing .elements))
+        read-port zs (30 * p + 5 * i) (rowFrom nest s g p) (row-wide w (sharing .laid) hp (sharing .elements))
         (λ v hv.
-        marks-at always (portLine nest s g) (portPlace i) 4 P p v ys hp refl hv (omega (arith, ends-words, h .processes, below))
+        marks-at always (portLine nest s g) (portPlace i) 5 P p v ys hp refl hv (omega (arith, ends-words, h .processes, below))
         (λ r k _ _. inl (omega arith)))
         ∙ row-is laid sg p hp
 
@@ -242,7 +242,7 @@ module _ (d : Description) (h : Described d) where
       where
         go : (k ≡ i) ⊎ (k < i) → portAt zs p k ≡ rowOf A p k
         go (inl e) = subst (λ (k : ℕ). portAt zs p k ≡ rowOf A p k) (sym e) (own-port p hp)
-        go (inr m) = port-stays zs xs (24 * p + 4 * k) (λ v. word-stays p k v hp m) ∙ done .ports p k hp m
+        go (inr m) = port-stays zs xs (30 * p + 5 * k) (λ v. word-stays p k v hp m) ∙ done .ports p k hp m
 
     -- more pipes enter before a later process
     up : (p r : ℕ) → p ≤ r → r ≤ P → enteredAt nest s p ≤ enteredAt nest s r
@@ -277,9 +277,9 @@ module _ (d : Description) (h : Described d) where
         omega (arith, start-most (sharing .laid .accepted) (sharing .elements) first p, first-most i l) in
         let wide : EndWide row = end-wide w (sharing .laid) lt (sharing .elements) (startAt nest s first p) c early few in
         ap (λ (c : ℕ). endAt zs (b + c)) (sym count)
-        ∙ read-end zs (24576 + 3 * (b + c)) row wide
+        ∙ read-end zs (30720 + 3 * (b + c)) row wide
         (λ v hv.
-        high-stays (24576 + 3 * (b + c) + v) (omega arith)
+        high-stays (30720 + 3 * (b + c) + v) (omega arith)
         ∙ marks-at (onEnd nest s) (endLine nest s g first) (endSpot nest s b) 3 P p v xs lt on hv
         (omega (arith, done .words, base-most i l, entered-few nest s p, h .processes))
         (λ r m k _. inl (omega (arith, up (suc p) r m (omega arith), entered-next nest s p lt 1 (one-yes nest s p on)))))
@@ -290,10 +290,10 @@ module _ (d : Description) (h : Described d) where
       where
         go : Dec (suc q ≤ b) → endAt zs q ≡ endOf A q
         go (yes k) =
-            end-stays zs xs (24576 + 3 * q)
+            end-stays zs xs (30720 + 3 * q)
             (λ v hv.
-            high-stays (24576 + 3 * q + v) (omega arith)
-            ∙ marks-other (onEnd nest s) (endLine nest s g first) (endSpot nest s b) 3 P (24576 + 3 * q + v) xs
+            high-stays (30720 + 3 * q + v) (omega arith)
+            ∙ marks-other (onEnd nest s) (endLine nest s g first) (endSpot nest s b) 3 P (30720 + 3 * q + v) xs
             (λ p _ _. inl (omega arith)))
             ∙ done .ends q k
         go (no k) =
@@ -303,7 +303,7 @@ module _ (d : Description) (h : Described d) where
     stream-filled : Filled d (suc i) zs
     stream-filled =
         record {
-          words = marks-length always (portLine nest s g) (portPlace i) 4 P ys ∙ ends-words;
+          words = marks-length always (portLine nest s g) (portPlace i) 5 P ys ∙ ends-words;
           ports = ports-next;
           ends = ends-next;
         }

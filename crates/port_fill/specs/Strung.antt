@@ -62,23 +62,23 @@ abbrev pub always : ℕ → Bool
 always p = true
 
 abbrev pub portPlace : ℕ → ℕ → ℕ
-portPlace i p = 24 * p + 4 * i
+portPlace i p = 30 * p + 5 * i
 
 abbrev pub portLine : Nest → Stream → Strand → ℕ → List ℕ
 portLine n s g p = portWords (rowFrom n s g p)
 
 abbrev pub portRow : Nest → Stream → Strand → ℕ → ℕ → List ℕ → List ℕ
-portRow n s g i p l = mark always (portLine n s g) (portPlace i) 4 p l
+portRow n s g i p l = mark always (portLine n s g) (portPlace i) 5 p l
 
 abbrev pub portRows : Nest → Stream → Strand → ℕ → ℕ → List ℕ → List ℕ
-portRows n s g i k l = marks always (portLine n s g) (portPlace i) 4 k l
+portRows n s g i k l = marks always (portLine n s g) (portPlace i) 5 k l
 
 -- the row of the pipe that enters at a process
 abbrev pub onEnd : Nest → Stream → ℕ → Bool
 onEnd n s p = entering n s (processOf n p)
 
 abbrev pub endPlace : ℕ → ℕ → ℕ
-endPlace base j = 24576 + 3 * (base + j)
+endPlace base j = 30720 + 3 * (base + j)
 
 abbrev pub endRow : Nest → Stream → Strand → ℕ → ℕ → ℕ → ℕ → List ℕ → List ℕ
 endRow n s g start base j p l = cond (onEnd n s p) (stored (endWords (endFrom n s g start j p)) (endPlace base j) 3 l) l
@@ -199,8 +199,8 @@ module _ {f : Flow} {g : Strand} {total start base j p : ℕ} (h : EndFillable f
 -- ---- one row
 
 pub port-put : (n : Nest) (s : Stream) (g : Strand) (i p : ℕ) (l : List ℕ) {r : Port} → r ≡ rowFrom n s g p → {out : List ℕ}
-    → out ≡ stored (portWords r) (portPlace i p) 4 l → out ≡ portRow n s g i p l
-port-put n s g i p l er eo = eo ∙ ap (λ (r : Port). stored (portWords r) (portPlace i p) 4 l) er
+    → out ≡ stored (portWords r) (portPlace i p) 5 l → out ≡ portRow n s g i p l
+port-put n s g i p l er eo = eo ∙ ap (λ (r : Port). stored (portWords r) (portPlace i p) 5 l) er
 
 module _ (n : Nest) (s : Stream) (g : Strand) (start base j p : ℕ) (l : List ℕ) where
   abbrev ended : List ℕ
@@ -217,10 +217,10 @@ module _ (n : Nest) (s : Stream) (g : Strand) (start base j p : ℕ) (l : List �
 
 module _ (n : Nest) (s : Stream) (g : Strand) (i p : ℕ) (l : List ℕ) {x : List ℕ} (e : x ≡ portRows n s g i p l) where
   pub ports-length : length x ≡ length l
-  ports-length = ap length e ∙ marks-length always (portLine n s g) (portPlace i) 4 p l
+  ports-length = ap length e ∙ marks-length always (portLine n s g) (portPlace i) 5 p l
 
   pub ports-turn : {out : List ℕ} → out ≡ portRow n s g i p x → out ≡ portRows n s g i (p + 1) l
-  ports-turn o = o ∙ ap (portRow n s g i p) e ∙ sym (marks-step always (portLine n s g) (portPlace i) 4 p l)
+  ports-turn o = o ∙ ap (portRow n s g i p) e ∙ sym (marks-step always (portLine n s g) (portPlace i) 5 p l)
 
 module _ (n : Nest) (s : Stream) (g : Strand) (first base p : ℕ) (l : List ℕ) {x : List ℕ} (e : x ≡ endRows n s g first base p l) where
   pub ends-length : length x ≡ length l

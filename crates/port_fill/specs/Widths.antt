@@ -118,8 +118,7 @@ module _ {g : Strand} (w : Narrow g) {n : Nest} {s : Stream} (h : Laid n s) {p :
         before = wide (before-low sent own-low);
         after = wide (after-low sent own-low);
         room = wide (room-low sent own-low);
-        fired = omega arith;
-        near = omega (arith, w .offset);
+        fired = wide (omega (arith, port-low p lt));
         hop = omega (arith, w .hop);
         soak = omega (arith, soak-low);
         count = omega (arith, count-low);
@@ -133,8 +132,7 @@ module _ {g : Strand} (w : Narrow g) {n : Nest} {s : Stream} (h : Laid n s) {p :
         before = wide (omega (arith, port-low p lt));
         after = wide (omega (arith, port-low p lt));
         room = wide (omega (arith, port-low p lt));
-        fired = omega arith;
-        near = omega (arith, w .offset);
+        fired = wide (omega (arith, port-low p lt));
         hop = omega arith;
         soak = omega arith;
         count = omega (arith, count-low);

@@ -1,4 +1,4 @@
--- Two numbers in a word, three in the high one; the words of rows; the port table of an array.
+-- Two numbers in a word; the words of rows; the port table of an array.
 pub mod Pack
 pub mod Rows
 pub mod PortsOf

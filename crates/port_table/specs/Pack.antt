@@ -1,4 +1,4 @@
--- Two numbers in a word, three in the high one, and each read off it. Assumes nothing.
+-- Two numbers in a word, and each read off it. Assumes nothing.
 use mathlib.Core.Path.{_≡_}
 use Prim.Native.Nat.{ℕ, _+_, _*_, _/_, _%_, _<_}
 use native.Mathlib.Omega.{arith}
@@ -24,25 +24,3 @@ low-pack a b h = omega arith
 
 pub high-pack : (a b : ℕ) → a < lowEnd → high (pack a b) ≡ b
 high-pack a b h = omega arith
-
--- three numbers in one: the first is below 8, the second below 2
-abbrev pub pack3 : ℕ → ℕ → ℕ → ℕ
-pack3 a b c = a + 8 * b + 16 * c
-
-abbrev pub first : ℕ → ℕ
-first w = w % 8
-
-abbrev pub second : ℕ → ℕ
-second w = w / 8 % 2
-
-abbrev pub third : ℕ → ℕ
-third w = w / 16
-
-pub first-pack : (a b c : ℕ) → a < 8 → first (pack3 a b c) ≡ a
-first-pack a b c h = omega arith
-
-pub second-pack : (a b c : ℕ) → a < 8 → b < 2 → second (pack3 a b c) ≡ b
-second-pack a b c h k = omega arith
-
-pub third-pack : (a b c : ℕ) → a < 8 → b < 2 → third (pack3 a b c) ≡ c
-third-pack a b c h k = omega arith

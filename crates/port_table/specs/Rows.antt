@@ -1,8 +1,8 @@
 -- The words of rows, and rows read off words: what is read is what was written. Assumes nothing.
-use mathlib.Core.Path.{_≡_, refl, sym, _∙_, ap, ap₂}
+use mathlib.Core.Path.{_≡_, refl, sym, _∙_, ap}
 use mathlib.Core.Bool.{Bool, true, false, not, cond}
 use mathlib.Core.List.{List, [], _∷_}
-use Prim.Native.Nat.{ℕ, _+_, _-_, _≤_, _<_}
+use Prim.Native.Nat.{ℕ, _+_, _<_}
 use native.Mathlib.Nat.{add-zero}
 use native.Mathlib.Omega.{arith}
 use lib.Dec.{eqb}
@@ -12,17 +12,15 @@ use Rattle.ports.specs.declared.End.{End}
 use Rattle.ports.specs.Ports.{same-port}
 use Rattle.ports.specs.Ends.{same-end}
 use Rattle.port_table.specs.Pack.{lowEnd, highEnd, pack, low, high, low-pack, high-pack}
-use Rattle.port_table.specs.Pack.{pack3, first, second, third, first-pack, second-pack, third-pack}
 
--- numbers that fit their parts of a word; a process's firings stand shortly before its ports
+-- numbers that fit their parts of a word
 pub record PortWide (k : Port) : Type 0 where
   pub at : k .at < lowEnd
   pub before : k .before < lowEnd
   pub after : k .after < lowEnd
   pub room : k .room < lowEnd
-  pub fired : k .fired ≤ k .at
-  pub near : k .at < k .fired + 64
-  pub hop : k .hop < 8
+  pub fired : k .fired < lowEnd
+  pub hop : k .hop < highEnd
   pub soak : k .soak < highEnd
   pub count : k .count < highEnd
   pub total : k .total < highEnd
@@ -39,39 +37,33 @@ pub record EndWide (e : End) : Type 0 where
   pub total : e .total < highEnd
   pub offset : e .offset < highEnd
 
--- the high number of a port's last word
-abbrev pub portRest : Port → ℕ
-portRest k = pack3 (k .hop) (cond (k .keeps) 1 0) (k .at - k .fired)
-
 abbrev pub portWords : Port → List ℕ
 portWords k =
-    pack (k .at) (k .soak) ∷ pack (k .before) (k .count) ∷ pack (k .after) (k .total) ∷ pack (k .room) (portRest k) ∷ []
+    pack (k .at) (k .soak) ∷ pack (k .before) (k .count) ∷ pack (k .after) (k .total) ∷ pack (k .room) (k .hop)
+    ∷ pack (k .fired) (cond (k .keeps) 1 0) ∷ []
 
 abbrev pub endWords : End → List ℕ
 endWords e = pack (e .sent) (e .offset) ∷ pack (e .after) (e .total) ∷ pack (e .before) (e .hop) ∷ []
 
--- its numbers fit
-flag-low : (b : Bool) → cond b 1 0 < 2
-flag-low true = omega arith
-flag-low false = omega arith
+-- 0 and 1 fit
+pub flag-low : (b : Bool) {w : ℕ} → w ≡ cond b 1 0 → w < highEnd
+flag-low true e = omega (arith, e)
+flag-low false e = omega (arith, e)
 
-pub rest-low : (k : Port) → PortWide k → portRest k < highEnd
-rest-low k w = omega (arith, w .fired, w .near, w .hop, flag-low (k .keeps))
-
--- the row of four words, and of three
-abbrev pub portUnpacked : ℕ → ℕ → ℕ → ℕ → Port
-portUnpacked a b c d =
+-- the row of five words, and of three
+abbrev pub portUnpacked : ℕ → ℕ → ℕ → ℕ → ℕ → Port
+portUnpacked a b c d e =
     record {
       at = low a;
       before = low b;
       after = low c;
       room = low d;
-      fired = low a - third (high d);
-      hop = first (high d);
+      fired = low e;
+      hop = high d;
       soak = high a;
       count = high b;
       total = high c;
-      keeps = not (eqb (second (high d)) 0);
+      keeps = not (eqb (high e) 0);
     }
 
 abbrev pub endUnpacked : ℕ → ℕ → ℕ → End
@@ -90,7 +82,7 @@ endUnpacked a b c =
 
 -- the rows that stand from a place on
 abbrev pub portRead : List ℕ → ℕ → Port
-portRead l at = portUnpacked (getD l at 0) (getD l (at + 1) 0) (getD l (at + 2) 0) (getD l (at + 3) 0)
+portRead l at = portUnpacked (getD l at 0) (getD l (at + 1) 0) (getD l (at + 2) 0) (getD l (at + 3) 0) (getD l (at + 4) 0)
 
 abbrev pub endRead : List ℕ → ℕ → End
 endRead l at = endUnpacked (getD l at 0) (getD l (at + 1) 0) (getD l (at + 2) 0)
@@ -98,33 +90,24 @@ endRead l at = endUnpacked (getD l at 0) (getD l (at + 1) 0) (getD l (at + 2) 0)
 -- ---- rows written and read
 
 module _ (l : List ℕ) (at : ℕ) where
-  pub port-words : (f : ℕ → ℕ) → ((v : ℕ) → v < 4 → getD l (at + v) 0 ≡ f v) → portRead l at ≡ portUnpacked (f 0) (f 1) (f 2) (f 3)
+  pub port-words : (f : ℕ → ℕ) → ((v : ℕ) → v < 5 → getD l (at + v) 0 ≡ f v) → portRead l at ≡ portUnpacked (f 0) (f 1) (f 2) (f 3) (f 4)
   port-words f h =
       let e = ap (λ (x : ℕ). getD l x 0) (sym (add-zero at)) ∙ h 0 (omega arith) in
-      λ i. portUnpacked (e i) (h 1 (omega arith) i) (h 2 (omega arith) i) (h 3 (omega arith) i)
+      λ i. portUnpacked (e i) (h 1 (omega arith) i) (h 2 (omega arith) i) (h 3 (omega arith) i) (h 4 (omega arith) i)
 
   pub end-words : (f : ℕ → ℕ) → ((v : ℕ) → v < 3 → getD l (at + v) 0 ≡ f v) → endRead l at ≡ endUnpacked (f 0) (f 1) (f 2)
   end-words f h =
       let e = ap (λ (x : ℕ). getD l x 0) (sym (add-zero at)) ∙ h 0 (omega arith) in
       λ i. endUnpacked (e i) (h 1 (omega arith) i) (h 2 (omega arith) i)
 
-  pub read-port : (k : Port) → PortWide k → ((v : ℕ) → v < 4 → getD l (at + v) 0 ≡ getD (portWords k) v 0) → portRead l at ≡ k
+  pub read-port : (k : Port) → PortWide k → ((v : ℕ) → v < 5 → getD l (at + v) 0 ≡ getD (portWords k) v 0) → portRead l at ≡ k
   read-port k w h =
-      let keeps : ℕ = cond (k .keeps) 1 0 in
-      let at = low-pack (k .at) (k .soak) (w .at) in
-      let rest = high-pack (k .room) (portRest k) (w .room) in
-      let back = ap third rest ∙ third-pack (k .hop) keeps (k .at - k .fired) (w .hop) (flag-low (k .keeps)) in
       port-words (λ v. getD (portWords k) v 0) h
-      ∙ same-port at (low-pack (k .before) (k .count) (w .before)) (low-pack (k .after) (k .total) (w .after))
-      (low-pack (k .room) (portRest k) (w .room)) (ap₂ _-_ at back ∙ returned (w .fired))
-      (ap first rest ∙ first-pack (k .hop) keeps (k .at - k .fired) (w .hop)) (high-pack (k .at) (k .soak) (w .at))
-      (high-pack (k .before) (k .count) (w .before)) (high-pack (k .after) (k .total) (w .after))
-      (ap (λ (x : ℕ). not (eqb (second x) 0)) rest
-      ∙ ap (λ (x : ℕ). not (eqb x 0)) (second-pack (k .hop) keeps (k .at - k .fired) (w .hop) (flag-low (k .keeps))) ∙ truth (k .keeps))
+      ∙ same-port (low-pack (k .at) (k .soak) (w .at)) (low-pack (k .before) (k .count) (w .before))
+      (low-pack (k .after) (k .total) (w .after)) (low-pack (k .room) (k .hop) (w .room)) (low-pack (k .fired) _ (w .fired))
+      (high-pack (k .room) (k .hop) (w .room)) (high-pack (k .at) (k .soak) (w .at)) (high-pack (k .before) (k .count) (w .before))
+      (high-pack (k .after) (k .total) (w .after)) (ap (λ (x : ℕ). not (eqb x 0)) (high-pack (k .fired) _ (w .fired)) ∙ truth (k .keeps))
     where
-      returned : {a b : ℕ} → b ≤ a → a - (a - b) ≡ b
-      returned h = omega arith
-
       truth : (b : Bool) → not (eqb (cond b 1 0) 0) ≡ b
       truth true = refl
       truth false = refl
@@ -139,7 +122,7 @@ module _ (l : List ℕ) (at : ℕ) where
       (high-pack (e .before) (e .hop) (w .before)) (high-pack (e .after) (e .total) (w .after)) (high-pack (e .sent) (e .offset) (w .sent))
 
 -- a row stays where its words do
-pub port-stays : (l m : List ℕ) (at : ℕ) → ((v : ℕ) → v < 4 → getD l (at + v) 0 ≡ getD m (at + v) 0) → portRead l at ≡ portRead m at
+pub port-stays : (l m : List ℕ) (at : ℕ) → ((v : ℕ) → v < 5 → getD l (at + v) 0 ≡ getD m (at + v) 0) → portRead l at ≡ portRead m at
 port-stays l m at h = port-words l at (λ v. getD m (at + v) 0) h ∙ sym (port-words m at (λ v. getD m (at + v) 0) (λ v _. refl))
 
 pub end-stays : (l m : List ℕ) (at : ℕ) → ((v : ℕ) → v < 3 → getD l (at + v) 0 ≡ getD m (at + v) 0) → endRead l at ≡ endRead m at

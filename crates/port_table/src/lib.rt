@@ -1,18 +1,18 @@
 // The port table: the rows of all ports and of all pipes' ends as words of one lent list, written once and read by number. Port (p, i) has
-// the four words from 24 p + 4 i on, pipe q the three from 24,576 + 3 q on: each word has two of a row's numbers, a port's last one four.
+// the five words from 30 p + 5 i on, pipe q the three from 30,720 + 3 q on: each word has two of a row's numbers.
 //
 // specs/, by file:
 //
-//   Pack      two numbers in a word, three in the high one
+//   Pack      two numbers in a word
 //   Rows      the words of rows, and rows read off them
 //   PortsOf   the port table of an array; port tables whose rows' words lie in a state
 ghost use mathlib.Core.Path.{_≡_};
-ghost use Prim.Native.Nat.{_+_, _-_, _≤_, _<_};
+ghost use Prim.Native.Nat.{_+_, _≤_, _<_};
 ghost use lib.ListN.{length, getD};
 ghost use Rattle.meaning.specs.Limits.{gaugeLimits, pipesMost};
 ghost use Rattle.words.specs.Stored.{stored};
 ghost use Rattle.port_table.specs.Pack.{lowEnd, highEnd, pack, low, high};
-ghost use Rattle.port_table.specs.Rows.{PortWide, EndWide, portRest, portWords, endWords, portRead, endRead};
+ghost use Rattle.port_table.specs.Rows.{PortWide, EndWide, portWords, endWords, portRead, endRead};
 ghost use Rattle.port_table.specs.PortsOf.{portAt, endAt, portsAt, portTableWords};
 use meaning::PIPES;
 use meaning::PROCESSES;
@@ -21,7 +21,7 @@ use ports::End;
 use ports::Port;
 
 // The words of a port, of a process and of a pipe's ends; where those of the pipes begin, and the words of all.
-pub const PORT: usize = 4;
+pub const PORT: usize = 5;
 
 pub const PROCESS: usize = STREAMS * PORT;
 
@@ -33,12 +33,6 @@ pub const PORTS: usize = PIPE_ROWS + PIPES * END;
 
 // What the high number of a word counts for.
 const HIGH: usize = 131072;
-
-// In the high number of a port's last word, above its hop: what it counts for that the process keeps an element, and each word from `fired`
-// to `at`.
-const KEEPS: usize = 8;
-
-const BACK: usize = 16;
 
 // How many processes, streams and pipes there are.
 pub struct Size {
@@ -70,14 +64,6 @@ fn high(ports: &[u32], i: usize) -> usize
     ports::word(ports, i) / HIGH
 }
 
-// The high number of a port's last word: `fired` is never far before `at`.
-fn port_rest(k: Port) -> usize
-    requires { ⌜ PortWide k ⌝ }
-    ensures { λ r. ⌜ r ≡ portRest k ⌝ }
-{
-    k.hop + KEEPS * words::flag(k.keeps) as usize + BACK * (k.at - k.fired)
-}
-
 // The words of a port's row.
 fn port_words(k: Port) -> [u32; PORT]
     requires { ⌜ PortWide k ⌝ }
@@ -87,7 +73,8 @@ fn port_words(k: Port) -> [u32; PORT]
         pack(k.at, k.soak),
         pack(k.before, k.count),
         pack(k.after, k.total),
-        pack(k.room, port_rest(k)),
+        pack(k.room, k.hop),
+        pack(k.fired, words::flag(k.keeps) as usize),
     ]
 }
 
@@ -105,8 +92,8 @@ fn end_words(e: End) -> [u32; END]
 
 // The row of a port goes to place `at`.
 pub fn put_port(ports: &mut [u32], at: usize, k: Port)
-    requires { ⌜ (at + 4 ≤ length (now ports)) × (PortWide k) ⌝ }
-    ensures { λ r. ⌜ now (ports .exit) ≡ stored (portWords k) at 4 (now (ports .entry)) ⌝ }
+    requires { ⌜ (at + 5 ≤ length (now ports)) × (PortWide k) ⌝ }
+    ensures { λ r. ⌜ now (ports .exit) ≡ stored (portWords k) at 5 (now (ports .entry)) ⌝ }
 {
     let row = port_words(k);
     words::store(ports, at, &row);
@@ -121,31 +108,22 @@ pub fn put_end(ports: &mut [u32], at: usize, e: End)
     words::store(ports, at, &row);
 }
 
-// The index so far back, or 0 where there is none: a row always has one, but any list is read.
-fn back_from(at: usize, back: usize) -> usize
-    ensures { λ r. ⌜ r ≡ at - back ⌝ }
-{
-    if back < at { at - back } else { 0 }
-}
-
 // The port's row at place `at`.
 fn port_read(ports: &[u32], at: usize) -> Port
-    requires { ⌜ (at + 4 ≤ length (now ports)) × (length (now ports) ≤ 4294967296) ⌝ }
+    requires { ⌜ (at + 5 ≤ length (now ports)) × (length (now ports) ≤ 4294967296) ⌝ }
     ensures { λ r. ⌜ r ≡ portRead (now (ports .entry)) at ⌝ }
 {
-    let taken = low(ports, at);
-    let rest = high(ports, at + 3);
     Port {
-        at: taken,
+        at: low(ports, at),
         before: low(ports, at + 1),
         after: low(ports, at + 2),
         room: low(ports, at + 3),
-        fired: back_from(taken, rest / BACK),
-        hop: rest % KEEPS,
+        fired: low(ports, at + 4),
+        hop: high(ports, at + 3),
         soak: high(ports, at),
         count: high(ports, at + 1),
         total: high(ports, at + 2),
-        keeps: rest / KEEPS % 2 != 0,
+        keeps: high(ports, at + 4) != 0,
     }
 }
 

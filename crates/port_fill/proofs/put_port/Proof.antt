@@ -1,4 +1,4 @@
--- `port_fill::put_port` meets its contract: p is below 1,024 and i below 6, so that its four words lie in the table, and each number of the
+-- `port_fill::put_port` meets its contract: p is below 1,024 and i below 6, so that its five words lie in the table, and each number of the
 -- row fits its part of a word. Assumes nothing.
 use borrow.Author.Needs.{needs}
 use mathlib.Core.Path.{sym, subst}
