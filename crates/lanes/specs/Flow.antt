@@ -175,3 +175,17 @@ module _ {f : Flow} (h : Flows f) where
       entry-number e =
           let e' = e ∙ ap (λ (k : Box). rowIndex k z) (h .space-is) in
           (e' ∙ ap (rowIndex (space (f .nest))) entry-eq, omega (arith, e', row-lt (space (f .nest)) z entry-inside))
+
+-- a flow of its nest, as filling the lanes is lent it
+pub fillable : {f : Flow} {n : Nest} {count : ℕ} {spans lanes : List ℕ} → Flows f → f .nest ≡ n → count ≡ length (points (boxed (f .space)))
+    → Spans n spans → 3072 ≤ length spans → length lanes ≡ 4096 → ((i : ℕ) → i < 4096 → getD lanes i 0 ≡ 0)
+    → Fillable f count spans lanes
+fillable {f} {n} {count} {spans} h e c of long words zeros =
+    record {
+      flows = h;
+      counted = counted-is h c;
+      of-spans = subst (λ (n : Nest). Spans n spans) (sym e) of;
+      long = long;
+      words = words;
+      zeros = zeros;
+    }

@@ -2,10 +2,7 @@
 -- elements. Assumes nothing.
 use borrow.Author.Needs.{needs}
 use mathlib.Core.Path.{refl, sym, _∙_, subst, subst₂}
-use denote.Ref.{now}
-use Rattle.meaning.specs.declared.Nest.{Nest}
-use Rattle.layout.specs.Spans.{Spans}
-use Rattle.lanes.specs.Flow.{spanning, counted-is}
+use Rattle.lanes.specs.Flow.{spanning, counted-is, fillable}
 use Rattle.lanes.specs.All.{lanes-of}
 use Rattle.figures.specs.Sums.{Under}
 use Rattle.figures.specs.Shares.{Small, share-is, share-small, sharing-under}
@@ -20,16 +17,9 @@ size-of-requires c κs = spanning (c .before .flow-of .ensures .2)
 
 fill-lanes-requires : tie.Need-fill-lanes-requires
 fill-lanes-requires c κs =
-    let s = c .before .before .before .before .before .before in
-    let f = c .before .before .before .flow-of in
-    record {
-      flows = f .ensures .2;
-      counted = counted-is (f .ensures .2) (c .before .size-of .ensures .0);
-      of-spans = subst (λ (n : Nest). Spans n (now (s .args .spans))) (sym (f .ensures .0)) (s .pre .1);
-      long = s .pre .2;
-      words = s .pre .3;
-      zeros = s .pre .4;
-    }
+    let p = c .before .before .before .before .before .before .pre in
+    let f = c .before .before .before .flow-of .ensures in
+    fillable (f .2) (f .0) (c .before .size-of .ensures .0) (p .1) (p .2) (p .3) (p .4)
 
 sums-of-requires : tie.Need-sums-of-requires
 sums-of-requires c κs =

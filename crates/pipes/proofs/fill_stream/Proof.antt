@@ -1,15 +1,14 @@
 -- `pipes::fill_stream` meets its contract: soaks and drains are two parts of 1,024 words, and filling the second leaves the first as it
 -- was. Assumes nothing.
 use borrow.Author.Needs.{needs}
-use mathlib.Core.Path.{refl, sym, _∙_, ap, subst}
+use mathlib.Core.Path.{refl, _∙_, ap}
 use native.Mathlib.Omega.{arith}
 use lib.ListN.{length}
 use denote.Ref.{now}
 use Rattle.meaning.specs.declared.Nest.{Nest}
 use Rattle.meaning.specs.Space.{processes}
 use Rattle.lists.specs.Stores.{replicated}
-use Rattle.layout.specs.Spans.{Spans}
-use Rattle.lanes.specs.Flow.{spanning, counted-is}
+use Rattle.lanes.specs.Flow.{spanning, counted-is, fillable}
 use Rattle.pipes.specs.Passed.{passed, first-room, second-room}
 use Rattle.pipes.proofs.fill_stream.Statement.{statement}
 use Rattle.pipes.proofs.fill_stream.Tie as tie
@@ -25,16 +24,9 @@ slice-aggregate-fill-lanes c = search needs
 
 fill-lanes-requires : tie.Need-fill-lanes-requires
 fill-lanes-requires c κs =
-    let s = c .before .before .before .before .before .before in
-    let f = c .before .before .before .flow-of in
-    record {
-      flows = f .ensures .2;
-      counted = counted-is (f .ensures .2) (c .before .size-of .ensures .0);
-      of-spans = subst (λ (n : Nest). Spans n (now (s .args .spans))) (sym (f .ensures .0)) (s .pre .1);
-      long = s .pre .2;
-      words = refl;
-      zeros = λ i l. replicated 0 4096 i;
-    }
+    let p = c .before .before .before .before .before .before .pre in
+    let f = c .before .before .before .flow-of .ensures in
+    fillable (f .2) (f .0) (c .before .size-of .ensures .0) (p .1) (p .2) refl (λ i l. replicated 0 4096 i)
 
 slice-aggregate-fill-soaks : tie.Need-slice-aggregate-fill-soaks
 slice-aggregate-fill-soaks c = search needs

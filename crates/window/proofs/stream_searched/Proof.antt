@@ -1,13 +1,11 @@
 -- `window::stream_searched` meets its contract: the flow is that of the nest and the stream, and the lanes are filled for as many processes
 -- as its space has. Assumes nothing.
 use borrow.Author.Needs.{needs}
-use mathlib.Core.Path.{refl, sym, _∙_, ap₂, subst}
-use denote.Ref.{now}
+use mathlib.Core.Path.{refl, _∙_, ap₂}
 use Rattle.meaning.specs.declared.Nest.{Nest}
 use Rattle.meaning.specs.declared.Stream.{Stream}
 use Rattle.lists.specs.Stores.{replicated}
-use Rattle.layout.specs.Spans.{Spans}
-use Rattle.lanes.specs.Flow.{spanning, counted-is}
+use Rattle.lanes.specs.Flow.{spanning, counted-is, fillable}
 use Rattle.window.specs.Search.{searched as results, streamLengths}
 use Rattle.window.proofs.stream_searched.Statement.{statement}
 use Rattle.window.proofs.stream_searched.Tie as tie
@@ -23,16 +21,9 @@ slice-aggregate-fill-lanes c = search needs
 
 fill-lanes-requires : tie.Need-fill-lanes-requires
 fill-lanes-requires c κs =
-    let s = c .before .before .before .before .before in
-    let f = c .before .before .before .flow-of in
-    record {
-      flows = f .ensures .2;
-      counted = counted-is (f .ensures .2) (c .before .size-of .ensures .0);
-      of-spans = subst (λ (n : Nest). Spans n (now (s .args .spans))) (sym (f .ensures .0)) (s .pre .1);
-      long = s .pre .2;
-      words = refl;
-      zeros = λ i l. replicated 0 4096 i;
-    }
+    let p = c .before .before .before .before .before .pre in
+    let f = c .before .before .before .flow-of .ensures in
+    fillable (f .2) (f .0) (c .before .size-of .ensures .0) (p .1) (p .2) refl (λ i l. replicated 0 4096 i)
 
 slice-aggregate-searched : tie.Need-slice-aggregate-searched
 slice-aggregate-searched c = search needs
