@@ -23,6 +23,7 @@ use integers::V3;
 use meaning::Description;
 use meaning::LINE_WORDS;
 use meaning::Line;
+use meaning::Nest;
 use meaning::Sizes;
 use meaning::Stream;
 
@@ -100,7 +101,7 @@ fn line_of(s: &[u8], z: Sizes, i: u32) -> Line
 }
 
 // What stands past the streams in use.
-fn no_stream() -> Stream
+pub fn no_stream() -> Stream
     ensures { λ r. ⌜ r ≡ noStream ⌝ }
 {
     let zero = V3 { x: 0, y: 0, z: 0 };
@@ -110,6 +111,21 @@ fn no_stream() -> Stream
             low: zero,
         },
         loading: V2 { a: 0, b: 0 },
+    }
+}
+
+// What stands past the lines in use.
+fn no_line() -> Line
+    ensures { λ r. ⌜ r ≡ noLine ⌝ }
+{
+    Line {
+        operation: 0,
+        target: 0,
+        first: 0,
+        second: 0,
+        index: 0,
+        comparison: 0,
+        bound: 0,
     }
 }
 
@@ -133,15 +149,7 @@ fn lines(s: &[u8], z: Sizes) -> [Line; 8]
     requires { ⌜ Sized z ⌝ }
     ensures { λ r. ⌜ r ≡ filled (bodyLine (now (s .entry)) z) (z .lines) 8 noLine ⌝ }
 {
-    let mut out = [Line {
-        operation: 0,
-        target: 0,
-        first: 0,
-        second: 0,
-        index: 0,
-        comparison: 0,
-        bound: 0,
-    }; 8];
+    let mut out = [no_line(); 8];
     let n = z.lines;
     let mut i: u32 = 0;
     while i < n {
@@ -164,6 +172,34 @@ pub fn description(s: &[u8]) -> Description
         nest: nest(s, z),
         streams: streams(s, z),
         lines: lines(s, z),
+    }
+}
+
+// Loops and a description of zeros, where there is nothing to decode.
+pub fn no_nest() -> Nest {
+    let zero = V3 { x: 0, y: 0, z: 0 };
+    Nest {
+        left: zero,
+        right: zero,
+        direction: zero,
+        step: zero,
+        place: Matrix {
+            top: zero,
+            low: zero,
+        },
+    }
+}
+
+pub fn no_description() -> Description {
+    Description {
+        sizes: Sizes {
+            loops: 0,
+            streams: 0,
+            lines: 0,
+        },
+        nest: no_nest(),
+        streams: [no_stream(); 6],
+        lines: [no_line(); 8],
     }
 }
 

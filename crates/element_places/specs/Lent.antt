@@ -34,7 +34,7 @@ use Rattle.geometry.specs.Moving.{index-is}
 use Rattle.numbering.specs.Extents.{Spanning, boxed, box-spanning}
 use Rattle.counting.specs.Forms.{weigh}
 use Rattle.layout.specs.Spans.{processOf, Spans}
-use Rattle.lanes.specs.declared.Flow.{Flow}
+use Rattle.survey.specs.declared.Flow.{Flow}
 use Rattle.lanes.specs.Flow.{Laid, Flows, Seen}
 use Rattle.pipes.specs.Elements.{At, Near, good, inside, total-none, at-one, one-elements, index-moving}
 use Rattle.figures.specs.Shares.{Described}

@@ -21,7 +21,7 @@ use Rattle.geometry.specs.Wiring.{processAt}
 use Rattle.vectors.specs.Within.{Within2}
 use Rattle.numbering.specs.Extents.{boxed}
 use Rattle.layout.specs.Spans.{processOf, Spans}
-use Rattle.lanes.specs.declared.Flow.{Flow}
+use Rattle.survey.specs.declared.Flow.{Flow}
 use Rattle.lanes.specs.Flow.{Flows, point-is, inside-space, reach-on, point-small}
 use Rattle.pipes.specs.Elements.{At, still-of}
 use Rattle.pipe_parts.specs.Starts.{entering}

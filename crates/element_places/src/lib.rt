@@ -30,7 +30,7 @@ ghost use Rattle.element_places.specs.Walked.{oneOf, ownSaid};
 ghost use Rattle.element_places.specs.Lent.{Placing, Running, Saying, Streaming};
 ghost use Rattle.element_places.specs.Lines.{Lined, Owning, Walking};
 use integers::V2;
-use lanes::Flow;
+use survey::Flow;
 use lanes::LANES;
 use meaning::Description;
 use meaning::Nest;

@@ -12,7 +12,7 @@ use Rattle.meaning.specs.Limits.{gaugeLimits}
 use Rattle.meaning.specs.Accept.{refusalOf}
 use Rattle.geometry.specs.Accept.{touched-few}
 use Rattle.geometry.specs.Descriptions.{laid}
-use Rattle.stream_lines.specs.Accepted.{accepted-within}
+use Rattle.survey.specs.Accepted.{accepted-within}
 use Rattle.elements.specs.Counts.{Few}
 
 pub elements-few : (l : Limits) (s : List ℕ) → refusalOf l s ≡ 0 → (i : ℕ) → i < length (streamsOf (descriptionOf s))

@@ -12,7 +12,7 @@ ghost use Rattle.meaning.specs.Streams.{elements};
 ghost use Rattle.meaning.specs.Description.{streamsOf};
 ghost use Rattle.meaning.specs.Body.{streamStart};
 ghost use Rattle.meaning.specs.Calls.{lengthOf};
-ghost use Rattle.stream_lines.specs.InRange.{InRange};
+ghost use Rattle.survey.specs.InRange.{InRange};
 ghost use Rattle.elements.specs.Counts.{Few};
 use meaning::Description;
 use meaning::Nest;

@@ -23,15 +23,16 @@ use Rattle.meaning.specs.Accept.{refusalOf, figures}
 use Rattle.numbering.specs.Ranges.{Bounded}
 use Rattle.lists.specs.Sums.{total-next}
 use Rattle.lists.specs.Tests.{filter-fewer}
-use Rattle.stream_lines.specs.Accepted.{accepted-within}
-use Rattle.stream_lines.specs.InRange.{nest-bounded}
-use Rattle.stream_lines.specs.StateWords.{end-words}
+use Rattle.survey.specs.Accepted.{accepted-within}
+use Rattle.survey.specs.InRange.{nest-bounded}
+use Rattle.survey.specs.StateWords.{end-words}
 use Rattle.elements.specs.Counts.{Few, total-most}
 use Rattle.elements.specs.Few.{accepted-few}
-use Rattle.lanes.specs.declared.Flow.{Flow}
+use Rattle.survey.specs.declared.Flow.{Flow}
 use Rattle.lanes.specs.All.{LanesOf}
 use Rattle.lanes.specs.Flow.{Laid, Seen}
-use Rattle.lanes.specs.Accepted.{streams-used, laid-stream}
+use Rattle.survey.specs.Surveys.{streams-used}
+use Rattle.lanes.specs.Accepted.{laid-stream}
 use Rattle.pipe_parts.specs.Starts.{entering}
 use Rattle.figures.specs.declared.Share.{Share}
 use Rattle.figures.specs.declared.Sums.{Sums}

@@ -16,7 +16,7 @@ ghost use Rattle.lanes.specs.All.{LanesIn, laneWords};
 ghost use Rattle.pipes.specs.Elements.{Near};
 ghost use Rattle.figures.specs.Sums.{stepsOn, Under, sumsOver, sumsAt};
 ghost use Rattle.figures.specs.Shares.{Summing, Sharing, Small, shareOf, join, Room, totalsOf, Described, AllLanes};
-use lanes::Flow;
+use survey::Flow;
 use lanes::LANES;
 use meaning::Description;
 use meaning::Figures;
@@ -99,7 +99,7 @@ fn share_of(n: Nest, s: Stream, spans: &[u32], lanes: &mut [u16]) -> Share
     lanes::fill_lanes(f, processes, spans, lanes);
     let sums = sums_of(f, processes, spans, lanes);
     Share {
-        hop: stream_lines::hop_of(n, s),
+        hop: survey::hop_of(n, s),
         pipes: sums.pipes,
         steps: sums.steps,
     }

@@ -16,7 +16,7 @@ use Rattle.meaning.specs.Description.{noStream}
 use Rattle.lists.specs.Stores.{replicated}
 use Rattle.layout.specs.Parts.{put-before, put-in, put-after}
 use Rattle.layout.specs.Spans.{Spans}
-use Rattle.lanes.specs.declared.Flow.{Flow}
+use Rattle.survey.specs.declared.Flow.{Flow}
 use Rattle.lanes.specs.Lanes.{Lanes, One, One.nobody, One.somebody}
 use Rattle.lanes.specs.Held.{entryNumber, computes}
 use Rattle.lanes.specs.Flow.{Flows, Seen}

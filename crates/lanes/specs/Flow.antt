@@ -1,22 +1,20 @@
 -- What is asked of a stream, and what is known of it once and for all its processes. Assumes nothing.
-use mathlib.Core.Path.{_≡_, refl, sym, _∙_, ap, ap₂, subst}
-use mathlib.Core.Bool.{Bool, true, false, not, _||_}
+use mathlib.Core.Path.{_≡_, refl, sym, _∙_, ap, ap₂, subst, subst₂}
+use mathlib.Core.Bool.{not}
 use mathlib.Core.List.{List}
 use Prim.Native.Nat.{ℕ, _+_, _≤_, _<_}
 use native.Mathlib.Omega.{arith}
 use lib.ListN.{length, getD}
-use lib.IntN.{pos}
-use lib.Signed.{ltZ}
+use lib.IntN.{ℤ, pos}
 use Rattle.integers.specs.Differences.{Abs}
 use Rattle.integers.specs.Bounds.{Abs-wider, Abs-neg}
-use Rattle.integers.specs.Words.{eqZ, eqZ→eq}
 use Rattle.integers.specs.Vectors.{zero2, neg2, shift2}
 use Rattle.integers.specs.declared.V2.{V2}
 use Rattle.meaning.specs.declared.Nest.{Nest}
 use Rattle.meaning.specs.declared.Stream.{Stream}
 use Rattle.meaning.specs.Loops.{instances}
 use Rattle.meaning.specs.Space.{Box, points, rowIndex, boxOf, space, processes}
-use Rattle.meaning.specs.Streams.{stationary, move, pass}
+use Rattle.meaning.specs.Streams.{stationary, hop, move, pass}
 use Rattle.meaning.specs.Pipes.{reach, backward}
 use Rattle.meaning.specs.Points.{Inside}
 use Rattle.geometry.specs.Numbers.{shift-neg, neg-not}
@@ -26,26 +24,16 @@ use Rattle.geometry.specs.RowOrder.{row-lt}
 use Rattle.geometry.specs.Pipes.{Accepted}
 use Rattle.geometry.specs.Elements.{entryOf, entry-is}
 use Rattle.vectors.specs.Within.{Within2}
-use Rattle.stream_lines.specs.InRange.{InRange}
+use Rattle.survey.specs.InRange.{InRange}
+use Rattle.survey.specs.Surveys.{FlowOf}
 use Rattle.numbering.specs.Ranges.{between-apart}
 use Rattle.numbering.specs.Extents.{Spanning, boxed, box-spanning}
-use Rattle.counting.specs.Forms.{weigh}
+use Rattle.counting.specs.Forms.{weigh, stride-small}
 use Rattle.layout.specs.Rays.{Going}
 use Rattle.layout.specs.Spans.{processOf, Spans}
-use Rattle.lanes.specs.declared.Flow.{Flow}
+use Rattle.survey.specs.declared.Flow.{Flow}
 use Rattle.lanes.specs.Lanes.{Lanes}
 use Rattle.lanes.specs.Held.{entryNumber, computes}
-
--- a vector that leads back, by the test of its first component
-pub back-level : (v : V2) → eqZ (v .a) (pos 0) ≡ true → ltZ (v .b) (pos 0) ≡ backward v
-back-level v e = rw (eqZ→eq (v .a) (pos 0) e) refl
-
-pub back-steep : (v : V2) → eqZ (v .a) (pos 0) ≡ false → ltZ (v .a) (pos 0) ≡ backward v
-back-steep v e = rw e (go (ltZ (v .a) (pos 0)))
-  where
-    go : (b : Bool) → b ≡ (b || false)
-    go true = refl
-    go false = refl
 
 -- a vector turned round is as small
 pub neg-small : {n : ℕ} {v : V2} → Within2 n v → Within2 n (neg2 v)
@@ -64,6 +52,7 @@ pub record Laid (n : Nest) (s : Stream) : Type 0 where
 
 pub record Flows (f : Flow) : Type 0 where
   pub laid : Laid (f .nest) (f .stream)
+  pub hop-is : f .hop ≡ hop (f .nest) (f .stream)
   pub space-is : boxed (f .space) ≡ space (f .nest)
   pub elements-is : boxed (f .elements) ≡ boxOf (f .nest) (f .stream .map)
   pub way-is : f .way ≡ move (f .nest) (f .stream)
@@ -77,6 +66,33 @@ pub record Flows (f : Flow) : Type 0 where
   pub step-small : Abs (f .step) 1538
   pub moving-is : f .moving ≡ not (stationary (f .nest) (f .stream))
   pub turned-is : f .turned ≡ backward (move (f .nest) (f .stream))
+
+-- the flow of a stream that is laid out: the components of its move are at most 1 either way, and stay so as it is turned round
+pub flows : {n : Nest} {s : Stream} {f : Flow} → Laid n s → FlowOf n s f → Flows f
+flows {f = f} l k =
+    own (subst₂ Laid (sym (k .nest-is)) (sym (k .stream-is)) l)
+    (subst₂ (λ (n : Nest) (s : Stream). FlowOf n s f) (sym (k .nest-is)) (sym (k .stream-is)) k)
+  where
+    own : Laid (f .nest) (f .stream) → FlowOf (f .nest) (f .stream) f → Flows f
+    own l h =
+        record {
+          laid = l;
+          hop-is = h .hop-is;
+          space-is = h .space-is;
+          elements-is = h .elements-is;
+          way-is = h .way-is;
+          back-is = h .back-is;
+          back-small = subst (Within2 1) (sym (h .back-is)) (neg-small (l .small));
+          pass-is = h .pass-is;
+          pass-small = h .pass-small;
+          against-is = h .against-is;
+          against-small = h .against-small;
+          step-is = h .step-is;
+          step-small = subst (λ (k : ℤ). Abs k 1538) (sym (h .step-is))
+              (stride-small (box-spanning (l .in-range .nest) (l .in-range .nest .place)) (l .small));
+          moving-is = h .moving-is;
+          turned-is = h .turned-is;
+        }
 
 -- room for a process and an entry in the lanes
 pub record Visitable (l : List ℕ) (p e : ℕ) : Type 0 where

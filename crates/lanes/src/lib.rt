@@ -16,17 +16,12 @@ ghost use mathlib.Core.Path.{_≡_};
 ghost use Prim.Native.Nat.{_<_};
 ghost use lib.ListN.{length};
 ghost use Rattle.meaning.specs.Space.{processes};
-ghost use Rattle.meaning.specs.Pipes.{backward};
-ghost use Rattle.vectors.specs.Within.{Within2};
 ghost use Rattle.lanes.specs.Lanes.{visited};
 ghost use Rattle.lanes.specs.Held.{entryNumber};
-ghost use Rattle.lanes.specs.Flow.{Laid, Flows, Visitable, Fillable, Seen};
-use integers::V2;
-use meaning::Nest;
+ghost use Rattle.lanes.specs.Flow.{Flows, Visitable, Fillable, Seen};
 use meaning::PROCESSES;
 use meaning::STREAMS;
-use meaning::Stream;
-use numbering::Extent;
+use survey::Flow;
 
 // The words of the lanes: the entries, and from these on how many compute before a process, how many on a line, and one of them.
 pub const BEFORE: usize = PROCESSES;
@@ -39,54 +34,6 @@ pub const LANES: usize = 4 * PROCESSES;
 
 // The words of the lanes of all streams.
 pub const ALL: usize = STREAMS * LANES;
-
-// A stream in its nest: the process space and its own box, its move and index map times increment, each also turned round; by how much its
-// move changes a process's number; whether it moves, and whether its move leads back in row order.
-pub struct Flow {
-    pub nest: Nest,
-    pub stream: Stream,
-    pub space: Extent,
-    pub elements: Extent,
-    pub way: V2,
-    pub back: V2,
-    pub pass: V2,
-    pub against: V2,
-    pub step: i32,
-    pub moving: bool,
-    pub turned: bool,
-}
-
-// Whether a vector leads back in row order.
-fn backward(v: V2) -> bool
-    requires { ⌜ Within2 4800 v ⌝ }
-    ensures { λ r. ⌜ r ≡ backward v ⌝ }
-{
-    if v.a == 0 { v.b < 0 } else { v.a < 0 }
-}
-
-pub fn flow_of(n: Nest, s: Stream) -> Flow
-    requires { ⌜ Laid n s ⌝ }
-    ensures { λ r. ⌜ (r .nest ≡ n) × (r .stream ≡ s) × (Flows r) ⌝ }
-{
-    let place = n.place;
-    let map = s.map;
-    let way = stream_lines::move_of(n, s);
-    let pass = vectors::image_of(map, vectors::line_of(n, place));
-    let space = numbering::extent_of(n, place);
-    Flow {
-        nest: n,
-        stream: s,
-        space: space,
-        elements: numbering::extent_of(n, map),
-        way: way,
-        back: vectors::opposite(way),
-        pass: pass,
-        against: vectors::opposite(pass),
-        step: counting::stride_of(space, way),
-        moving: stream_lines::moves(n, s),
-        turned: backward(way),
-    }
-}
 
 // The number of the entry of process p's line.
 fn entry_number(f: Flow, p: u32) -> u32

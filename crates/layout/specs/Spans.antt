@@ -26,7 +26,7 @@ use Rattle.numbering.specs.Ranges.{Bounded, instance-small}
 use Rattle.counting.specs.Numbers.{numbersOf}
 use Rattle.sweeps.specs.Met.{endIn}
 use Rattle.sweeps.specs.Turns.{Swept}
-use Rattle.sweeps.specs.Tables.{Table, filled-table, counts-are, firsts-are, lasts-are, ends-absent}
+use Rattle.sweeps.specs.Tables.{Table, counts-are, firsts-are, lasts-are, ends-absent}
 use Rattle.layout.specs.Parts.{put-before, put-after, mid-at, part-length, part-at}
 use Rattle.layout.specs.Codes.{codeOf, coded, coded-code}
 
@@ -71,11 +71,6 @@ pub record Spans (n : Nest) (w : List ℕ) : Type 0 where
   pub last-some : (p : ℕ) → p < length (processes n) → 0 < count n (processOf n p) → 0 < getD w (2048 + p) 0
 
 -- ---- as the pass over the instances leaves them
-
--- the table of the instances' processes, as the code has made it
-pub process-table : {n : Nest} {table : List ℕ} {instances size : ℕ} {k : Box} (rest : List ℕ) → table ≡ numbersOf n (n .place) ++ rest
-    → instances ≡ length (instancesOf n) → size ≡ length (points k) → k ≡ space n → Table n (n .place) table instances size
-process-table rest e c z b = filled-table rest e c (z ∙ ap (λ (k : Box). length (points k)) b)
 
 module _ {n : Nest} {numbers : List ℕ} {instances size : ℕ} {back : Bool} {spans : List ℕ} (layout : Layout n)
     (t : Table n (n .place) numbers instances size) (b : back ≡ leadsBack n) (s : Swept numbers instances back size spans) where

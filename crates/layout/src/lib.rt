@@ -21,6 +21,7 @@ ghost use Rattle.geometry.specs.Processes.{Layout};
 ghost use Rattle.vectors.specs.Within.{Within};
 ghost use Rattle.numbering.specs.Ranges.{Bounded};
 ghost use Rattle.numbering.specs.Extents.{Spanning, boxed};
+ghost use Rattle.survey.specs.Surveys.{GroundOf};
 ghost use Rattle.layout.specs.Rays.{roomOf, Along, firstRay, secondRay, Going};
 ghost use Rattle.layout.specs.Codes.{codeOf, coded};
 ghost use Rattle.layout.specs.Spans.{Spans, spanWords, numbered};
@@ -29,6 +30,7 @@ use integers::V3;
 use meaning::INSTANCES;
 use meaning::Nest;
 use numbering::Extent;
+use survey::Ground;
 
 // The words of the processes: their counts, then their first and then their last instances.
 const FIRSTS: usize = sweeps::FIRSTS;
@@ -180,21 +182,20 @@ fn fill_firsts(n: Nest, processes: u32, firsts: &mut [u32])
     }
 }
 
-// Of each process its count, its first and its last instance; how many processes there are.
-pub fn fill_processes(n: Nest, spans: &mut [u32]) -> u32
-    requires { ⌜ (Bounded n) × (Layout n) × (length (instances n) ≤ gaugeLimits .instances)
+// Of each process its count, its first and its last instance.
+pub fn fill_processes(n: Nest, g: Ground, spans: &mut [u32])
+    requires { ⌜ (Bounded n) × (GroundOf n g) × (Layout n) × (length (instances n) ≤ gaugeLimits .instances)
         × (length (processes n) ≤ gaugeLimits .processes) × (length (now spans) ≡ spanWords) ⌝ }
-    ensures { λ r. ⌜ (r ≡ length (processes n)) × (Spans n (now (spans .exit))) ⌝ }
+    ensures { λ r. ⌜ Spans n (now (spans .exit)) ⌝ }
 {
     let place = n.place;
     let direction = n.direction;
-    let back = vectors::against(direction, vectors::line_of(n, place));
-    let space = numbering::extent_of(n, place);
-    let processes = numbering::size_of(space);
-    let count = numbering::instance_count(n);
+    let increment = g.increment;
+    let space = g.space;
+    let processes = g.processes;
+    let back = vectors::against(direction, increment);
     let mut numbers = [0u32; INSTANCES];
     counting::fill_numbers(n, place, space, &mut numbers);
-    sweeps::fill_spans(&numbers, count, back, processes, spans);
+    sweeps::fill_spans(&numbers, g.instances, back, processes, spans);
     fill_firsts(n, processes, &mut spans[FIRSTS..LASTS]);
-    processes
 }

@@ -20,7 +20,7 @@ use Rattle.geometry.specs.Elements.{entry-is, entry-before}
 use Rattle.geometry.specs.Positions.{pipe-length}
 use Rattle.geometry.specs.Arrays.{one-number}
 use Rattle.layout.specs.Spans.{processOf}
-use Rattle.lanes.specs.declared.Flow.{Flow}
+use Rattle.survey.specs.declared.Flow.{Flow}
 use Rattle.pipes.specs.Elements.{Near, good, inside, held-there}
 
 -- somebody passes

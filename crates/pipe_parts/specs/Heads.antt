@@ -28,7 +28,7 @@ use Rattle.geometry.specs.Processes.{computes}
 use Rattle.geometry.specs.Pipes.{Accepted, in-pipe, same-pipe, same-elements, touched-in, no-pipe}
 use Rattle.geometry.specs.Elements.{entryOf, entry-pipe, entry-is, entry-before}
 use Rattle.layout.specs.Spans.{processOf}
-use Rattle.lanes.specs.declared.Flow.{Flow}
+use Rattle.survey.specs.declared.Flow.{Flow}
 use Rattle.pipes.specs.Elements.{Near, good, inside, entry-lt}
 use Rattle.pipe_parts.specs.Starts.{entering, entering-pipe, enteringLength, enteredAt}
 

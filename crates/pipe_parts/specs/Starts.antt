@@ -19,7 +19,7 @@ use Rattle.geometry.specs.Places.{rank, rank-zero, rank-yes, rank-no}
 use Rattle.geometry.specs.Pipes.{Accepted}
 use Rattle.geometry.specs.Elements.{pipes-total}
 use Rattle.layout.specs.Spans.{processOf}
-use Rattle.lanes.specs.declared.Flow.{Flow}
+use Rattle.survey.specs.declared.Flow.{Flow}
 use Rattle.lanes.specs.Flow.{Seen}
 
 -- ---- lists

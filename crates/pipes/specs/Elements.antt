@@ -34,7 +34,7 @@ use Rattle.vectors.specs.Within.{Rows, wider}
 use Rattle.numbering.specs.Extents.{Spanning, boxed, box-spanning}
 use Rattle.layout.specs.Rays.{Going}
 use Rattle.layout.specs.Spans.{processOf, numbered-one, Spans}
-use Rattle.lanes.specs.declared.Flow.{Flow}
+use Rattle.survey.specs.declared.Flow.{Flow}
 use Rattle.lanes.specs.Lanes.{One, One.nobody, One.somebody, held-le as held-most}
 use Rattle.lanes.specs.Held.{entryNumber, computes, heldOn, held-is, running-below, soak-held}
 use Rattle.lanes.specs.Flow.{Flows, Seen}

@@ -22,7 +22,7 @@ ghost use Rattle.pipes.specs.Elements.{At, Near, rowDrain, Filling};
 ghost use Rattle.pipes.specs.Passed.{Passed};
 use integers::V2;
 use lanes::BEFORE;
-use lanes::Flow;
+use survey::Flow;
 use lanes::HELD;
 use lanes::LANES;
 use lanes::ONE;

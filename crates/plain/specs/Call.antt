@@ -17,7 +17,7 @@ use Rattle.meaning.specs.Body.{finalValues}
 use Rattle.meaning.specs.Accept.{refusalOf}
 use Rattle.meaning.specs.Calls.{lengthOf, answer, plainRun}
 use Rattle.declines.specs.Tests.{plainLengths, plain-fits}
-use Rattle.stream_lines.specs.Accepted.{accepted-within}
+use Rattle.survey.specs.Accepted.{accepted-within}
 use Rattle.elements.specs.Few.{accepted-few}
 use Rattle.written_order.specs.Places.{Fitting}
 

@@ -21,10 +21,10 @@ use Rattle.lists.specs.Tests.{filter-fewer}
 use Rattle.geometry.specs.Places.{getD-in}
 use Rattle.geometry.specs.Boxes.{points-inside}
 use Rattle.layout.specs.Spans.{processOf, Spans}
-use Rattle.stream_lines.specs.StateWords.{process-words}
+use Rattle.survey.specs.StateWords.{process-words}
 use Rattle.ports.specs.declared.Port.{Port}
 use Rattle.ports.specs.declared.End.{End}
-use Rattle.lanes.specs.declared.Flow.{Flow}
+use Rattle.survey.specs.declared.Flow.{Flow}
 use Rattle.lanes.specs.Flow.{Flows, Seen}
 use Rattle.pipe_parts.specs.Starts.{entering, enteringLength, startAt, enteredAt, start-most}
 use Rattle.pipe_parts.specs.Heads.{Heads, entering-some}

@@ -29,7 +29,7 @@ use Rattle.lanes.specs.Held.{entryNumber}
 use Rattle.lanes.specs.Flow.{Laid}
 use Rattle.pipe_parts.specs.Starts.{entered-le}
 use Rattle.port_rows.specs.declared.Strand.{Strand}
-use Rattle.stream_lines.specs.StateWords.{process-words, end-words}
+use Rattle.survey.specs.StateWords.{process-words, end-words}
 use Rattle.port_rows.specs.Strands.{Narrow, portIndex, endIndex, beforeFrom, afterFrom, roomFrom, pipeOf, portFrom, offFrom, rowFrom}
 use Rattle.port_rows.specs.Strands.{endFrom, some-before, count-most}
 use Rattle.port_table.specs.Pack.{lowEnd}

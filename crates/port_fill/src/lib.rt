@@ -26,7 +26,7 @@ ghost use Rattle.port_table.specs.PortsOf.{PortsOf, portTableWords};
 ghost use Rattle.port_fill.specs.Strung.{Slack, strandFrom, join, PortFillable, EndFillable, PortsFillable, EndsFillable};
 ghost use Rattle.port_fill.specs.Strung.{StreamFillable, portRow, endRow, portRows, endRows, streamRows};
 ghost use Rattle.port_fill.specs.Filled.{Started};
-use lanes::Flow;
+use survey::Flow;
 use lanes::LANES;
 use meaning::Description;
 use meaning::Nest;
@@ -66,7 +66,7 @@ fn strand_of(n: Nest, s: Stream, processes: u32, stride: u32, t: Sums) -> Strand
     ensures { λ r. ⌜ (r ≡ strandFrom (hop n s) processes stride t) × (Narrow r) ⌝ }
 {
     Strand {
-        hop: stream_lines::hop_of(n, s),
+        hop: survey::hop_of(n, s),
         stride: stride,
         offset: 1 + t.words,
         tail: processes * stride + t.ends,
@@ -83,7 +83,7 @@ fn stride_of(d: Description) -> u32
     let mut sum: u32 = 1;
     let mut i: u32 = 0;
     while i < m {
-        sum += 4 + stream_lines::hop_of(n, decode::stream(d, i as usize));
+        sum += 4 + survey::hop_of(n, decode::stream(d, i as usize));
         i += 1;
     }
     sum

@@ -19,7 +19,7 @@ use Rattle.geometry.specs.PipeOrder.{list-length}
 use Rattle.network.specs.Wiring.{Wired, stop-pipe}
 use Rattle.guarantee.specs.Wired.{wired}
 use Rattle.addresses.specs.Indices.{process-count, stream-count, word-count}
-use Rattle.stream_lines.specs.StateWords.{process-words}
+use Rattle.survey.specs.StateWords.{process-words}
 use Rattle.figures.specs.Shares.{Room, totalsOver, Described, described, totals-room, totals-all, elements-most}
 use Rattle.ports.specs.Layout.{Regular}
 use Rattle.sound_rows.specs.Rows.{Single}

@@ -34,7 +34,7 @@ use Rattle.ports.specs.declared.End.{End}
 use Rattle.ports.specs.Ports.{same-port}
 use Rattle.pipe_parts.specs.Starts.{enteredAt, entered-le}
 use Rattle.pipe_parts.specs.Heads.{Heads, pipe-some}
-use Rattle.lanes.specs.declared.Flow.{Flow}
+use Rattle.survey.specs.declared.Flow.{Flow}
 use Rattle.lanes.specs.Held.{entryNumber}
 use Rattle.lanes.specs.Along.{row-on, row-back}
 use Rattle.lanes.specs.Flow.{Flows, going-on, reach-on}

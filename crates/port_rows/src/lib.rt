@@ -22,7 +22,7 @@ ghost use Rattle.lanes.specs.Flow.{Flows};
 ghost use Rattle.pipes.specs.Elements.{Near};
 ghost use Rattle.port_rows.specs.Strands.{Narrow, beforeFrom, afterFrom, roomFrom, pipeOf, PortGiven, portFrom, offFrom, rowFrom};
 ghost use Rattle.port_rows.specs.Strands.{endFrom};
-use lanes::Flow;
+use survey::Flow;
 use pipe_parts::TOTALS;
 use ports::End;
 use ports::Port;

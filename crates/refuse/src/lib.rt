@@ -1,29 +1,32 @@
 // Whether a description is accepted, and by which number it is refused: 33 of request 2.9 and document 01's refusals 1 to 17, the first
-// that applies. The words of the processes, filled between 10 and 11, are handed on.
+// that applies. The survey, made after 5, and the words of the processes, filled after 10, are handed on.
 ghost use mathlib.Core.Path.{_≡_};
+ghost use lib.ListN.{length};
 ghost use Rattle.meaning.specs.Tests.{refusal};
 ghost use Rattle.meaning.specs.Limits.{limitsOf, gaugeLimits, UpTo};
-ghost use Rattle.meaning.specs.Description.{descriptionOf, streamsOf};
+ghost use Rattle.meaning.specs.Description.{streamsOf};
 ghost use Rattle.meaning.specs.Accept.{testsFrom, refusalOf};
-ghost use Rattle.layout.specs.Spans.{Spans};
-ghost use Rattle.walk.specs.Walked.{Along};
 ghost use Rattle.decode.specs.Ranged.{Ranged};
+ghost use Rattle.survey.specs.Surveys.{Surveyed, SurveyOf};
+ghost use Rattle.layout.specs.Spans.{Spans, spanWords};
+ghost use Rattle.walk.specs.Walked.{Along, Walkable};
 use layout::SPANS;
-use meaning::Description;
 use meaning::Limits;
+use survey::Survey;
 use walk::WALK;
 
 // The first of the refusals 11 to 17 that applies to a stream, lowest first, 0 if none does.
-fn streams_refusal(d: Description, limits: Limits, walk: &[i8]) -> u32
-    requires { ⌜ (Ranged d) × (Along (d .nest) (now walk)) ⌝ }
-    ensures { λ r. ⌜ r ≡ refusal (testsFrom limits d 0 (streamsOf d)) ⌝ }
+fn streams_refusal(v: Survey, limits: Limits, walk: &[i8]) -> u32
+    requires { ⌜ (Ranged (v .description)) × (Surveyed v) × (Along (v .description .nest) (now walk)) ⌝ }
+    ensures { λ r. ⌜ r ≡ refusal (testsFrom limits (v .description) 0 (streamsOf (v .description))) ⌝ }
 {
-    let n = d.nest;
+    let d = v.description;
+    let g = v.ground;
     let m = d.sizes.streams;
     let mut i: u32 = 0;
     while i < m {
-        let s = decode::stream(d, i as usize);
-        let r = refuse_stream::stream_refusal(n, s, decode::written(d, i), limits, walk);
+        let f = survey::flow_at(v, i as usize);
+        let r = refuse_stream::stream_refusal(f, g, decode::written(d, i), limits, walk);
         if r != 0 {
             return r;
         }
@@ -32,25 +35,38 @@ fn streams_refusal(d: Description, limits: Limits, walk: &[i8]) -> u32
     0
 }
 
-// The refusal of a description by its number, 0 if it is accepted; then count, first and last instance of its processes are filled.
-pub fn refusal_within(s: &[u8], limits: Limits, spans: &mut [u32; SPANS]) -> u32
-    requires { ⌜ UpTo limits gaugeLimits ⌝ }
-    ensures { λ r. ⌜ (r ≡ refusalOf limits (now (s .entry)))
-        × (r ≡ 0 → Spans (descriptionOf (now (s .entry)) .nest) (now (spans .exit))) ⌝ }
+// The same by the words of the processes.
+fn walked_refusal(v: Survey, limits: Limits, spans: &[u32]) -> u32
+    requires { ⌜ (Ranged (v .description)) × (Surveyed v) × (Walkable (v .description .nest)) × (Spans (v .description .nest) (now spans))
+        × (length (now spans) ≡ spanWords) ⌝ }
+    ensures { λ r. ⌜ r ≡ refusal (testsFrom limits (v .description) 0 (streamsOf (v .description))) ⌝ }
 {
+    let n = v.description.nest;
+    let g = v.ground;
     let mut walk = [0i8; WALK];
-    let r = walkable::walk_within(s, limits, spans, &mut walk);
-    if r == 0 {
-        streams_refusal(decode::description(s), limits, &walk)
-    } else {
-        r
+    walk::fill_walk(n, g, spans, &mut walk);
+    streams_refusal(v, limits, &walk)
+}
+
+// The survey of a description with its refusal by number, 0 if it is accepted; then count, first and last instance of its processes are
+// filled.
+pub fn survey_within(s: &[u8], limits: Limits, spans: &mut [u32; SPANS]) -> Survey
+    requires { ⌜ UpTo limits gaugeLimits ⌝ }
+    ensures { λ r. ⌜ (r .refusal ≡ refusalOf limits (now (s .entry)))
+        × (r .refusal ≡ 0 → (SurveyOf (now (s .entry)) r) × (Spans (r .description .nest) (now (spans .exit)))) ⌝ }
+{
+    let mut v = walkable::survey_within(s, limits, spans);
+    if v.refusal == 0 {
+        let refusal = walked_refusal(v, limits, spans);
+        v.refusal = refusal;
     }
+    v
 }
 
 // The same on a board.
-pub fn refusal_of(board: u32, s: &[u8], spans: &mut [u32; SPANS]) -> u32
-    ensures { λ r. ⌜ (r ≡ refusalOf (limitsOf board) (now (s .entry)))
-        × (r ≡ 0 → Spans (descriptionOf (now (s .entry)) .nest) (now (spans .exit))) ⌝ }
+pub fn survey_of(board: u32, s: &[u8], spans: &mut [u32; SPANS]) -> Survey
+    ensures { λ r. ⌜ (r .refusal ≡ refusalOf (limitsOf board) (now (s .entry)))
+        × (r .refusal ≡ 0 → (SurveyOf (now (s .entry)) r) × (Spans (r .description .nest) (now (spans .exit)))) ⌝ }
 {
-    refusal_within(s, boards::limits_of(board), spans)
+    survey_within(s, boards::limits_of(board), spans)
 }

@@ -1,42 +1,48 @@
 // Document 01's refusals 6, 7, 8 and 10, of the loops and their layout; 9 is never given (request 2.2).
 ghost use mathlib.Core.Path.{_≡_};
+ghost use lib.Dec.{eqb, ltb};
 ghost use Rattle.meaning.specs.Tests.{refusal};
-ghost use Rattle.meaning.specs.Accept.{refused6, refused10};
 ghost use Rattle.numbering.specs.Ranges.{Bounded};
-ghost use Rattle.stream_lines.specs.Stages.{layoutTests};
+ghost use Rattle.survey.specs.Stages.{layoutTests};
+ghost use Rattle.survey.specs.Surveys.{GroundOf};
 use meaning::Limits;
 use meaning::Nest;
+use survey::Ground;
 
 // Refusal 6: over the limit of instances.
-fn instances_refused(n: Nest, limits: Limits) -> bool
-    requires { ⌜ Bounded n ⌝ }
-    ensures { λ r. ⌜ r ≡ refused6 limits n ⌝ }
+fn instances_refused(g: Ground, limits: Limits) -> bool
+    ensures { λ r. ⌜ r ≡ ltb (limits .instances) (g .instances) ⌝ }
 {
-    limits.instances < numbering::instance_count(n)
+    limits.instances < g.instances
+}
+
+// Refusal 7: place of low rank, whose divisor is 0.
+fn low_rank(g: Ground) -> bool
+    ensures { λ r. ⌜ r ≡ eqb (g .divisor) 0 ⌝ }
+{
+    g.divisor == 0
 }
 
 // Refusal 10: over the limit of processes.
-fn processes_refused(n: Nest, limits: Limits) -> bool
-    requires { ⌜ Bounded n ⌝ }
-    ensures { λ r. ⌜ r ≡ refused10 limits n ⌝ }
+fn processes_refused(g: Ground, limits: Limits) -> bool
+    ensures { λ r. ⌜ r ≡ ltb (limits .processes) (g .processes) ⌝ }
 {
-    let place = n.place;
-    limits.processes < numbering::size_of(numbering::extent_of(n, place))
+    limits.processes < g.processes
 }
 
 // The first of the refusals 6, 7, 8 and 10 that applies, 0 if none does.
-pub fn nest_refusal(n: Nest, limits: Limits) -> u32
-    requires { ⌜ Bounded n ⌝ }
+pub fn nest_refusal(n: Nest, g: Ground, limits: Limits) -> u32
+    requires { ⌜ (Bounded n) × (GroundOf n g) ⌝ }
     ensures { λ r. ⌜ r ≡ refusal (layoutTests limits n) ⌝ }
 {
-    let place = n.place;
-    if instances_refused(n, limits) {
+    let increment = g.increment;
+    if instances_refused(g, limits) {
         6
-    } else if stream_lines::low_rank(place) {
+    } else if low_rank(g) {
         7
-    } else if stream_lines::still(n, place) {
+    } else if survey::still(n, increment) {
         8
-    } else if processes_refused(n, limits) {
+    } else if processes_refused(g, limits) {
         10
     } else {
         0

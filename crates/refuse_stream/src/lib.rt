@@ -2,23 +2,23 @@
 ghost use mathlib.Core.Path.{_≡_};
 ghost use Rattle.meaning.specs.Tests.{refusal};
 ghost use Rattle.meaning.specs.Accept.{refused17, streamTests};
-ghost use Rattle.stream_lines.specs.InRange.{InRange};
 ghost use Rattle.walk.specs.Walked.{Along};
-ghost use Rattle.stream_lines.specs.Stages.{orderTests, moveTests};
+ghost use Rattle.survey.specs.Stages.{orderTests, moveTests};
+ghost use Rattle.survey.specs.Surveys.{GroundOf, Charted};
 use meaning::INSTANCES;
 use meaning::Limits;
-use meaning::Nest;
-use meaning::Stream;
+use survey::Flow;
+use survey::Ground;
 
 // Refusal 17: some element of the box is touched by no instance. With more elements than instances some are; else the walk tells.
-fn elements_refused(n: Nest, s: Stream, walk: &[i8]) -> bool
-    requires { ⌜ (InRange n s) × (Along n (now walk)) ⌝ }
-    ensures { λ r. ⌜ r ≡ refused17 n s ⌝ }
+fn elements_refused(f: Flow, g: Ground, walk: &[i8]) -> bool
+    requires { ⌜ (Charted f) × (GroundOf (f .nest) g) × (Along (f .nest) (now walk)) ⌝ }
+    ensures { λ r. ⌜ r ≡ refused17 (f .nest) (f .stream) ⌝ }
 {
-    let map = s.map;
-    let e = numbering::extent_of(n, map);
+    let map = f.stream.map;
+    let e = f.elements;
     let elements = numbering::size_of(e) as usize;
-    let instances = numbering::instance_count(n) as usize;
+    let instances = g.instances as usize;
     if instances < elements {
         return true;
     }
@@ -28,46 +28,45 @@ fn elements_refused(n: Nest, s: Stream, walk: &[i8]) -> bool
 }
 
 // The first of the refusals 15 to 17 that applies, 0 if none does.
-fn order_refusal(n: Nest, s: Stream, written: bool, walk: &[i8]) -> u32
-    requires { ⌜ (InRange n s) × (Along n (now walk)) ⌝ }
-    ensures { λ r. ⌜ r ≡ refusal (orderTests n written s) ⌝ }
+fn order_refusal(f: Flow, g: Ground, written: bool, walk: &[i8]) -> u32
+    requires { ⌜ (Charted f) × (GroundOf (f .nest) g) × (Along (f .nest) (now walk)) ⌝ }
+    ensures { λ r. ⌜ r ≡ refusal (orderTests (f .nest) written (f .stream)) ⌝ }
 {
-    let backward = stream_tests::order_refused(n, s, written);
-    let misloaded = stream_tests::loading_refused(n, s);
+    let backward = stream_tests::order_refused(f, written);
+    let misloaded = stream_tests::loading_refused(f);
     if backward {
         15
     } else if misloaded {
         16
     } else {
-        if elements_refused(n, s, walk) { 17 } else { 0 }
+        if elements_refused(f, g, walk) { 17 } else { 0 }
     }
 }
 
 // The same of 13 to 17.
-fn move_refusal(n: Nest, s: Stream, written: bool, limits: Limits, walk: &[i8]) -> u32
-    requires { ⌜ (InRange n s) × (Along n (now walk)) ⌝ }
-    ensures { λ r. ⌜ r ≡ refusal (moveTests limits n written s) ⌝ }
+fn move_refusal(f: Flow, g: Ground, written: bool, limits: Limits, walk: &[i8]) -> u32
+    requires { ⌜ (Charted f) × (GroundOf (f .nest) g) × (Along (f .nest) (now walk)) ⌝ }
+    ensures { λ r. ⌜ r ≡ refusal (moveTests limits (f .nest) written (f .stream)) ⌝ }
 {
-    if stream_tests::move_refused(n, s) {
+    if stream_tests::move_refused(f) {
         13
-    } else if stream_tests::hop_refused(n, s, limits) {
+    } else if stream_tests::hop_refused(f, limits) {
         14
     } else {
-        order_refusal(n, s, written, walk)
+        order_refusal(f, g, written, walk)
     }
 }
 
 // The same of 11 to 17.
-pub fn stream_refusal(n: Nest, s: Stream, written: bool, limits: Limits, walk: &[i8]) -> u32
-    requires { ⌜ (InRange n s) × (Along n (now walk)) ⌝ }
-    ensures { λ r. ⌜ r ≡ refusal (streamTests limits n written s) ⌝ }
+pub fn stream_refusal(f: Flow, g: Ground, written: bool, limits: Limits, walk: &[i8]) -> u32
+    requires { ⌜ (Charted f) × (GroundOf (f .nest) g) × (Along (f .nest) (now walk)) ⌝ }
+    ensures { λ r. ⌜ r ≡ refusal (streamTests limits (f .nest) written (f .stream)) ⌝ }
 {
-    let map = s.map;
-    if stream_lines::low_rank(map) {
+    if stream_tests::rank_refused(f) {
         11
-    } else if stream_lines::still(n, map) {
+    } else if stream_tests::line_refused(f) {
         12
     } else {
-        move_refusal(n, s, written, limits, walk)
+        move_refusal(f, g, written, limits, walk)
     }
 }

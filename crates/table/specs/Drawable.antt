@@ -21,10 +21,11 @@ use Rattle.decode.specs.Offsets.{Sized}
 use Rattle.decode.specs.Refusals.{passed}
 use Rattle.declines.specs.Tests.{tableLengths}
 use Rattle.numbering.specs.Ranges.{Bounded}
-use Rattle.stream_lines.specs.InRange.{nest-bounded}
-use Rattle.stream_lines.specs.Accepted.{accepted-within}
+use Rattle.survey.specs.InRange.{nest-bounded}
+use Rattle.survey.specs.Accepted.{accepted-within}
 use Rattle.lanes.specs.Flow.{Laid}
-use Rattle.lanes.specs.Accepted.{streams-used, laid-stream}
+use Rattle.survey.specs.Surveys.{streams-used}
+use Rattle.lanes.specs.Accepted.{laid-stream}
 use Rattle.process_row.specs.declared.Shape.{Shape}
 use Rattle.table.specs.Columns.{refusedFor, Drawn, Columns}
 

@@ -33,6 +33,9 @@ pub record Rows (n : ℕ) (m : Matrix) : Type 0 where
 pub wider : {v : V3} {m n : ℕ} → T (leb m n) → Within m v → Within n v
 wider t h = record { xs = Abs-wider t (h .xs); ys = Abs-wider t (h .ys); zs = Abs-wider t (h .zs) }
 
+pub rows-wider : {w : Matrix} {m n : ℕ} → T (leb m n) → Rows m w → Rows n w
+rows-wider t h = record { top = wider t (h .top); low = wider t (h .low) }
+
 -- a divided vector is no longer
 pub over-within : {v : V3} {n : ℕ} (d : ℕ) → Within n v → Within n (over v d)
 over-within d h = record { xs = Abs-quot d (h .xs); ys = Abs-quot d (h .ys); zs = Abs-quot d (h .zs) }

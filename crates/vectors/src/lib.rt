@@ -7,7 +7,7 @@ ghost use Rattle.integers.specs.Differences.{Abs};
 ghost use Rattle.integers.specs.Vectors.{dot, cross, neg3, neg2, shift3, shift2, image};
 ghost use Rattle.meaning.specs.Accept.{against};
 ghost use Rattle.meaning.specs.Limits.{gaugeLimits};
-ghost use Rattle.meaning.specs.Loops.{turn, shortOf, lineOf};
+ghost use Rattle.meaning.specs.Loops.{turn, shortOf, lineOf, divisor};
 ghost use Rattle.vectors.specs.Within.{Within, Rows, Within2};
 use integers::Matrix;
 use integers::V2;
@@ -117,7 +117,7 @@ pub fn turned(step: V3, v: V3) -> V3
 }
 
 // The cross product of a matrix's rows shortened, and the divisor that was taken out.
-pub fn short_of(m: Matrix) -> Short
+fn short_of(m: Matrix) -> Short
     requires { ⌜ Rows 4 m ⌝ }
     ensures { λ r. ⌜ (r ≡ shortOf m) × (Within 200 (r .vector)) ⌝ }
 {
@@ -126,15 +126,18 @@ pub fn short_of(m: Matrix) -> Short
     lattice::shorten(cross_of(top, low))
 }
 
-// The line of a matrix; place's is the increment.
-pub fn line_of(n: Nest, m: Matrix) -> V3
+// The line of a matrix, with the divisor that its shortening took out; place's is the increment.
+pub fn line_of(n: Nest, m: Matrix) -> Short
     requires { ⌜ (Within 8 (n .step)) × (Rows 4 m) ⌝ }
-    ensures { λ r. ⌜ (r ≡ lineOf n m) × (Within 200 r) ⌝ }
+    ensures { λ r. ⌜ (r .vector ≡ lineOf n m) × (Within 200 (r .vector)) × (r .divisor ≡ divisor m) ⌝ }
 {
     let short = short_of(m);
     let v = short.vector;
     let step = n.step;
-    turned(step, v)
+    Short {
+        vector: turned(step, v),
+        divisor: short.divisor,
+    }
 }
 
 // Whether the first non-zero component of v has the other sign than the direction of that loop.

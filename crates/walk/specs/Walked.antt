@@ -24,6 +24,8 @@ use Rattle.geometry.specs.Places.{getD-in}
 use Rattle.geometry.specs.Walk.{walk-length, nothing-else}
 use Rattle.vectors.specs.Within.{Within}
 use Rattle.numbering.specs.Ranges.{Bounded, point-small}
+use Rattle.survey.specs.declared.Ground.{Ground}
+use Rattle.survey.specs.Surveys.{GroundOf}
 use Rattle.layout.specs.Spans.{processOf, Spans}
 use Rattle.walk.specs.Words.{vectorAt, Lined, lined-none}
 
@@ -66,9 +68,9 @@ pub record Walkable (n : Nest) : Type 0 where
   pub processes : length (processes n) ≤ 1024
 
 -- what its walk is stored by: the words of its processes
-pub record Walking (n : Nest) (many : ℕ) (spans : List ℕ) (w : List ℤ) : Type 0 where
+pub record Walking (n : Nest) (g : Ground) (spans : List ℕ) (w : List ℤ) : Type 0 where
   pub walkable : Walkable n
-  pub counted : many ≡ length (processes n)
+  pub ground : GroundOf n g
   pub held : Spans n spans
   pub words : length spans ≡ 3072
   pub room : length w ≡ 12288

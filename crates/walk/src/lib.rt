@@ -19,6 +19,7 @@ ghost use Rattle.walk.specs.Walked.{Walked, Walking, Lining};
 use integers::V3;
 use meaning::INSTANCES;
 use meaning::Nest;
+use survey::Ground;
 
 // The words of a walk: three for each instance.
 pub const WALK: usize = 3 * INSTANCES;
@@ -80,12 +81,12 @@ fn put_line(n: Nest, increment: V3, spans: &[u32], p: usize, from: usize, walk: 
 }
 
 // The lines of all processes, in row order.
-pub fn fill_walk(n: Nest, processes: u32, spans: &[u32], walk: &mut [i8])
-    requires { ⌜ Walking n processes (now spans) (now walk) ⌝ }
+pub fn fill_walk(n: Nest, g: Ground, spans: &[u32], walk: &mut [i8])
+    requires { ⌜ Walking n g (now spans) (now walk) ⌝ }
     ensures { λ r. ⌜ Walked n (now (walk .exit)) ⌝ }
 {
-    let place = n.place;
-    let increment = vectors::line_of(n, place);
+    let increment = g.increment;
+    let processes = g.processes;
     let mut from: usize = 0;
     let mut p: u32 = 0;
     while p < processes {

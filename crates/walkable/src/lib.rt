@@ -1,20 +1,19 @@
-// Refusals 33 and 1 to 10, those in which no stream has a part: what none of them refuses has a walk. Then the words of the processes and
-// of the walk are filled, once for all streams.
+// Refusals 33 and 1 to 10, those in which no stream has a part: what none of them refuses has a walk. The survey of a description is made
+// here, once a call, and the words of its processes and of its walk are filled. In specs/, Walkable says what is then known of its loops.
 ghost use mathlib.Core.Path.{_≡_};
 ghost use mathlib.Core.List.{[], _∷_};
 ghost use Rattle.meaning.specs.Tests.{_if_, refusal};
 ghost use Rattle.meaning.specs.Limits.{limitsOf, gaugeLimits, UpTo};
-ghost use Rattle.meaning.specs.Description.{descriptionOf};
 ghost use Rattle.meaning.specs.Accept.{refused33};
 ghost use Rattle.meaning.specs.Calls.{orElse};
 ghost use Rattle.meaning.specs.Walk.{walkRefusal};
-ghost use Rattle.decode.specs.Ranged.{Decoded};
-ghost use Rattle.numbering.specs.Ranges.{Bounded};
+ghost use Rattle.survey.specs.Stages.{earlyTests};
+ghost use Rattle.survey.specs.Surveys.{SurveyOf};
 ghost use Rattle.layout.specs.Spans.{Spans};
-ghost use Rattle.walk.specs.Walked.{Along, Walkable};
+ghost use Rattle.walk.specs.Walked.{Along};
 use layout::SPANS;
 use meaning::Limits;
-use meaning::Nest;
+use survey::Survey;
 use walk::WALK;
 
 // Refusal 33: another board word than 0 and 1.
@@ -31,61 +30,59 @@ fn first_of(first: u32, second: u32) -> u32
     if first == 0 { second } else { first }
 }
 
-// The first of the refusals 33 and 1 to 10 that applies, 0 if none does.
-fn walk_refusal(s: &[u8], limits: Limits) -> u32
-    ensures { λ r. ⌜ r ≡ walkRefusal limits (now (s .entry)) ⌝ }
+// The first of the refusals 33 and 1 to 5 that applies, 0 if none does.
+fn early_refusal(s: &[u8], limits: Limits) -> u32
+    ensures { λ r. ⌜ r ≡ refusal (earlyTests limits (now (s .entry))) ⌝ }
 {
     let board = board_refusal(limits);
     let words = refuse_words::refusal(s);
-    let r = first_of(board, words);
-    if r == 0 {
-        let n = nest_of(s);
-        refuse_nest::nest_refusal(n, limits)
+    first_of(board, words)
+}
+
+// The survey of a description, with the first of the refusals 33 and 1 to 10 that applies, 0 if none does.
+fn nest_survey(s: &[u8], limits: Limits) -> Survey
+    ensures { λ r. ⌜ (r .refusal ≡ walkRefusal limits (now (s .entry))) × (r .refusal ≡ 0 → SurveyOf (now (s .entry)) r) ⌝ }
+{
+    let early = early_refusal(s, limits);
+    if early == 0 {
+        let mut v = survey::survey_of(s);
+        let n = v.description.nest;
+        let g = v.ground;
+        v.refusal = refuse_nest::nest_refusal(n, g, limits);
+        v
     } else {
-        r
+        survey::refused(early)
     }
 }
 
-// The loops of bytes that may be decoded.
-pub fn nest_of(s: &[u8]) -> Nest
-    requires { ⌜ Decoded (now s) ⌝ }
-    ensures { λ r. ⌜ (r ≡ descriptionOf (now (s .entry)) .nest) × (Bounded r) ⌝ }
-{
-    decode::description(s).nest
-}
-
-// The words of the processes and of the walk.
-fn fill_nest(n: Nest, spans: &mut [u32; SPANS], walk: &mut [i8; WALK])
-    requires { ⌜ Walkable n ⌝ }
-    ensures { λ r. ⌜ (Spans n (now (spans .exit))) × (Along n (now (walk .exit))) ⌝ }
-{
-    let processes = layout::fill_processes(n, spans);
-    walk::fill_walk(n, processes, spans, walk);
-}
-
-// The same of a description, if there is no such refusal, else they stay.
-pub fn walk_within(s: &[u8], limits: Limits, spans: &mut [u32; SPANS], walk: &mut [i8; WALK]) -> u32
+// The same; if there is no such refusal, the words of the processes are filled, else they stay.
+pub fn survey_within(s: &[u8], limits: Limits, spans: &mut [u32; SPANS]) -> Survey
     requires { ⌜ UpTo limits gaugeLimits ⌝ }
-    ensures { λ r. ⌜ (r ≡ walkRefusal limits (now (s .entry)))
-        × (r ≡ 0 → (Spans (descriptionOf (now (s .entry)) .nest) (now (spans .exit)))
-        × (Along (descriptionOf (now (s .entry)) .nest) (now (walk .exit))))
-        × ((r ≡ 0 → ⊥) → (now (spans .exit) ≡ now (spans .entry)) × (now (walk .exit) ≡ now (walk .entry))) ⌝ }
+    ensures { λ r. ⌜ (r .refusal ≡ walkRefusal limits (now (s .entry)))
+        × (r .refusal ≡ 0 → (SurveyOf (now (s .entry)) r) × (Spans (r .description .nest) (now (spans .exit))))
+        × ((r .refusal ≡ 0 → ⊥) → now (spans .exit) ≡ now (spans .entry)) ⌝ }
 {
-    let refusal = walk_refusal(s, limits);
-    if refusal == 0 {
-        let n = nest_of(s);
-        fill_nest(n, spans, walk);
+    let v = nest_survey(s, limits);
+    if v.refusal == 0 {
+        let n = v.description.nest;
+        let g = v.ground;
+        layout::fill_processes(n, g, spans);
     }
-    refusal
+    v
 }
 
-// The number by which 33 and 1 to 10 refuse a description, and then no word changes, or 0, and then the words of its processes and of its
-// walk are filled.
-pub fn walk_of(board: u32, s: &[u8], spans: &mut [u32; SPANS], walk: &mut [i8; WALK]) -> u32
-    ensures { λ r. ⌜ (r ≡ walkRefusal (limitsOf board) (now (s .entry)))
-        × (r ≡ 0 → (Spans (descriptionOf (now (s .entry)) .nest) (now (spans .exit)))
-        × (Along (descriptionOf (now (s .entry)) .nest) (now (walk .exit))))
-        × ((r ≡ 0 → ⊥) → (now (spans .exit) ≡ now (spans .entry)) × (now (walk .exit) ≡ now (walk .entry))) ⌝ }
+// The same on a board, and so of the words of the walk.
+pub fn walk_of(board: u32, s: &[u8], spans: &mut [u32; SPANS], walk: &mut [i8; WALK]) -> Survey
+    ensures { λ r. ⌜ (r .refusal ≡ walkRefusal (limitsOf board) (now (s .entry)))
+        × (r .refusal ≡ 0 → (SurveyOf (now (s .entry)) r) × (Spans (r .description .nest) (now (spans .exit)))
+        × (Along (r .description .nest) (now (walk .exit))))
+        × ((r .refusal ≡ 0 → ⊥) → (now (spans .exit) ≡ now (spans .entry)) × (now (walk .exit) ≡ now (walk .entry))) ⌝ }
 {
-    walk_within(s, boards::limits_of(board), spans, walk)
+    let v = survey_within(s, boards::limits_of(board), spans);
+    if v.refusal == 0 {
+        let n = v.description.nest;
+        let g = v.ground;
+        walk::fill_walk(n, g, spans, walk);
+    }
+    v
 }

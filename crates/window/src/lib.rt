@@ -20,7 +20,7 @@ ghost use Rattle.pipe_parts.specs.Starts.{Counting};
 ghost use Rattle.figures.specs.Shares.{Sharing, Described};
 ghost use Rattle.window.specs.Search.{counted, searched, looking, visited, streamLengths, allLengths};
 ghost use Rattle.window.specs.Pieces.{Windowed, ownTests, pieceOf, nothing, Within};
-use lanes::Flow;
+use survey::Flow;
 use lanes::LANES;
 use layout::SPANS;
 use meaning::Description;

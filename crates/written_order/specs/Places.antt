@@ -26,7 +26,7 @@ use Rattle.vectors.specs.Within.{Rows}
 use Rattle.numbering.specs.declared.Extent.{Extent}
 use Rattle.numbering.specs.Ranges.{Bounded}
 use Rattle.numbering.specs.Extents.{boxed, image-inside}
-use Rattle.stream_lines.specs.InRange.{InRange, in-range}
+use Rattle.survey.specs.InRange.{InRange, in-range}
 use Rattle.elements.specs.Counts.{Few, in-use, start-next, start-most}
 use Rattle.body.specs.Fit.{Runnable}
 use Rattle.written_order.specs.Columns.{column, column-length, column-other, column-at}

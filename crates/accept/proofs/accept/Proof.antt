@@ -6,9 +6,9 @@ use native.Mathlib.Omega.{arith}
 use denote.Ref.{now}
 use Rattle.meaning.specs.Accept.{figures, divisors}
 use Rattle.geometry.specs.UpTo.{by-board}
-use Rattle.stream_lines.specs.Accepted.{accepted-within}
+use Rattle.survey.specs.Accepted.{accepted-within}
 use Rattle.divisors.specs.Used.{Used}
-use Rattle.lanes.specs.Accepted.{streams-used}
+use Rattle.survey.specs.Surveys.{streams-used}
 use Rattle.figures.specs.Shares.{described}
 use Rattle.accept.specs.Call.{accepts, refuses}
 use Rattle.accept.proofs.accept.Statement.{statement}

@@ -2,7 +2,7 @@
 use mathlib.Core.Path.{sym, _∙_}
 use native.Mathlib.Omega.{arith}
 use borrow.Author.Needs.{needs}
-use Rattle.stream_lines.specs.Accepted.{walk-within}
+use Rattle.survey.specs.Accepted.{walk-within}
 use Rattle.compare.proofs.walk_lines.Statement.{statement}
 use Rattle.compare.proofs.walk_lines.Tie as tie
 

@@ -16,8 +16,11 @@ Inv-loop s z out₀ n i₀ out i = (i ≤ n) × (length out ≡ 8) × (out ≡ f
 abbrev μ-loop : tie.MeasureT-loop
 μ-loop s z out₀ n i₀ out i = n - i
 
+no-line-requires : tie.Need-no-line-requires Inv-loop μ-loop
+no-line-requires c κs = search needs
+
 loop-holds : tie.Need-loop-holds Inv-loop μ-loop
-loop-holds c = (omega arith, refl, sym (fill-zero _ _))
+loop-holds c = (omega arith, refl, rw (c .no-line .ensures) (sym (fill-zero _ _)))
 
 line-of-requires : tie.Need-line-of-requires Inv-loop μ-loop
 line-of-requires c κs = search needs
@@ -50,6 +53,7 @@ lines-spec =
     (tie.spec
     Inv-loop
     μ-loop
+    no-line-requires
     loop-holds
     line-of-requires
     cast-out

@@ -3,7 +3,7 @@ use mathlib.Core.Path.{_≡_, ap}
 use Prim.Native.Nat.{ℕ}
 use Rattle.lattice.specs.declared.Short.{Short}
 use Rattle.meaning.specs.declared.Divisors.{Divisors}
-use Rattle.stream_lines.specs.InRange.{nest-bounded}
+use Rattle.survey.specs.InRange.{nest-bounded}
 use borrow.Author.Needs.{needs}
 use Rattle.divisors.proofs.divisors_of.Statement.{statement}
 use Rattle.divisors.proofs.divisors_of.Tie as tie

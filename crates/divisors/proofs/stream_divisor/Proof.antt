@@ -5,7 +5,7 @@ use Rattle.lattice.specs.declared.Short.{Short}
 use Rattle.meaning.specs.declared.Stream.{Stream}
 use Rattle.vectors.specs.Within.{Rows}
 use Rattle.geometry.specs.Divisors.{past-use}
-use Rattle.stream_lines.specs.InRange.{in-range}
+use Rattle.survey.specs.InRange.{in-range}
 use Rattle.divisors.specs.Used.{of-stream}
 use borrow.Author.Needs.{needs}
 use Rattle.divisors.proofs.stream_divisor.Statement.{statement}

@@ -6,7 +6,7 @@ use lib.ListN.{length, length-map}
 use Rattle.meaning.specs.Lists.{total}
 use Rattle.meaning.specs.Description.{streamsOf}
 use Rattle.meaning.specs.Body.{streamStart}
-use Rattle.stream_lines.specs.InRange.{in-range}
+use Rattle.survey.specs.InRange.{in-range}
 use Rattle.elements.specs.Counts.{start-next, start-most}
 use borrow.Author.Needs.{needs}
 use Rattle.elements.proofs.elements_in.Statement.{statement}

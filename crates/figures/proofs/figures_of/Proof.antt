@@ -7,7 +7,7 @@ use lib.ListN.{length}
 use Rattle.meaning.specs.Space.{Box, points}
 use Rattle.lanes.specs.All.{zero-words}
 use Rattle.figures.specs.Shares.{figures-are}
-use Rattle.stream_lines.specs.StateWords.{process-words}
+use Rattle.survey.specs.StateWords.{process-words}
 use Rattle.figures.proofs.figures_of.Statement.{statement}
 use Rattle.figures.proofs.figures_of.Tie as tie
 

@@ -2,7 +2,7 @@
 -- Assumes nothing.
 use borrow.Author.Needs.{needs}
 use native.Mathlib.Omega.{arith}
-use Rattle.stream_lines.specs.StateWords.{end-words}
+use Rattle.survey.specs.StateWords.{end-words}
 use Rattle.figures.proofs.joined.Statement.{statement}
 use Rattle.figures.proofs.joined.Tie as tie
 

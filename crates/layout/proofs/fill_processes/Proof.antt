@@ -7,25 +7,14 @@ use borrow.Rule.Slice.PartMut.{mid-len}
 use borrow.Author.Needs.{needs}
 use Rattle.meaning.specs.Accept.{against}
 use Rattle.vectors.specs.Within.{directions-small}
-use Rattle.sweeps.specs.Tables.{table-listed}
-use Rattle.layout.specs.Spans.{process-table, first-le, ends-are}
+use Rattle.sweeps.specs.Tables.{filled-table, table-listed}
+use Rattle.layout.specs.Spans.{first-le, ends-are}
 use Rattle.layout.proofs.fill_processes.Statement.{statement}
 use Rattle.layout.proofs.fill_processes.Tie as tie
 
-line-of-requires : tie.Need-line-of-requires
-line-of-requires c κs = search needs
-
 against-requires : tie.Need-against-requires
-against-requires c κs = (directions-small (c .before .before .before .before .pre .0 .directed), c .line-of .ensures .1)
-
-extent-of-requires : tie.Need-extent-of-requires
-extent-of-requires c κs = search needs
-
-size-of-requires : tie.Need-size-of-requires
-size-of-requires c κs = search needs
-
-instance-count-requires : tie.Need-instance-count-requires
-instance-count-requires c κs = search needs
+against-requires c κs =
+    let s = c .before .before .before .before .before in (directions-small (s .pre .0 .directed), s .pre .1 .increment-small)
 
 slice-aggregate-fill-numbers : tie.Need-slice-aggregate-fill-numbers
 slice-aggregate-fill-numbers c = search needs
@@ -39,11 +28,9 @@ slice-aggregate-fill-spans c = search needs
 fill-spans-requires : tie.Need-fill-spans-requires
 fill-spans-requires c κs =
     let f = c .before .before .before in
-    let i = f .before .before in
-    let s = i .before .before .before .before .before .before .before .before in
-    let t = process-table _ (f .fill-numbers .ensures) (i .instance-count .ensures .0) (i .before .size-of .ensures .0)
-    (i .before .before .extent-of .ensures .0) in
-    record { table = table-listed (s .pre .0 .directed) t; few = omega (arith, t .sized, s .pre .3); words = s .pre .4 }
+    let s = f .before .before .before .before .before .before .before .before in
+    let t = filled-table _ (f .fill-numbers .ensures) (s .pre .1 .instances-is) (s .pre .1 .processes-is) in
+    record { table = table-listed (s .pre .0 .directed) t; few = omega (arith, t .sized, s .pre .4); words = s .pre .5 }
 
 sub-fill-firsts : tie.Need-sub-fill-firsts
 sub-fill-firsts c = search needs
@@ -59,15 +46,13 @@ fill-firsts-requires c κs =
     let w = c .before .before .before in
     let v = w .fill-spans .last .1 .1 .1 .1 .0 in
     let f = w .before .before .before .before in
-    let i = f .before .before in
-    let a = i .before .before .before in
-    let s = a .before .before .before .before .before in
-    let t = process-table _ (f .fill-numbers .ensures) (i .instance-count .ensures .0) (i .before .size-of .ensures .0)
-    (i .before .before .extent-of .ensures .0) in
-    let b = a .against .ensures ∙ ap (against (s .args .n .direction)) (a .before .line-of .ensures .0) in (
+    let a = f .before .before in
+    let s = a .before .before .before .before .before .before in
+    let t = filled-table _ (f .fill-numbers .ensures) (s .pre .1 .instances-is) (s .pre .1 .processes-is) in
+    let b = a .against .ensures ∙ ap (against (s .args .n .direction)) (s .pre .1 .increment-is) in (
       s .pre .0,
-      omega (arith, t .sized, s .pre .3, mid-len 1024 2048 v (omega (arith, w .fill-spans .kept .1 .1 .1 .1 .0, s .pre .4))),
-      first-le (s .pre .1) t b (w .fill-spans .ensures) (omega (arith, t .sized, s .pre .3)),
+      omega (arith, t .sized, s .pre .4, mid-len 1024 2048 v (omega (arith, w .fill-spans .kept .1 .1 .1 .1 .0, s .pre .5))),
+      first-le (s .pre .2) t b (w .fill-spans .ensures) (omega (arith, t .sized, s .pre .4)),
     )
 
 same-length : tie.Need-same-length
@@ -77,26 +62,18 @@ returns : tie.Need-returns
 returns c =
     let w = c .before .before .before .before .before .before in
     let f = w .before .before .before .before in
-    let i = f .before .before in
-    let a = i .before .before .before in
-    let s = a .before .before .before .before .before in
-    let t = process-table _ (f .fill-numbers .ensures) (i .instance-count .ensures .0) (i .before .size-of .ensures .0)
-    (i .before .before .extent-of .ensures .0) in
-    let b = a .against .ensures ∙ ap (against (s .args .n .direction)) (a .before .line-of .ensures .0) in (
-      t .sized,
-      ends-are (s .pre .1) t b (w .fill-spans .ensures) (omega (arith, t .sized, s .pre .3)) (s .pre .0)
-          (w .fill-spans .kept .1 .1 .1 .1 .0 ∙ s .pre .4) _ (c .before .before .fill-firsts .ensures),
-    )
+    let a = f .before .before in
+    let s = a .before .before .before .before .before .before in
+    let t = filled-table _ (f .fill-numbers .ensures) (s .pre .1 .instances-is) (s .pre .1 .processes-is) in
+    let b = a .against .ensures ∙ ap (against (s .args .n .direction)) (s .pre .1 .increment-is) in
+    ends-are (s .pre .2) t b (w .fill-spans .ensures) (omega (arith, t .sized, s .pre .4)) (s .pre .0)
+    (w .fill-spans .kept .1 .1 .1 .1 .0 ∙ s .pre .5) _ (c .before .before .fill-firsts .ensures)
 
 pub fill-processes-spec : {M : Type 1} → statement M
 fill-processes-spec =
     tie.close
     (tie.spec
-    line-of-requires
     against-requires
-    extent-of-requires
-    size-of-requires
-    instance-count-requires
     slice-aggregate-fill-numbers
     fill-numbers-requires
     slice-aggregate-fill-spans

@@ -3,7 +3,7 @@
 use mathlib.Core.Path.{sym, _∙_}
 use borrow.Author.Needs.{needs}
 use Rattle.meaning.specs.Limits.{gaugeLimits}
-use Rattle.stream_lines.specs.Accepted.{accepted-within}
+use Rattle.survey.specs.Accepted.{accepted-within}
 use Rattle.opening.specs.Opening.{grounds}
 use Rattle.opening.specs.Opened.{fits}
 use Rattle.named_step.specs.Named.{rows-of, named-inside}

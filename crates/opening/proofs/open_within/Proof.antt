@@ -7,7 +7,7 @@ use borrow.Author.Needs.{needs}
 use Rattle.meaning.specs.declared.Description.{Description}
 use Rattle.meaning.specs.Rules.{memoryOf}
 use Rattle.geometry.specs.UpTo.{by-gauge}
-use Rattle.stream_lines.specs.Accepted.{accepted-within}
+use Rattle.survey.specs.Accepted.{accepted-within}
 use Rattle.layout.specs.Spans.{Spans}
 use Rattle.opening.specs.Opening.{Grounds, grounds, opened, refused}
 use Rattle.opening.proofs.open_within.Statement.{statement}

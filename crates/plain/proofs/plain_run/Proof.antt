@@ -4,7 +4,7 @@ use mathlib.Core.Path.{sym, _∙_, subst}
 use denote.Ref.{now}
 use borrow.Author.Needs.{needs}
 use Rattle.geometry.specs.UpTo.{by-board}
-use Rattle.stream_lines.specs.Accepted.{accepted-within}
+use Rattle.survey.specs.Accepted.{accepted-within}
 use Rattle.written_order.specs.Places.{Fitting}
 use Rattle.plain.specs.Call.{accepted-fitting, accepted-call, refused-call}
 use Rattle.plain.proofs.plain_run.Statement.{statement}

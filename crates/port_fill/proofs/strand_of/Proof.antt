@@ -5,7 +5,7 @@ use mathlib.Core.Path.{ap}
 use Prim.Native.Nat.{ℕ}
 use native.Mathlib.Omega.{arith}
 use Rattle.port_fill.specs.Strung.{strandFrom, strand-narrow}
-use Rattle.stream_lines.specs.StateWords.{process-words}
+use Rattle.survey.specs.StateWords.{process-words}
 use Rattle.port_fill.proofs.strand_of.Statement.{statement}
 use Rattle.port_fill.proofs.strand_of.Tie as tie
 

@@ -2,7 +2,7 @@
 use borrow.Author.Needs.{needs}
 use mathlib.Core.Path.{refl}
 use native.Mathlib.Omega.{arith}
-use Rattle.stream_lines.specs.StateWords.{end-words}
+use Rattle.survey.specs.StateWords.{end-words}
 use Rattle.port_rows.proofs.end_at.Statement.{statement}
 use Rattle.port_rows.proofs.end_at.Tie as tie
 

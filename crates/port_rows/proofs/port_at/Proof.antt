@@ -1,7 +1,7 @@
 -- `port_rows::port_at` meets its contract. Assumes nothing.
 use mathlib.Core.Path.{refl}
 use native.Mathlib.Omega.{arith}
-use Rattle.stream_lines.specs.StateWords.{process-words}
+use Rattle.survey.specs.StateWords.{process-words}
 use Rattle.port_rows.proofs.port_at.Statement.{statement}
 use Rattle.port_rows.proofs.port_at.Tie as tie
 

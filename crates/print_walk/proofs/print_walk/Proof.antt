@@ -1,7 +1,7 @@
 -- `print_walk::print_walk` is safe and ends. Assumes nothing.
 use mathlib.Core.Path.{sym, _∙_}
 use borrow.Author.Needs.{needs}
-use Rattle.stream_lines.specs.Accepted.{walk-within}
+use Rattle.survey.specs.Accepted.{walk-within}
 use Rattle.print_walk.proofs.print_walk.Statement.{statement}
 use Rattle.print_walk.proofs.print_walk.Tie as tie
 

@@ -1,66 +1,63 @@
 -- `refuse::streams_refusal` meets its contract: what is left of the streams has the refusal of all. Assumes nothing.
-use mathlib.Core.Path.{_≡_, refl, _∙_}
+use mathlib.Core.Path.{_≡_, refl, sym, _∙_, ap₂, subst}
 use Prim.Native.Nat.{_-_}
 use native.Mathlib.Omega.{arith}
-use lib.ListN.{length, length-map}
+use lib.ListN.{getD}
+use Rattle.meaning.specs.declared.Nest.{Nest}
+use Rattle.meaning.specs.declared.Stream.{Stream}
 use Rattle.meaning.specs.Tests.{refusal}
-use Rattle.meaning.specs.Description.{streamsOf}
-use Rattle.meaning.specs.Accept.{testsFrom}
-use Rattle.stream_lines.specs.InRange.{in-range}
-use Rattle.stream_lines.specs.Stages.{from, stream-passed, stream-refused, streams-end}
+use Rattle.meaning.specs.Description.{streamsOf, noStream, written}
+use Rattle.meaning.specs.Accept.{streamTests, testsFrom}
+use Rattle.survey.specs.declared.Ground.{Ground}
+use Rattle.survey.specs.InRange.{in-range}
+use Rattle.survey.specs.Stages.{from, stream-passed, stream-refused, streams-end}
+use Rattle.survey.specs.Surveys.{GroundOf, FlowOf, charted, flow-is}
+use Rattle.walk.specs.Walked.{Along}
 use borrow.Author.Needs.{needs}
 use Rattle.refuse.proofs.streams_refusal.Statement.{statement}
 use Rattle.refuse.proofs.streams_refusal.Tie as tie
-use Rattle.refuse.proofs.streams_refusal.Reads as reads
-use Rattle.refuse.proofs.streams_refusal.Lts as lts
-use Rattle.decode.proofs.stream.Reads as stream-reads
-use Rattle.decode.proofs.written.Reads as written-reads
-use Rattle.refuse_stream.proofs.stream_refusal.Reads as stream-refusal-reads
 
 abbrev Inv-loop : tie.InvT-loop
-Inv-loop d limits walk n m i₀ i = from limits d i ≡ refusal (testsFrom limits d 0 (streamsOf d))
+Inv-loop v limits walk d g m i₀ i = from limits (v .description) i ≡ refusal (testsFrom limits (v .description) 0 (streamsOf (v .description)))
 
 abbrev μ-loop : tie.MeasureT-loop
-μ-loop d limits walk n m i₀ i = m - i
-
--- so many its type has
-six : (b : lts.At-loop (
-  stream-reads.Asked,
-  stream-reads.Learnt,
-  written-reads.Asked,
-  written-reads.Learnt,
-  stream-refusal-reads.Asked,
-  stream-refusal-reads.Learnt,
-) reads.Pre reads.Post Inv-loop μ-loop)
-    → length (b .before .before .args .d .streams) ≡ 6
-six b = rw length-map at (b .before .before .good .0 .1 .1 .1 .1 .0 .1 .0 .1)
+μ-loop v limits walk d g m i₀ i = v .description .sizes .streams - i
 
 loop-holds : tie.Need-loop-holds Inv-loop μ-loop
 loop-holds c = refl
 
-cast-stream : tie.Need-cast-stream Inv-loop μ-loop
-cast-stream c = search needs
+cast-flow-at : tie.Need-cast-flow-at Inv-loop μ-loop
+cast-flow-at c = search needs
 
-stream-requires : tie.Need-stream-requires Inv-loop μ-loop
-stream-requires c κs = search needs
+flow-at-requires : tie.Need-flow-at-requires Inv-loop μ-loop
+flow-at-requires c κs = omega (arith, c .loop-test .taken, c .before .before .before .before .pre .0 .sized .most-streams)
 
 written-requires : tie.Need-written-requires Inv-loop μ-loop
 written-requires c κs = search needs
 
 stream-refusal-requires : tie.Need-stream-refusal-requires Inv-loop μ-loop
 stream-refusal-requires c κs =
-    let b = c .before .before .before in
-    let p = b .before .before .pre in
-    (in-range (p .0 .nest) (rw (← c .before .stream .ensures) at (p .0 .streams (b .loop .i))), p .1)
+    let l = c .before .before .before .loop in
+    let s = c .before .before .before .before .before .before in
+    let k = flow-is (s .pre .1) (l .i) (c .before .before .loop-test .taken) (c .before .flow-at .ensures) in (
+      charted (in-range (s .pre .0 .nest) (s .pre .0 .streams (l .i))) k,
+      subst (λ (n : Nest). GroundOf n (s .args .v .ground)) (sym (k .nest-is)) (s .pre .1 .ground),
+      subst (λ (n : Nest). Along n (s .args .walk .now)) (sym (k .nest-is)) (s .pre .2),
+    )
 
 returns : tie.Need-returns Inv-loop μ-loop
 returns c =
-    let e = c .before .before .before in
-    let b = e .before .before in
-    let a = b .before .before in
-    stream-refused (a .args .limits) (a .args .d) (a .pre .0 .sized .most-streams) (six b) (b .loop .i) (omega arith) (e .stream .ensures)
-    (rw (c .before .before .written .ensures) at (c .before .stream-refusal .ensures)) (c .if1 .taken)
-    ∙ b .loop .inv
+    let w = c .before .before in
+    let l = w .before .before .before .loop in
+    let s = w .before .before .before .before .before .before in
+    let t = w .before .before .loop-test .taken in
+    let d = s .args .v .description in
+    let k = flow-is (s .pre .1) (l .i) t (w .before .flow-at .ensures) in
+    let e = rw (w .written .ensures) at (c .before .stream-refusal .ensures) in
+    stream-refused (s .args .limits) d (s .pre .1 .in-use) (l .i) t refl
+    (e ∙ ap₂ (λ (n : Nest) (r : Stream). refusal (streamTests (s .args .limits) n (written d (l .i)) r)) (k .nest-is) (k .stream-is))
+    (c .if1 .taken)
+    ∙ l .inv
 
 add-i : tie.Need-add-i Inv-loop μ-loop
 add-i c = search needs
@@ -70,18 +67,23 @@ loop-less c = search needs
 
 loop-again : tie.Need-loop-again Inv-loop μ-loop
 loop-again c =
-    let e = c .before .before .before in
-    let b = e .before .before in
-    let a = b .before .before in
-    stream-passed (a .args .limits) (a .args .d) (a .pre .0 .sized .most-streams) (six b) (b .loop .i) (omega arith) (e .stream .ensures)
-    (rw (c .before .before .written .ensures) at (c .before .stream-refusal .ensures)) (c .if1 .left)
-    ∙ b .loop .inv
+    let w = c .before .before in
+    let l = w .before .before .before .loop in
+    let s = w .before .before .before .before .before .before in
+    let t = w .before .before .loop-test .taken in
+    let d = s .args .v .description in
+    let k = flow-is (s .pre .1) (l .i) t (w .before .flow-at .ensures) in
+    let e = rw (w .written .ensures) at (c .before .stream-refusal .ensures) in
+    stream-passed (s .args .limits) d (s .pre .1 .in-use) (l .i) t refl
+    (e ∙ ap₂ (λ (n : Nest) (r : Stream). refusal (streamTests (s .args .limits) n (written d (l .i)) r)) (k .nest-is) (k .stream-is))
+    (c .if1 .left)
+    ∙ l .inv
 
 returns-2 : tie.Need-returns-2 Inv-loop μ-loop
 returns-2 c =
-    let b = c .before in
-    let a = b .before .before in
-    streams-end (a .args .limits) (a .args .d) (a .pre .0 .sized .most-streams) (six b) (b .loop .i) (omega arith) ∙ b .loop .inv
+    let l = c .before .loop in
+    let s = c .before .before .before .before in
+    streams-end (s .args .limits) (s .args .v .description) (s .pre .1 .in-use) (l .i) (omega (arith, c .loop-test .left)) ∙ l .inv
 
 pub streams-refusal-spec : {M : Type 1} → statement M
 streams-refusal-spec =
@@ -90,8 +92,8 @@ streams-refusal-spec =
     Inv-loop
     μ-loop
     loop-holds
-    cast-stream
-    stream-requires
+    cast-flow-at
+    flow-at-requires
     written-requires
     stream-refusal-requires
     returns

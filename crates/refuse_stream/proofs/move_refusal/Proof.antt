@@ -1,6 +1,6 @@
 -- `refuse_stream::move_refusal` meets its contract: the first of the tests 13 and 14 that applies gives the number; where neither does, the
 -- tests 15 to 17 give it. Assumes nothing.
-use Rattle.stream_lines.specs.Stages.{applies, skips}
+use Rattle.survey.specs.Stages.{applies, skips}
 use borrow.Author.Needs.{needs}
 use Rattle.refuse_stream.proofs.move_refusal.Statement.{statement}
 use Rattle.refuse_stream.proofs.move_refusal.Tie as tie

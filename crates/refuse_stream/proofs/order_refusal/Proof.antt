@@ -1,7 +1,7 @@
 -- `refuse_stream::order_refusal` meets its contract: the first of the tests 15, 16 and 17 that applies gives the number; one that does not
 -- leaves it to those after it. Assumes nothing.
 use Rattle.decode.specs.Refusals.{accepts}
-use Rattle.stream_lines.specs.Stages.{applies, skips}
+use Rattle.survey.specs.Stages.{applies, skips}
 use borrow.Author.Needs.{needs}
 use Rattle.refuse_stream.proofs.order_refusal.Statement.{statement}
 use Rattle.refuse_stream.proofs.order_refusal.Tie as tie

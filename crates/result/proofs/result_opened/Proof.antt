@@ -2,7 +2,7 @@
 -- else it stays. Assumes nothing.
 use borrow.Author.Needs.{needs}
 use Rattle.meaning.specs.Limits.{gaugeLimits}
-use Rattle.stream_lines.specs.Accepted.{accepted-within}
+use Rattle.survey.specs.Accepted.{accepted-within}
 use Rattle.result.specs.Out.{asked}
 use Rattle.result.specs.Call.{fillable, call-done, call-refused}
 use Rattle.result.proofs.result_opened.Statement.{statement}

@@ -2,7 +2,7 @@
 -- is ready. Assumes nothing.
 use borrow.Author.Needs.{needs}
 use Rattle.meaning.specs.Limits.{gaugeLimits}
-use Rattle.stream_lines.specs.Accepted.{accepted-within}
+use Rattle.survey.specs.Accepted.{accepted-within}
 use Rattle.opening.specs.Opening.{grounds}
 use Rattle.run_steps.specs.Turn.{table-asks, flags-ask, starts}
 use Rattle.run.specs.Call.{ran-by}

@@ -5,7 +5,7 @@ use native.Mathlib.Omega.{arith}
 use denote.Ref.{now}
 use borrow.Author.Needs.{needs}
 use Rattle.geometry.specs.UpTo.{by-board}
-use Rattle.stream_lines.specs.Accepted.{accepted-within}
+use Rattle.survey.specs.Accepted.{accepted-within}
 use Rattle.element_places.specs.Order.{placeable}
 use Rattle.meaning.specs.Rules.{memoryOf}
 use Rattle.start.specs.Call.{accepted-call, refused-call}

@@ -2,25 +2,18 @@
 use mathlib.Core.Path.{ap}
 use Prim.Native.Nat.{ℕ}
 use lib.Dec.{ltb}
-use Rattle.stream_lines.specs.Small.{and-goes, and-stops}
-use borrow.Author.Needs.{needs}
+use Rattle.survey.specs.Small.{and-goes, and-stops}
 use Rattle.stream_tests.proofs.hop_refused.Statement.{statement}
 use Rattle.stream_tests.proofs.hop_refused.Tie as tie
 
-moves-requires : tie.Need-moves-requires
-moves-requires c κs = search needs
-
-hop-of-requires : tie.Need-hop-of-requires
-hop-of-requires c κs = search needs
-
 returns : tie.Need-returns
 returns c =
-    let b = c .before .before in
-    let l = b .before .before .args .limits in
-    and-goes (b .before .moves .ensures) (b .if1 .taken) (ap (λ (h : ℕ). ltb (l .hop) h) (c .before .hop-of .ensures))
+    let s = c .before .before .before in
+    and-goes (s .pre .flow .moving-is) (c .before .before .if1 .taken)
+    (ap (λ (h : ℕ). ltb (s .args .limits .hop) h) (s .pre .flow .hop-is))
 
 returns-2 : tie.Need-returns-2
-returns-2 c = and-stops _ (c .before .moves .ensures) (c .if1 .left)
+returns-2 c = and-stops _ (c .before .pre .flow .moving-is) (c .if1 .left)
 
 pub hop-refused-spec : {M : Type 1} → statement M
-hop-refused-spec = tie.close (tie.spec moves-requires hop-of-requires returns returns-2)
+hop-refused-spec = tie.close (tie.spec returns returns-2)

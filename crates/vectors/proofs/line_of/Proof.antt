@@ -18,6 +18,7 @@ returns c =
     let n = c .before .before .before .before .args .n in (
       c .turned .ensures .0 ∙ ap (λ (r : Short). turn (n .step) (r .vector)) (c .before .before .before .short-of .ensures .0),
       c .turned .ensures .1,
+      ap (λ (r : Short). r .divisor) (c .before .before .before .short-of .ensures .0),
     )
 
 pub line-of-spec : {M : Type 1} → statement M

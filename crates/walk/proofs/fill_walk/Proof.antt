@@ -15,14 +15,11 @@ use Rattle.walk.proofs.fill_walk.Statement.{statement}
 use Rattle.walk.proofs.fill_walk.Tie as tie
 
 abbrev Inv-loop : tie.InvT-loop
-Inv-loop n processes spans walk₀ increment from₀ p₀ walk from p =
+Inv-loop n spans walk₀ increment processes from₀ p₀ walk from p =
     (p ≤ processes) × (length walk ≡ length walk₀) × (from ≡ passed n p) × ((k : ℕ) → k < from → vectorAt walk k ≡ getD (walkOf n) k zero3)
 
 abbrev μ-loop : tie.MeasureT-loop
-μ-loop n processes spans walk₀ increment from₀ p₀ walk from p = processes - p
-
-line-of-requires : tie.Need-line-of-requires Inv-loop μ-loop
-line-of-requires c κs = search needs
+μ-loop n spans walk₀ increment processes from₀ p₀ walk from p = processes - p
 
 loop-holds : tie.Need-loop-holds Inv-loop μ-loop
 loop-holds c = (omega arith, refl, passed-none _, λ k h. absurd (omega arith))
@@ -33,17 +30,16 @@ cast-put-line c = search needs
 put-line-requires : tie.Need-put-line-requires Inv-loop μ-loop
 put-line-requires c κs =
     let l = c .before .before .loop in
-    let i = c .before .before .before .line-of in
-    let s = c .before .before .before .before .before .before in
+    let s = c .before .before .before .before .before in
     let p = s .pre in
-    let h : l .p < length (processesOf (s .args .n)) = omega (arith, p .counted) in
+    let h : l .p < length (processesOf (s .args .n)) = omega (arith, p .ground .processes-is) in
     record {
       walkable = p .walkable;
       held = p .held;
       words = p .words;
       process = h;
-      increment = i .ensures .0;
-      within = i .ensures .1;
+      increment = p .ground .increment-is;
+      within = p .ground .increment-small;
       fits = omega (arith, l .inv .2, passed-most (p .walkable .layout) (l .p) h, p .walkable .instances);
       room = l .inv .1 ∙ p .room;
     }
@@ -57,9 +53,9 @@ loop-less c = search needs
 loop-again : tie.Need-loop-again Inv-loop μ-loop
 loop-again c =
     let l = c .before .before .before .before .loop in
-    let s = c .before .before .before .before .before .before .before .before in
+    let s = c .before .before .before .before .before .before .before in
     let n = s .args .n in
-    let h : l .p < length (processesOf n) = omega (arith, s .pre .counted) in
+    let h : l .p < length (processesOf n) = omega (arith, s .pre .ground .processes-is) in
     let e = c .before .put-line .ensures in (
       omega arith,
       e .1 .long ∙ l .inv .1,
@@ -74,8 +70,8 @@ same-length c = search needs
 returns : tie.Need-returns Inv-loop μ-loop
 returns c =
     let l = c .before .loop in
-    let s = c .before .before .before .before .before in
-    let e : l .p ≡ length (processesOf (s .args .n)) = omega (arith, l .inv .0, s .pre .counted) in
+    let s = c .before .before .before .before in
+    let e : l .p ≡ length (processesOf (s .args .n)) = omega (arith, l .inv .0, s .pre .ground .processes-is) in
     record { at = λ k h. l .inv .3 k (omega (arith, passed-all (s .args .n) (l .p) e, l .inv .2)) }
 
 pub fill-walk-spec : {M : Type 1} → statement M
@@ -84,7 +80,6 @@ fill-walk-spec =
     (tie.spec
     Inv-loop
     μ-loop
-    line-of-requires
     loop-holds
     cast-put-line
     put-line-requires

@@ -5,7 +5,7 @@ use mathlib.Core.Path.{sym, _∙_}
 use native.Mathlib.Omega.{arith}
 use denote.Ref.{now}
 use Rattle.geometry.specs.UpTo.{by-gauge}
-use Rattle.stream_lines.specs.Accepted.{accepted-within}
+use Rattle.survey.specs.Accepted.{accepted-within}
 use Rattle.window.specs.Pieces.{windowed, accepted-call, refused-call}
 use Rattle.window.proofs.piece_within.Statement.{statement}
 use Rattle.window.proofs.piece_within.Tie as tie

@@ -3,7 +3,7 @@
 use mathlib.Core.Path.{_≡_}
 use lib.ListN.{length, length-map}
 use borrow.Author.Needs.{needs}
-use Rattle.stream_lines.specs.InRange.{in-range}
+use Rattle.survey.specs.InRange.{in-range}
 use Rattle.written_order.specs.Places.{filling, column-is}
 use Rattle.written_order.proofs.fill_stream.Statement.{statement}
 use Rattle.written_order.proofs.fill_stream.Tie as tie

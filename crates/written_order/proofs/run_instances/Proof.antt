@@ -8,7 +8,7 @@ use Rattle.meaning.specs.Loops.{instances}
 use Rattle.meaning.specs.Body.{executeAll, finalValues}
 use Rattle.meaning.specs.Calls.{lengthOf}
 use Rattle.counting.specs.Course.{nextOf, after, after-zero, after-next, reached, reached-small}
-use Rattle.stream_lines.specs.InRange.{nest-bounded}
+use Rattle.survey.specs.InRange.{nest-bounded}
 use Rattle.written_order.specs.Run.{run-next, run-end}
 use Rattle.written_order.proofs.run_instances.Statement.{statement}
 use Rattle.written_order.proofs.run_instances.Tie as tie

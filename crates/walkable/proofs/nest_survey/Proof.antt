@@ -1,0 +1,74 @@
+-- `walkable::nest_survey` meets its contract: the tests of the loops count only where 33 and 1 to 5 give 0, and then the words are in
+-- range. Assumes nothing.
+use mathlib.Core.Path.{sym, _∙_, ap, subst}
+use denote.Ref.{now}
+use Rattle.meaning.specs.declared.Description.{Description}
+use Rattle.meaning.specs.Tests.{refusal}
+use Rattle.meaning.specs.Description.{descriptionOf}
+use Rattle.geometry.specs.Tests.{numbered}
+use Rattle.numbering.specs.Ranges.{Bounded}
+use Rattle.survey.specs.InRange.{nest-bounded}
+use Rattle.survey.specs.Accepted.{early-decoded}
+use Rattle.survey.specs.Stages.{layoutTests, earlyTests, walk-tests, goes-on, stops}
+use borrow.Author.Needs.{needs}
+use Rattle.walkable.proofs.nest_survey.Statement.{statement}
+use Rattle.walkable.proofs.nest_survey.Tie as tie
+
+early-refusal-requires : tie.Need-early-refusal-requires
+early-refusal-requires c κs = search needs
+
+survey-of-requires : tie.Need-survey-of-requires
+survey-of-requires c κs =
+    early-decoded (c .before .before .before .args .limits) _ (sym (c .before .early-refusal .ensures) ∙ c .if1 .taken)
+
+nest-refusal-requires : tie.Need-nest-refusal-requires
+nest-refusal-requires c κs =
+    let v = c .before .before .survey-of .ensures in
+    let e = c .before .before .before .before in
+    let w = early-decoded (e .before .before .args .limits) _ (sym (e .early-refusal .ensures) ∙ c .before .before .before .if1 .taken) in (
+      subst (λ (d : Description). Bounded (d .nest)) (sym (v .description-is)) (nest-bounded (w .ranged .nest)),
+      v .surveyed .ground,
+    )
+
+refused-requires : tie.Need-refused-requires
+refused-requires c κs = search needs
+
+returns : tie.Need-returns
+unfolding numbered
+returns c =
+    let v = c .before .before .before .survey-of .ensures in
+    let e = c .before .before .before .before .before in
+    let a = e .before .before .args in
+    let l = a .limits in
+    let s = now (a .s) in (
+      goes-on (earlyTests l s) (layoutTests l (descriptionOf s .nest)) tt (e .early-refusal .ensures)
+          (c .before .before .before .before .if1 .taken)
+          (c .nest-refusal .ensures ∙ ap (λ (d : Description). refusal (layoutTests l (d .nest))) (v .description-is))
+          ∙ walk-tests l s,
+      λ _. record {
+        description-is = v .description-is;
+        surveyed = record { in-use = v .surveyed .in-use; ground = v .surveyed .ground; flow = v .surveyed .flow };
+      },
+    )
+
+returns-2 : tie.Need-returns-2
+returns-2 c =
+    let e = c .before .before in
+    let a = e .before .before .args in
+    let s = now (a .s) in (
+      c .refused .ensures
+          ∙ stops (earlyTests (a .limits) s) (layoutTests (a .limits) (descriptionOf s .nest)) (e .early-refusal .ensures) (c .before .if1 .left)
+          ∙ walk-tests (a .limits) s,
+      λ z. absurd (c .before .if1 .left (sym (c .refused .ensures) ∙ z)),
+    )
+
+pub nest-survey-spec : {M : Type 1} → statement M
+nest-survey-spec =
+    tie.close
+    (tie.spec
+    early-refusal-requires
+    survey-of-requires
+    nest-refusal-requires
+    refused-requires
+    returns
+    returns-2)
