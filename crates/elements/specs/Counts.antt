@@ -5,7 +5,7 @@ use Prim.Native.Nat.{ℕ, zero, suc, _+_, _*_, _≤_, _<_}
 use native.Mathlib.Numerals.{add-one}
 use native.Mathlib.Omega.{arith}
 use lib.ListN.{length, getD, take}
-use lib.Seq.{length-take-le, getD-take, take-take}
+use lib.Seq.{getD-take, take-take}
 use Rattle.meaning.specs.declared.Stream.{Stream}
 use Rattle.meaning.specs.declared.Description.{Description}
 use Rattle.meaning.specs.Lists.{total}
@@ -32,10 +32,7 @@ module _ {A : Type 0} (f : A → ℕ) where
 
 -- ---- the streams in use
 
-module _ (d : Description) (six : length (d .streams) ≡ 6) (h : Few d) where
-  pub in-use : length (streamsOf d) ≡ d .sizes .streams
-  in-use = length-take-le (d .sizes .streams) (d .streams) (omega (arith, h .ranged .sized .most-streams))
-
+module _ (d : Description) (in-use : length (streamsOf d) ≡ d .sizes .streams) (h : Few d) where
   pub start-next : (i : ℕ) {s : Stream} {k : ℕ} → i < d .sizes .streams → s ≡ getD (d .streams) i noStream
       → k ≡ length (elements (d .nest) s) → streamStart (d .nest) (streamsOf d) i + k ≡ streamStart (d .nest) (streamsOf d) (i + 1)
   start-next i {s} {k} l e g =

@@ -6,47 +6,34 @@
 //   Few         `elements-few`: no stream of an accepted description has more elements than there are instances
 ghost use mathlib.Core.Path.{_≡_};
 ghost use Prim.Native.Nat.{_≤_};
-ghost use lib.ListN.{length};
 ghost use Rattle.meaning.specs.Limits.{elementsMost};
-ghost use Rattle.meaning.specs.Streams.{elements};
 ghost use Rattle.meaning.specs.Description.{streamsOf};
 ghost use Rattle.meaning.specs.Body.{streamStart};
 ghost use Rattle.meaning.specs.Calls.{lengthOf};
-ghost use Rattle.survey.specs.InRange.{InRange};
+ghost use Rattle.survey.specs.Surveys.{Surveyed};
 ghost use Rattle.elements.specs.Counts.{Few};
-use meaning::Description;
-use meaning::Nest;
-use meaning::Stream;
-
-// The elements of one stream.
-pub fn elements_of(n: Nest, s: Stream) -> u32
-    requires { ⌜ InRange n s ⌝ }
-    ensures { λ r. ⌜ r ≡ length (elements n s) ⌝ }
-{
-    let map = s.map;
-    numbering::size_of(numbering::extent_of(n, map))
-}
+use survey::Survey;
 
 // The elements of the first streams.
-pub fn elements_in(d: Description, count: u32) -> u32
-    requires { ⌜ (Few d) × (count ≤ d .sizes .streams) ⌝ }
-    ensures { λ r. ⌜ r ≡ streamStart (d .nest) (streamsOf d) count ⌝ }
+pub fn elements_in(v: Survey, count: u32) -> u32
+    requires { ⌜ (Few (v .description)) × (Surveyed v) × (count ≤ v .description .sizes .streams) ⌝ }
+    ensures { λ r. ⌜ r ≡ streamStart (v .description .nest) (streamsOf (v .description)) count ⌝ }
 {
-    let n = d.nest;
     let mut sum: u32 = 0;
     let mut i: u32 = 0;
     while i < count {
-        sum += elements_of(n, decode::stream(d, i as usize));
+        let f = survey::flow_at(v, i as usize);
+        let elements = f.elements;
+        sum += numbering::size_of(elements);
         i += 1;
     }
     sum
 }
 
 // The elements of all streams.
-pub fn element_count(d: Description) -> u32
-    requires { ⌜ Few d ⌝ }
-    ensures { λ r. ⌜ (r ≡ lengthOf d) × (r ≤ elementsMost) ⌝ }
+pub fn element_count(v: Survey) -> u32
+    requires { ⌜ (Few (v .description)) × (Surveyed v) ⌝ }
+    ensures { λ r. ⌜ (r ≡ lengthOf (v .description)) × (r ≤ elementsMost) ⌝ }
 {
-    let m = d.sizes.streams;
-    elements_in(d, m)
+    elements_in(v, v.description.sizes.streams)
 }

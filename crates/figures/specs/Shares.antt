@@ -1,5 +1,5 @@
 -- Sums over the streams, stream by stream, and the figures. Assumes nothing.
-use mathlib.Core.Path.{_≡_, refl, sym, _∙_, ap, ap₂, subst}
+use mathlib.Core.Path.{_≡_, refl, sym, _∙_, ap, ap₂, subst, subst₂}
 use mathlib.Core.List.{List, [], _∷_}
 use Prim.Native.Nat.{ℕ, suc, _+_, _*_, _≤_, _<_}
 use native.Mathlib.Numerals.{add-one}
@@ -29,9 +29,11 @@ use Rattle.survey.specs.StateWords.{end-words}
 use Rattle.elements.specs.Counts.{Few, total-most}
 use Rattle.elements.specs.Few.{accepted-few}
 use Rattle.survey.specs.declared.Flow.{Flow}
-use Rattle.lanes.specs.All.{LanesOf}
-use Rattle.lanes.specs.Flow.{Laid, Seen}
-use Rattle.survey.specs.Surveys.{streams-used}
+use Rattle.lanes.specs.All.{LanesOf, LanesIn, lanes-of}
+use Rattle.lanes.specs.Flow.{Laid, Seen, Flowing, flowing-at}
+use Rattle.survey.specs.declared.Survey.{Survey}
+use Rattle.survey.specs.Surveys.{Surveyed, noFlow, flow-is, streams-used}
+use Rattle.layout.specs.Spans.{Spans}
 use Rattle.lanes.specs.Accepted.{laid-stream}
 use Rattle.pipe_parts.specs.Starts.{entering}
 use Rattle.figures.specs.declared.Share.{Share}
@@ -153,11 +155,9 @@ same-share : {a b : Share} → a .hop ≡ b .hop → a .pipes ≡ b .pipes → a
 same-share e f g = λ i. record { hop = e i; pipes = f i; steps = g i }
 
 -- a stream's part, by its flow
-pub share-is : {n n' : Nest} {s s' : Stream} {r : Share} {t : Sums} → n' ≡ n → s' ≡ s → t ≡ sumsOver n' s' (entries n' s')
+pub share-is : (n : Nest) (s : Stream) {r : Share} {t : Sums} → t ≡ sumsOver n s (entries n s)
     → r .hop ≡ hop n s → r .pipes ≡ t .pipes → r .steps ≡ t .steps → r ≡ shareOf n s
-share-is en es et h p q =
-    let e = et ∙ ap₂ (λ (n : Nest) (s : Stream). sumsOver n s (entries n s)) en es in
-    same-share h (p ∙ ap (λ (t : Sums). t .pipes) e) (q ∙ ap (λ (t : Sums). t .steps) e)
+share-is n s e h p q = same-share h (p ∙ ap (λ (t : Sums). t .pipes) e) (q ∙ ap (λ (t : Sums). t .steps) e)
 
 abbrev pub noTotals : Totals
 noTotals = record { words = 0; pipes = 0; ends = 0; steps = 0 }
@@ -234,3 +234,28 @@ figures-are {d} h {r} {t} e p i l q w s =
     same-figures p i l (q ∙ ap (λ (t : Totals). t .pipes) g)
     (w ∙ ap₂ (λ (p : ℕ) (t : Totals). p * (1 + t .words) + t .ends) p g)
     (s ∙ ap₂ (λ (i : ℕ) (t : Totals). i + t .steps) i g)
+
+-- ---- stream i of a survey
+
+module _ {v : Survey} (h : Described (v .description)) (u : Surveyed v) (i : ℕ) {f : Flow} (l : i < v .description .sizes .streams)
+    (e : f ≡ getD (v .flows) i noFlow) where
+  sharing : Sharing (v .description .nest) (getD (v .description .streams) i noStream)
+  sharing = stream-sharing (v .description) h i l refl
+
+  pub sharing-at : Sharing (f .nest) (f .stream)
+  sharing-at = let k = flow-is u i l e in subst₂ Sharing (sym (k .nest-is)) (sym (k .stream-is)) sharing
+
+  pub share-at : {spans : List ℕ} → Spans (v .description .nest) spans → 3072 ≤ length spans → Flowing f (v .ground .processes) spans
+  share-at of long = flowing-at u i l e (sharing .laid) of long
+
+  -- its part of the totals, and its lanes
+  pub share-next : {t : Totals} {r : Share} → t ≡ totalsOf (v .description) i → r ≡ shareOf (f .nest) (f .stream)
+      → join t r ≡ totalsOf (v .description) (i + 1)
+  share-next a b =
+      let k = flow-is u i l e in
+      ap₂ join a (b ∙ ap₂ shareOf (k .nest-is) (k .stream-is)) ∙ totals-next (v .description) h i l refl
+
+  pub lanes-at : {w : List ℕ} → LanesIn (f .nest) (f .stream) w
+      → LanesIn (v .description .nest) (getD (streamsOf (v .description)) i noStream) w
+  lanes-at a =
+      let k = flow-is u i l e in lanes-of (k .nest-is) (k .stream-is ∙ stream-is (v .description) h i l refl) a

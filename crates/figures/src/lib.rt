@@ -12,16 +12,16 @@ ghost use lib.ListN.{length, getD, replicate};
 ghost use Rattle.meaning.specs.Pipes.{isEntry, entries};
 ghost use Rattle.meaning.specs.Accept.{figures};
 ghost use Rattle.layout.specs.Spans.{processOf, Spans, spanWords};
+ghost use Rattle.survey.specs.Surveys.{Surveyed};
+ghost use Rattle.lanes.specs.Flow.{Flowing};
 ghost use Rattle.lanes.specs.All.{LanesIn, laneWords};
 ghost use Rattle.pipes.specs.Elements.{Near};
 ghost use Rattle.figures.specs.Sums.{stepsOn, Under, sumsOver, sumsAt};
 ghost use Rattle.figures.specs.Shares.{Summing, Sharing, Small, shareOf, join, Room, totalsOf, Described, AllLanes};
-use survey::Flow;
 use lanes::LANES;
-use meaning::Description;
 use meaning::Figures;
-use meaning::Nest;
-use meaning::Stream;
+use survey::Flow;
+use survey::Survey;
 
 // Of a stream: how many pipes it has, and the steps that they take.
 struct Sums {
@@ -88,18 +88,15 @@ fn sums_of(f: Flow, processes: u32, spans: &[u32], lanes: &[u16]) -> Sums
 }
 
 // A stream's part of the figures, and its lanes, whose words come as zeros.
-fn share_of(n: Nest, s: Stream, spans: &[u32], lanes: &mut [u16]) -> Share
-    requires { ⌜ (Sharing n s) × (Spans n (now spans)) × (spanWords ≤ length (now spans)) × (length (now lanes) ≡ 4096)
+fn share_of(f: Flow, processes: u32, spans: &[u32], lanes: &mut [u16]) -> Share
+    requires { ⌜ (Sharing (f .nest) (f .stream)) × (Flowing f processes (now spans)) × (length (now lanes) ≡ 4096)
         × ((k : ℕ) → k < 4096 → getD (now lanes) k 0 ≡ 0) ⌝ }
-    ensures { λ r. ⌜ (r ≡ shareOf n s) × (Small r) × (LanesIn n s (now (lanes .exit))) ⌝ }
+    ensures { λ r. ⌜ (r ≡ shareOf (f .nest) (f .stream)) × (Small r) × (LanesIn (f .nest) (f .stream) (now (lanes .exit))) ⌝ }
 {
-    let f = lanes::flow_of(n, s);
-    let space = f.space;
-    let processes = numbering::size_of(space);
     lanes::fill_lanes(f, processes, spans, lanes);
     let sums = sums_of(f, processes, spans, lanes);
     Share {
-        hop: survey::hop_of(n, s),
+        hop: f.hop,
         pipes: sums.pipes,
         steps: sums.steps,
     }
@@ -120,12 +117,14 @@ fn joined(t: Totals, s: Share) -> Totals
     }
 }
 
-fn totals_of(d: Description, spans: &[u32], lanes: &mut [u16]) -> Totals
-    requires { ⌜ (Described d) × (Spans (d .nest) (now spans)) × (spanWords ≤ length (now spans)) × (now lanes ≡ replicate laneWords 0) ⌝ }
-    ensures { λ r. ⌜ (r ≡ totalsOf d (d .sizes .streams)) × (Room r) × (AllLanes d (now (lanes .exit))) ⌝ }
+fn totals_of(v: Survey, spans: &[u32], lanes: &mut [u16]) -> Totals
+    requires { ⌜ (Described (v .description)) × (Surveyed v) × (Spans (v .description .nest) (now spans)) × (spanWords ≤ length (now spans))
+        × (now lanes ≡ replicate laneWords 0) ⌝ }
+    ensures { λ r. ⌜ (r ≡ totalsOf (v .description) (v .description .sizes .streams)) × (Room r)
+        × (AllLanes (v .description) (now (lanes .exit))) ⌝ }
 {
-    let n = d.nest;
-    let m = d.sizes.streams;
+    let m = v.description.sizes.streams;
+    let processes = v.ground.processes;
     let mut totals = Totals {
         words: 0,
         pipes: 0,
@@ -136,27 +135,26 @@ fn totals_of(d: Description, spans: &[u32], lanes: &mut [u16]) -> Totals
     while i < m {
         let a = LANES * i as usize;
         let e = a + LANES;
-        let s = decode::stream(d, i as usize);
-        totals = joined(totals, share_of(n, s, spans, &mut lanes[a..e]));
+        let f = survey::flow_at(v, i as usize);
+        totals = joined(totals, share_of(f, processes, spans, &mut lanes[a..e]));
         i += 1;
     }
     totals
 }
 
 // The six figures, and the lanes of all streams, whose words come as zeros.
-pub fn figures_of(d: Description, spans: &[u32], lanes: &mut [u16]) -> Figures
-    requires { ⌜ (Described d) × (Spans (d .nest) (now spans)) × (spanWords ≤ length (now spans)) × (now lanes ≡ replicate laneWords 0) ⌝ }
-    ensures { λ r. ⌜ (r ≡ figures d) × (AllLanes d (now (lanes .exit))) ⌝ }
+pub fn figures_of(v: Survey, spans: &[u32], lanes: &mut [u16]) -> Figures
+    requires { ⌜ (Described (v .description)) × (Surveyed v) × (Spans (v .description .nest) (now spans)) × (spanWords ≤ length (now spans))
+        × (now lanes ≡ replicate laneWords 0) ⌝ }
+    ensures { λ r. ⌜ (r ≡ figures (v .description)) × (AllLanes (v .description) (now (lanes .exit))) ⌝ }
 {
-    let n = d.nest;
-    let place = n.place;
-    let processes = numbering::size_of(numbering::extent_of(n, place));
-    let instances = numbering::instance_count(n);
-    let t = totals_of(d, spans, lanes);
+    let processes = v.ground.processes;
+    let instances = v.ground.instances;
+    let t = totals_of(v, spans, lanes);
     Figures {
         processes: processes,
         instances: instances,
-        elements: elements::element_count(d),
+        elements: elements::element_count(v),
         pipes: t.pipes,
         words: processes * (1 + t.words) + t.ends,
         steps: instances + t.steps,

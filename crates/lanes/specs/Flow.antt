@@ -16,6 +16,7 @@ use Rattle.meaning.specs.Loops.{instances}
 use Rattle.meaning.specs.Space.{Box, points, rowIndex, boxOf, space, processes}
 use Rattle.meaning.specs.Streams.{stationary, hop, move, pass}
 use Rattle.meaning.specs.Pipes.{reach, backward}
+use Rattle.meaning.specs.Description.{noStream}
 use Rattle.meaning.specs.Points.{Inside}
 use Rattle.geometry.specs.Numbers.{shift-neg, neg-not}
 use Rattle.geometry.specs.Places.{getD-in}
@@ -25,13 +26,14 @@ use Rattle.geometry.specs.Pipes.{Accepted}
 use Rattle.geometry.specs.Elements.{entryOf, entry-is}
 use Rattle.vectors.specs.Within.{Within2}
 use Rattle.survey.specs.InRange.{InRange}
-use Rattle.survey.specs.Surveys.{FlowOf}
+use Rattle.survey.specs.Surveys.{FlowOf, Surveyed, noFlow, flow-is}
 use Rattle.numbering.specs.Ranges.{between-apart}
 use Rattle.numbering.specs.Extents.{Spanning, boxed, box-spanning}
 use Rattle.counting.specs.Forms.{weigh, stride-small}
 use Rattle.layout.specs.Rays.{Going}
 use Rattle.layout.specs.Spans.{processOf, Spans}
 use Rattle.survey.specs.declared.Flow.{Flow}
+use Rattle.survey.specs.declared.Survey.{Survey}
 use Rattle.lanes.specs.Lanes.{Lanes}
 use Rattle.lanes.specs.Held.{entryNumber, computes}
 
@@ -109,12 +111,16 @@ pub record Seen (f : Flow) (spans lanes : List ℕ) : Type 0 where
   pub of-lanes : Lanes (entryNumber (f .nest) (f .stream)) (computes (f .nest)) (length (processes (f .nest)))
       (length (processes (f .nest))) lanes
 
--- what filling the lanes is lent
-pub record Fillable (f : Flow) (count : ℕ) (spans lanes : List ℕ) : Type 0 where
+-- a stream that is laid out, with the words of its processes
+pub record Flowing (f : Flow) (count : ℕ) (spans : List ℕ) : Type 0 where
   pub flows : Flows f
   pub counted : count ≡ length (processes (f .nest))
   pub of-spans : Spans (f .nest) spans
   pub long : 3072 ≤ length spans
+
+-- what filling the lanes is lent
+pub record Fillable (f : Flow) (count : ℕ) (spans lanes : List ℕ) : Type 0 where
+  pub flowing : Flowing f count spans
   pub words : length lanes ≡ 4096
   pub zeros : (i : ℕ) → i < 4096 → getD lanes i 0 ≡ 0
 
@@ -192,16 +198,15 @@ module _ {f : Flow} (h : Flows f) where
           let e' = e ∙ ap (λ (k : Box). rowIndex k z) (h .space-is) in
           (e' ∙ ap (rowIndex (space (f .nest))) entry-eq, omega (arith, e', row-lt (space (f .nest)) z entry-inside))
 
--- a flow of its nest, as filling the lanes is lent it
-pub fillable : {f : Flow} {n : Nest} {count : ℕ} {spans lanes : List ℕ} → Flows f → f .nest ≡ n → count ≡ length (points (boxed (f .space)))
-    → Spans n spans → 3072 ≤ length spans → length lanes ≡ 4096 → ((i : ℕ) → i < 4096 → getD lanes i 0 ≡ 0)
-    → Fillable f count spans lanes
-fillable {f} {n} {count} {spans} h e c of long words zeros =
+-- stream i of a survey
+pub flowing-at : {v : Survey} {f : Flow} {spans : List ℕ} → Surveyed v → (i : ℕ) → i < v .description .sizes .streams
+    → f ≡ getD (v .flows) i noFlow → Laid (v .description .nest) (getD (v .description .streams) i noStream)
+    → Spans (v .description .nest) spans → 3072 ≤ length spans → Flowing f (v .ground .processes) spans
+flowing-at {f = f} {spans} h i l e laid of long =
+    let k = flow-is h i l e in
     record {
-      flows = h;
-      counted = counted-is h c;
-      of-spans = subst (λ (n : Nest). Spans n spans) (sym e) of;
+      flows = flows laid k;
+      counted = h .ground .processes-is ∙ ap (λ (n : Nest). length (processes n)) (sym (k .nest-is));
+      of-spans = subst (λ (n : Nest). Spans n spans) (sym (k .nest-is)) of;
       long = long;
-      words = words;
-      zeros = zeros;
     }

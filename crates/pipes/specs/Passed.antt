@@ -19,24 +19,21 @@ pub record Passed (n : Nest) (s : Stream) (w : List ℕ) : Type 0 where
   pub drains : (p : ℕ) → p < length (processes n) → getD w (1024 + p) 0 ≡ rowDrain n s (processOf n p)
 
 -- two parts filled one after the other
-pub passed : (n : Nest) (s : Stream) {n' : Nest} {s' : Stream} → n' ≡ n → s' ≡ s → (k : ℕ) → k ≡ length (processes n) → k ≤ 1024
-    → (xs a b : List ℕ) → 2048 ≤ length xs → a ≡ fillBy (λ p. rowSoak n' s' (processOf n' p)) k (midOf 0 1024 xs)
-    → b ≡ fillBy (λ p. rowDrain n' s' (processOf n' p)) k (midOf 1024 1024 (putMid 0 1024 xs a))
+pub passed : (n : Nest) (s : Stream) (k : ℕ) → k ≡ length (processes n) → k ≤ 1024 → (xs a b : List ℕ) → 2048 ≤ length xs
+    → a ≡ fillBy (λ p. rowSoak n s (processOf n p)) k (midOf 0 1024 xs)
+    → b ≡ fillBy (λ p. rowDrain n s (processOf n p)) k (midOf 1024 1024 (putMid 0 1024 xs a))
     → Passed n s (putMid 1024 1024 (putMid 0 1024 xs a) b)
-passed n s {n'} {s'} en es k c few xs a b long ea eb =
-    let f : ℕ → ℕ = λ p. rowSoak n' s' (processOf n' p) in
-    let g : ℕ → ℕ = λ p. rowDrain n' s' (processOf n' p) in
+passed n s k c few xs a b long ea eb =
+    let f : ℕ → ℕ = λ p. rowSoak n s (processOf n p) in
+    let g : ℕ → ℕ = λ p. rowDrain n s (processOf n p) in
     let xa = putMid 0 1024 xs a in
     let la = whole-length f k 0 1024 xs a ea (omega arith) in
     record {
       soaks = λ p l.
           let z : 0 + p ≡ p = omega arith in
           put-before 1024 1024 xa b 0 (omega (arith, la)) p (omega (arith, c)) ∙ sym (ap (λ (i : ℕ). getD xa i 0) z)
-          ∙ part-at f k 0 1024 xs a ea (omega arith) 0 p (omega (arith, c)) few
-          ∙ ap₂ (λ (n : Nest) (s : Stream). rowSoak n s (processOf n p)) en es;
-      drains = λ p l.
-          part-at g k 1024 1024 xa b eb (omega (arith, la)) 0 p (omega (arith, c)) few
-          ∙ ap₂ (λ (n : Nest) (s : Stream). rowDrain n s (processOf n p)) en es;
+          ∙ part-at f k 0 1024 xs a ea (omega arith) 0 p (omega (arith, c)) few;
+      drains = λ p l. part-at g k 1024 1024 xa b eb (omega (arith, la)) 0 p (omega (arith, c)) few;
     }
 
 -- the second part has room

@@ -15,21 +15,19 @@ ghost use Rattle.integers.specs.Fill.{fillBy};
 ghost use Rattle.meaning.specs.Space.{first, last};
 ghost use Rattle.meaning.specs.Pipes.{pipeElements, soak, drain};
 ghost use Rattle.meaning.specs.Array.{rowSoak};
-ghost use Rattle.layout.specs.Spans.{processOf, Spans, spanWords};
+ghost use Rattle.layout.specs.Spans.{processOf, spanWords};
 ghost use Rattle.lanes.specs.Held.{computes};
-ghost use Rattle.lanes.specs.Flow.{Laid};
+ghost use Rattle.lanes.specs.Flow.{Flowing};
 ghost use Rattle.pipes.specs.Elements.{At, Near, rowDrain, Filling};
 ghost use Rattle.pipes.specs.Passed.{Passed};
 use integers::V2;
 use lanes::BEFORE;
-use survey::Flow;
 use lanes::HELD;
 use lanes::LANES;
 use lanes::ONE;
 use layout::LASTS;
-use meaning::Nest;
 use meaning::PROCESSES;
-use meaning::Stream;
+use survey::Flow;
 
 // The words of a stream: the soaks of the processes, then their drains.
 pub const BLOCK: usize = 2 * PROCESSES;
@@ -208,13 +206,10 @@ fn fill_drains(f: Flow, processes: u32, spans: &[u32], lanes: &[u16], out: &mut 
 
 // The soaks of a stream at all processes, and from word 1,024 on its drains; the words of the processes are lent as
 // `layout::fill_processes` leaves them.
-pub fn fill_stream(n: Nest, s: Stream, spans: &[u32], block: &mut [u32])
-    requires { ⌜ (Laid n s) × (Spans n (now spans)) × (spanWords ≤ length (now spans)) × (2048 ≤ length (now block)) ⌝ }
-    ensures { λ r. ⌜ Passed n s (now (block .exit)) ⌝ }
+pub fn fill_stream(f: Flow, processes: u32, spans: &[u32], block: &mut [u32])
+    requires { ⌜ (Flowing f processes (now spans)) × (2048 ≤ length (now block)) ⌝ }
+    ensures { λ r. ⌜ Passed (f .nest) (f .stream) (now (block .exit)) ⌝ }
 {
-    let f = lanes::flow_of(n, s);
-    let space = f.space;
-    let processes = numbering::size_of(space);
     let mut lanes = [0u16; LANES];
     lanes::fill_lanes(f, processes, spans, &mut lanes);
     fill_soaks(f, processes, spans, &lanes, &mut block[0..PROCESSES]);

@@ -1,9 +1,7 @@
 -- `divisors::divisors_of` meets its contract. Assumes nothing.
-use mathlib.Core.Path.{_≡_, ap}
+use mathlib.Core.Path.{_≡_}
 use Prim.Native.Nat.{ℕ}
-use Rattle.lattice.specs.declared.Short.{Short}
 use Rattle.meaning.specs.declared.Divisors.{Divisors}
-use Rattle.survey.specs.InRange.{nest-bounded}
 use borrow.Author.Needs.{needs}
 use Rattle.divisors.proofs.divisors_of.Statement.{statement}
 use Rattle.divisors.proofs.divisors_of.Tie as tie
@@ -12,9 +10,6 @@ seven : {p p' a a' b b' d d' e e' f f' g g' : ℕ} → p ≡ p' → a ≡ a' →
     → _≡_ {A = Divisors} (record { place = p; stream0 = a; stream1 = b; stream2 = d; stream3 = e; stream4 = f; stream5 = g })
     (record { place = p'; stream0 = a'; stream1 = b'; stream2 = d'; stream3 = e'; stream4 = f'; stream5 = g' })
 seven h i j k l m n = rw (h, i, j, k, l, m, n)
-
-short-of-requires : tie.Need-short-of-requires
-short-of-requires c κs = nest-bounded (c .before .before .pre .ranged .nest) .place
 
 stream-divisor-requires : tie.Need-stream-divisor-requires
 stream-divisor-requires c κs = search needs
@@ -36,7 +31,7 @@ stream-divisor-requires-6 c κs = search needs
 
 returns : tie.Need-returns
 returns c =
-    seven (ap (λ (r : Short). r .divisor) (c .before .before .before .before .before .before .short-of .ensures .0))
+    seven (c .before .before .before .before .before .before .pre .ground .divisor-is)
     (c .before .before .before .before .before .stream-divisor .ensures)
     (c .before .before .before .before .stream-divisor2 .ensures) (c .before .before .before .stream-divisor3 .ensures)
     (c .before .before .stream-divisor4 .ensures) (c .before .stream-divisor5 .ensures) (c .stream-divisor6 .ensures)
@@ -45,7 +40,6 @@ pub divisors-of-spec : {M : Type 1} → statement M
 divisors-of-spec =
     tie.close
     (tie.spec
-    short-of-requires
     stream-divisor-requires
     stream-divisor-requires-2
     stream-divisor-requires-3

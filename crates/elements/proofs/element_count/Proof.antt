@@ -1,8 +1,7 @@
 -- `elements::element_count` meets its contract: the elements of all streams are those before where a further one would begin; at most six
 -- streams have at most 4,096 each. Assumes nothing.
-use mathlib.Core.Path.{_≡_, _∙_}
+use mathlib.Core.Path.{_∙_}
 use native.Mathlib.Omega.{arith}
-use lib.ListN.{length, length-map}
 use Rattle.elements.specs.Counts.{start-most, start-all}
 use borrow.Author.Needs.{needs}
 use Rattle.elements.proofs.element_count.Statement.{statement}
@@ -14,14 +13,14 @@ elements-in-requires c κs = search needs
 returns : tie.Need-returns
 returns c =
     let a = c .before in
-    let d = a .args .d in
-    let six : length (d .streams) ≡ 6 = rw length-map at (a .good .0 .1 .1 .1 .1 .0 .1 .0 .1) in (
-      c .elements-in .ensures ∙ start-all d six (a .pre),
+    let d = a .args .v .description in
+    let u = a .pre .1 .in-use in (
+      c .elements-in .ensures ∙ start-all d u (a .pre .0),
       omega (
         arith,
         c .elements-in .ensures,
-        start-most d six (a .pre) (d .sizes .streams) (omega arith),
-        a .pre .ranged .sized .most-streams,
+        start-most d u (a .pre .0) (d .sizes .streams) (omega arith),
+        a .pre .0 .ranged .sized .most-streams,
       ),
     )
 

@@ -2,50 +2,55 @@
 use mathlib.Core.Path.{_≡_, refl, _∙_, ap}
 use Prim.Native.Nat.{ℕ, _+_, _-_, _≤_, _<_}
 use native.Mathlib.Omega.{arith}
-use lib.ListN.{length, length-map}
+use lib.ListN.{length}
 use Rattle.meaning.specs.Lists.{total}
+use Rattle.meaning.specs.Space.{Box, points}
 use Rattle.meaning.specs.Description.{streamsOf}
 use Rattle.meaning.specs.Body.{streamStart}
 use Rattle.survey.specs.InRange.{in-range}
+use Rattle.survey.specs.Surveys.{flow-is, charted, spans}
 use Rattle.elements.specs.Counts.{start-next, start-most}
 use borrow.Author.Needs.{needs}
 use Rattle.elements.proofs.elements_in.Statement.{statement}
 use Rattle.elements.proofs.elements_in.Tie as tie
 
--- the array of streams has six places
 abbrev Inv-loop : tie.InvT-loop
-Inv-loop d count n sum₀ i₀ sum i = (length (d .streams) ≡ 6) × (i ≤ count) × (sum ≡ streamStart (d .nest) (streamsOf d) i)
+Inv-loop v count sum₀ i₀ sum i = (i ≤ count) × (sum ≡ streamStart (v .description .nest) (streamsOf (v .description)) i)
 
 abbrev μ-loop : tie.MeasureT-loop
-μ-loop d count n sum₀ i₀ sum i = count - i
+μ-loop v count sum₀ i₀ sum i = count - i
 
 loop-holds : tie.Need-loop-holds Inv-loop μ-loop
 unfolding total
-loop-holds c = (rw length-map at (c .before .good .0 .1 .1 .1 .1 .0 .1 .0 .1), omega arith, refl)
+loop-holds c = (omega arith, refl)
 
-cast-stream : tie.Need-cast-stream Inv-loop μ-loop
-cast-stream c = search needs
+cast-flow-at : tie.Need-cast-flow-at Inv-loop μ-loop
+cast-flow-at c = search needs
 
-stream-requires : tie.Need-stream-requires Inv-loop μ-loop
-stream-requires c κs = search needs
+flow-at-requires : tie.Need-flow-at-requires Inv-loop μ-loop
+flow-at-requires c κs = let p = c .before .before .pre in omega (arith, c .loop-test .taken, p .2, p .0 .ranged .sized .most-streams)
 
-elements-of-requires : tie.Need-elements-of-requires Inv-loop μ-loop
-elements-of-requires c κs =
-    let b = c .before .before in
-    let r = b .before .before .pre .0 .ranged in
-    in-range (r .nest) (rw (← c .stream .ensures) at (r .streams (b .loop .i)))
+size-of-requires : tie.Need-size-of-requires Inv-loop μ-loop
+size-of-requires c κs =
+    let l = c .before .before .before .loop in
+    let p = c .before .before .before .before .pre in
+    let k = flow-is (p .1) (l .i) (omega (arith, c .before .before .loop-test .taken, p .2)) (c .before .flow-at .ensures) in
+    spans (charted (in-range (p .0 .ranged .nest) (p .0 .ranged .streams (l .i))) k)
 
 add-sum : tie.Need-add-sum Inv-loop μ-loop
 add-sum c =
-    let b = c .before .before .before in
-    let a = b .before .before in
-    let d = a .args .d in
-    let l : b .loop .i < d .sizes .streams = omega arith in
+    let l = c .before .before .before .before .loop in
+    let s = c .before .before .before .before .before in
+    let d = s .args .v .description in
+    let t : l .i < d .sizes .streams = omega (arith, c .before .before .before .loop-test .taken, s .pre .2) in
+    let k = flow-is (s .pre .1) (l .i) t (c .before .before .flow-at .ensures) in
+    let e = c .size-of .ensures .0 ∙ ap (λ (b : Box). length (points b)) (k .elements-is) in
     omega (
       arith,
-      start-next d (b .loop .inv .0) (a .pre .0) (b .loop .i) l (c .before .stream .ensures) (c .elements-of .ensures),
-      start-most d (b .loop .inv .0) (a .pre .0) (b .loop .i + 1) (omega arith),
-      a .pre .0 .ranged .sized .most-streams,
+      l .inv .1,
+      start-next d (s .pre .1 .in-use) (s .pre .0) (l .i) t refl e,
+      start-most d (s .pre .1 .in-use) (s .pre .0) (l .i + 1) (omega (arith, t)),
+      s .pre .0 .ranged .sized .most-streams,
     )
 
 add-i : tie.Need-add-i Inv-loop μ-loop
@@ -56,21 +61,22 @@ loop-less c = search needs
 
 loop-again : tie.Need-loop-again Inv-loop μ-loop
 loop-again c =
-    let b = c .before .before .before in
-    let a = b .before .before in (
-      b .loop .inv .0,
-      omega arith,
-      ap (λ (k : ℕ). k + c .elements-of .result) (b .loop .inv .2)
-          ∙ start-next (a .args .d) (b .loop .inv .0) (a .pre .0) (b .loop .i) (omega arith) (c .before .stream .ensures)
-          (c .elements-of .ensures),
+    let l = c .before .before .before .before .loop in
+    let s = c .before .before .before .before .before in
+    let d = s .args .v .description in
+    let t : l .i < d .sizes .streams = omega (arith, c .before .before .before .loop-test .taken, s .pre .2) in
+    let k = flow-is (s .pre .1) (l .i) t (c .before .before .flow-at .ensures) in
+    let e = c .size-of .ensures .0 ∙ ap (λ (b : Box). length (points b)) (k .elements-is) in (
+      omega (arith, c .before .before .before .loop-test .taken),
+      ap (λ (n : ℕ). n + c .size-of .result) (l .inv .1) ∙ start-next d (s .pre .1 .in-use) (s .pre .0) (l .i) t refl e,
     )
 
 returns : tie.Need-returns Inv-loop μ-loop
 returns c =
-    let b = c .before in
-    let a = b .before .before .args in
-    let e : b .loop .i ≡ a .count = omega arith in
-    b .loop .inv .2 ∙ ap (streamStart (a .d .nest) (streamsOf (a .d))) e
+    let l = c .before .loop in
+    let a = c .before .before .args in
+    let e : l .i ≡ a .count = omega (arith, c .loop-test .left, l .inv .0) in
+    l .inv .1 ∙ ap (streamStart (a .v .description .nest) (streamsOf (a .v .description))) e
 
 pub elements-in-spec : {M : Type 1} → statement M
 elements-in-spec =
@@ -79,9 +85,9 @@ elements-in-spec =
     Inv-loop
     μ-loop
     loop-holds
-    cast-stream
-    stream-requires
-    elements-of-requires
+    cast-flow-at
+    flow-at-requires
+    size-of-requires
     add-sum
     add-i
     loop-less

@@ -21,13 +21,13 @@ loop-holds : tie.Need-loop-holds Inv-loop μ-loop
 loop-holds c =
     let s = c .before .before in (
       omega arith,
-      lanes-start _ _ (s .args .processes) _ (omega (arith, s .pre .counted, s .pre .flows .laid .processes)) (s .pre .words)
+      lanes-start _ _ (s .args .processes) _ (omega (arith, s .pre .flowing .counted, s .pre .flowing .flows .laid .processes)) (s .pre .words)
           (s .pre .zeros),
     )
 
 entry-number-requires : tie.Need-entry-number-requires Inv-loop μ-loop
 entry-number-requires c κs = let p = c .before .before .before .before .pre in
-    (p .flows, omega (arith, p .counted))
+    (p .flowing .flows, omega (arith, p .flowing .counted))
 
 cast-visit : tie.Need-cast-visit Inv-loop μ-loop
 cast-visit c = search needs
@@ -43,7 +43,7 @@ mul-visit c = search needs
 
 shared-slice-read-visit : tie.Need-shared-slice-read-visit Inv-loop μ-loop
 shared-slice-read-visit c = let p = c .before .before .before .before .before .before .before .pre in
-    omega (arith, p .counted, p .flows .laid .processes, p .long)
+    omega (arith, p .flowing .counted, p .flowing .flows .laid .processes, p .flowing .long)
 
 visit-requires : tie.Need-visit-requires Inv-loop μ-loop
 visit-requires c κs =
@@ -51,17 +51,17 @@ visit-requires c κs =
     let p = s .pre in
     let v = c .before .before .before .before .loop .inv .1 in
     let e = c .before .before .entry-number in
-    let few = p .flows .laid .processes in
+    let few = p .flowing .flows .laid .processes in
     record {
       words = v .words;
-      process = omega (arith, p .counted);
+      process = omega (arith, p .flowing .counted);
       entry = omega (arith, e .ensures .1);
       held = omega (
         arith,
-        v .held (e .result) (omega (arith, e .ensures .1, p .counted)),
+        v .held (e .result) (omega (arith, e .ensures .1, p .flowing .counted)),
         held-le (entryNumber (s .args .f .nest) (s .args .f .stream)) (computes (s .args .f .nest))
             (c .before .before .before .before .loop .p) (e .result),
-        p .counted,
+        p .flowing .counted,
       );
     }
 
@@ -78,10 +78,10 @@ loop-again c =
     let e = c .before .before .before .before .before .entry-number in
     let t = c .before .before .before .before .before .before .loop-test .taken in (
       omega (arith, t),
-      lanes-step _ _ (omega (arith, s .pre .counted, s .pre .flows .laid .processes)) (omega (arith, t)) (l .inv .1)
+      lanes-step _ _ (omega (arith, s .pre .flowing .counted, s .pre .flowing .flows .laid .processes)) (omega (arith, t)) (l .inv .1)
           (e .result) (e .ensures .0)
-          (omega (arith, e .ensures .1, s .pre .counted)) _ (ap (λ (k : ℕ). not (eqb k 0))
-          (s .pre .of-spans .counts (l .p) (omega (arith, s .pre .counted, t)))) (c .before .before .visit .ensures),
+          (omega (arith, e .ensures .1, s .pre .flowing .counted)) _ (ap (λ (k : ℕ). not (eqb k 0))
+          (s .pre .flowing .of-spans .counts (l .p) (omega (arith, s .pre .flowing .counted, t)))) (c .before .before .visit .ensures),
     )
 
 same-length : tie.Need-same-length Inv-loop μ-loop
@@ -95,10 +95,10 @@ returns c =
     let E = entryNumber (s .args .f .nest) (s .args .f .stream) in
     let C = computes (s .args .f .nest) in
     record {
-      flows = s .pre .flows;
-      of-spans = s .pre .of-spans;
-      long = s .pre .long;
-      of-lanes = subst (λ (k : ℕ). Lanes E C k k (l .lanes)) (s .pre .counted)
+      flows = s .pre .flowing .flows;
+      of-spans = s .pre .flowing .of-spans;
+      long = s .pre .flowing .long;
+      of-lanes = subst (λ (k : ℕ). Lanes E C k k (l .lanes)) (s .pre .flowing .counted)
           (subst (λ (k : ℕ). Lanes E C (s .args .processes) k (l .lanes)) e (l .inv .1));
     }
 

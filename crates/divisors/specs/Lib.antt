@@ -1,2 +1,0 @@
--- What the divisors are found from.
-pub mod Used
