@@ -11,13 +11,13 @@ pub fn accept(board: u32, s: &[u8]) -> Acceptance
     ensures { λ r. ⌜ r ≡ accept (limitsOf board) (now (s .entry)) ⌝ }
 {
     let mut spans = [0u32; SPANS];
-    let refusal = refuse::refusal_of(board, s, &mut spans);
+    let v = refuse::survey_of(board, s, &mut spans);
+    let refusal = v.refusal;
     if refusal == 0 {
-        let d = decode::description(s);
         let spans = &spans;
         let mut lanes = [0u16; ALL];
-        let figures = figures::figures_of(d, spans, &mut lanes);
-        Acceptance::Accepted(figures, divisors::divisors_of(d))
+        let figures = figures::figures_of(v, spans, &mut lanes);
+        Acceptance::Accepted(figures, divisors::divisors_of(v))
     } else {
         Acceptance::Refused(refusal)
     }

@@ -1,5 +1,5 @@
 -- What the functions are lent, and what they find of a pipe. Assumes nothing.
-use mathlib.Core.Path.{_≡_, refl, sym, _∙_, ap, ap₂, subst, subst₂}
+use mathlib.Core.Path.{_≡_, refl, sym, _∙_, ap, ap₂, subst}
 use mathlib.Core.Bool.{true, false, not}
 use mathlib.Core.List.{List}
 use Prim.Native.Nat.{ℕ, _+_, _-_, _^_, _≤_, _<_}
@@ -22,7 +22,7 @@ use Rattle.meaning.specs.declared.Description.{Description}
 use Rattle.meaning.specs.Space.{Box, rowIndex, boxOf, processes, first}
 use Rattle.meaning.specs.Streams.{stationary, elements, pass}
 use Rattle.meaning.specs.Pipes.{reach, before, pipeElements}
-use Rattle.meaning.specs.Description.{streamsOf, noStream}
+use Rattle.meaning.specs.Description.{streamsOf}
 use Rattle.meaning.specs.Body.{streamStart}
 use Rattle.meaning.specs.Points.{Inside}
 use Rattle.geometry.specs.Boxes.{box-has}
@@ -31,18 +31,22 @@ use Rattle.geometry.specs.Processes.{RunAt, computes as run-first}
 use Rattle.geometry.specs.Pipes.{Accepted}
 use Rattle.geometry.specs.Elements.{entry-before}
 use Rattle.geometry.specs.Moving.{index-is}
+use Rattle.geometry.specs.Arrays.{streamAt}
 use Rattle.numbering.specs.Extents.{Spanning, boxed, box-spanning}
 use Rattle.counting.specs.Forms.{weigh}
 use Rattle.layout.specs.Spans.{processOf, Spans}
 use Rattle.survey.specs.declared.Flow.{Flow}
-use Rattle.lanes.specs.Flow.{Laid, Flows, Seen}
+use Rattle.survey.specs.declared.Survey.{Survey}
+use Rattle.survey.specs.Surveys.{FlowOf, Surveyed, noFlow, flow-is}
+use Rattle.lanes.specs.Flow.{Flows, Seen}
+use Rattle.lanes.specs.All.{LanesIn, seen-of}
 use Rattle.pipes.specs.Elements.{At, Near, good, inside, total-none, at-one, one-elements, index-moving}
-use Rattle.figures.specs.Shares.{Described}
+use Rattle.figures.specs.Shares.{stream-is, sharing-at, share-at}
 use Rattle.pipe_parts.specs.Starts.{entering, entering-entry, entering-pipe, enteringLength, length-yes, length-no}
 use Rattle.pipe_parts.specs.Heads.{pipe-some}
 use Rattle.element_places.specs.declared.Run.{Run}
 use Rattle.element_places.specs.Spread.{spread, spread-zero, spread-like}
-use Rattle.element_places.specs.Order.{saidOn, Put, said, stream-of, stream-fits}
+use Rattle.element_places.specs.Order.{saidOn, Put, said, placeOfElement, Placeable, stream-fits, next-right}
 use Rattle.element_places.specs.Runs.{numberAfter, Fits, strideOf, RunOf, run-numbers, back-far, run-fits}
 
 -- a process, where the part begins of a pipe that enters there, and room for the places
@@ -64,14 +68,6 @@ pub record Saying (f : Flow) (many from : ℕ) (spans lanes places : List ℕ) :
   pub counted : many ≡ length (processes (f .nest))
   pub small : length (elements (f .nest) (f .stream)) ≤ 4096
   pub fits : from + length (elements (f .nest) (f .stream)) ≤ 24576
-  pub words : length places ≡ 24576
-
-pub record Streaming (n : Nest) (s : Stream) (from : ℕ) (spans places : List ℕ) : Type 0 where
-  pub laid : Laid n s
-  pub of-spans : Spans n spans
-  pub long : 3072 ≤ length spans
-  pub small : length (elements n s) ≤ 4096
-  pub fits : from + length (elements n s) ≤ 24576
   pub words : length places ≡ 24576
 
 -- ---- the box of a stream's elements
@@ -236,29 +232,42 @@ module _ (f : Flow) (from start p : ℕ) (places : List ℕ) where
       let z = length-no (f .nest) (f .stream) p e in
       (z, omega arith, sym (spread-zero _ _ places) ∙ ap saidBy z)
 
--- ---- all pipes of a stream
+-- ---- stream i of a survey, its elements numbered from `from` on
 
-module _ (f : Flow) {n : Nest} {s : Stream} (en : f .nest ≡ n) (es : f .stream ≡ s) {from : ℕ} {spans places : List ℕ}
-    (h : Streaming n s from spans places) where
-  streaming : Streaming (f .nest) (f .stream) from spans places
-  streaming = subst₂ (λ (n : Nest) (s : Stream). Streaming n s from spans places) (sym en) (sym es) h
+module _ {v : Survey} (h : Placeable (v .description)) (u : Surveyed v) (i : ℕ) {f : Flow} (l : i < v .description .sizes .streams)
+    (e : f ≡ getD (v .flows) i noFlow) {from : ℕ} (ef : from ≡ streamStart (v .description .nest) (streamsOf (v .description)) i) where
+  abbrev d : Description
+  d = v .description
 
-  pub saying : {lanes : List ℕ} {many : ℕ} → Seen f spans lanes → many ≡ length (processes (f .nest))
-      → Saying f many from spans lanes places
-  saying seen c =
-      record { seen = seen; counted = c; small = streaming .small; fits = streaming .fits; words = streaming .words }
+  flow : FlowOf (d .nest) (streamAt d i) f
+  flow = subst (λ (s : Stream). FlowOf (d .nest) s f) (stream-is d (h .described) i l refl) (flow-is u i l e)
 
-  pub said-stream : {many : ℕ} → many ≡ length (processes (f .nest)) → {out : List ℕ} → out ≡ said (f .nest) (f .stream) from many places
-      → out ≡ said n s from (length (processes n)) places
-  said-stream c e =
-      e ∙ ap (λ (m : ℕ). said (f .nest) (f .stream) from m places) c
-      ∙ ap₂ (λ (n : Nest) (s : Stream). said n s from (length (processes n)) places) en es
+  -- what its pipes are lent
+  pub saying-at : {spans lanes places : List ℕ} → Spans (d .nest) spans → 3072 ≤ length spans → LanesIn (d .nest) (streamAt d i) lanes
+      → length places ≡ 24576 → Saying f (v .ground .processes) from spans lanes places
+  saying-at of long has words =
+      let k = share-at (h .described) u i l e of long in
+      record {
+        seen = seen-of (k .flows) (flow .nest-is) (flow .stream-is) of long has;
+        counted = k .counted;
+        small = sharing-at (h .described) u i l e .elements;
+        fits = fits;
+        words = words;
+      }
+    where
+      fits : from + length (elements (f .nest) (f .stream)) ≤ 24576
+      fits = omega (
+        arith,
+        ef,
+        ap₂ (λ (n : Nest) (s : Stream). length (elements n s)) (flow .nest-is) (flow .stream-is),
+        stream-fits d (h .described) i l refl,
+      )
 
--- a stream of a description, as it is read
-pub stream-streaming : {d : Description} (h : Described d) (i : ℕ) → i < d .sizes .streams → {s : Stream} → s ≡ getD (d .streams) i noStream
-    → {from : ℕ} → from ≡ streamStart (d .nest) (streamsOf d) i → {spans places : List ℕ} → Spans (d .nest) spans → 3072 ≤ length spans
-    → length places ≡ 24576 → Streaming (d .nest) s from spans places
-stream-streaming {d} h i l es ef {spans} {places} of-spans long words =
-    let a = h .streams i (omega (arith, h .in-use)) in
-    subst₂ (λ (s : Stream) (from : ℕ). Streaming (d .nest) s from spans places) (sym (stream-of d i l es)) (sym ef)
-    (record { laid = a .laid; of-spans = of-spans; long = long; small = a .elements; fits = stream-fits d h i l refl; words = words })
+  -- once they have said it, the places of its elements stand too
+  pub right-at : (xs out : List ℕ) → out ≡ said (f .nest) (f .stream) from (v .ground .processes) xs → length xs ≡ 24576
+      → ((e : ℕ) → e < streamStart (d .nest) (streamsOf d) i → getD xs e 0 ≡ placeOfElement d e)
+      → (length out ≡ 24576) × ((e : ℕ) → e < streamStart (d .nest) (streamsOf d) (i + 1) → getD out e 0 ≡ placeOfElement d e)
+  right-at xs out o =
+      next-right h i l xs out
+      (o ∙ ap₂ (λ (n : Nest) (s : Stream). said n s from (v .ground .processes) xs) (flow .nest-is) (flow .stream-is)
+      ∙ ap₂ (λ (a b : ℕ). said (d .nest) (streamAt d i) a b xs) ef (u .ground .processes-is))

@@ -1,6 +1,6 @@
 -- Where the elements of a stream wait: its pipes say it one after the other, each for its own elements, from where its part begins.
 -- Assumes a description that is not refused.
-use mathlib.Core.Path.{_≡_, refl, sym, _∙_, ap, ap₂, subst}
+use mathlib.Core.Path.{_≡_, refl, sym, _∙_, ap, subst}
 use mathlib.Core.Bool.{Bool, true, false, cond}
 use mathlib.Core.List.{List, [], _∷_}
 use Prim.Native.Nat.{ℕ, suc, _+_, _-_, _≤_, _<_}
@@ -9,7 +9,6 @@ use native.Mathlib.Decide.{decLe}
 use lib.Dec.{eqb}
 use lib.IntN.{pos, negℤ}
 use lib.ListN.{length, getD}
-use lib.Seq.{getD-take}
 use borrow.Author.Tests.{eqb-true}
 use Rattle.integers.specs.Vectors.{zero2, shift2}
 use Rattle.integers.specs.declared.V2.{V2}
@@ -225,21 +224,13 @@ none-before d e l = go (streamsOf d) l
     go [] l = omega arith
     go (t ∷ ss) l = omega arith
 
--- stream i, as it is read
-pub stream-of : (d : Description) (i : ℕ) {s : Stream} → i < d .sizes .streams → s ≡ getD (d .streams) i noStream → s ≡ streamAt d i
-stream-of d i l e = e ∙ sym (getD-take (d .sizes .streams) (d .streams) i noStream l)
-
 -- a turn of the loop over the streams
-pub next-right : {d : Description} → Placeable d → (i : ℕ) → i < d .sizes .streams → {s : Stream} → s ≡ getD (d .streams) i noStream
-    → {first : ℕ} → first ≡ streamStart (d .nest) (streamsOf d) i → (xs out : List ℕ)
-    → out ≡ said (d .nest) s first (length (processes (d .nest))) xs → length xs ≡ 24576
+pub next-right : {d : Description} → Placeable d → (i : ℕ) → i < d .sizes .streams → (xs out : List ℕ)
+    → out ≡ said (d .nest) (streamAt d i) (streamStart (d .nest) (streamsOf d) i) (length (processes (d .nest))) xs → length xs ≡ 24576
     → ((e : ℕ) → e < streamStart (d .nest) (streamsOf d) i → getD xs e 0 ≡ placeOfElement d e)
     → (length out ≡ 24576) × ((e : ℕ) → e < streamStart (d .nest) (streamsOf d) (i + 1) → getD out e 0 ≡ placeOfElement d e)
-next-right {d} h i l es ef xs out o w r =
-    let n = d .nest in
-    let start = streamStart n (streamsOf d) i in
-    let q = o ∙ ap₂ (λ (s : Stream) (first : ℕ). said n s first (length (processes n)) xs) (stream-of d i l es) ef in (
-      ap length q ∙ spreads-length _ _ _ (length (processes n)) xs ∙ w,
-      λ e b. stream-right (h .laid) i (omega (arith, h .described .in-use)) xs out q (stream-fits d (h .described) i l w) r e
-          (omega (arith, b, start-next d (h .described) i l)),
-    )
+next-right {d} h i l xs out o w r = (
+  ap length o ∙ spreads-length _ _ _ (length (processes (d .nest))) xs ∙ w,
+  λ e b. stream-right (h .laid) i (omega (arith, h .described .in-use)) xs out o (stream-fits d (h .described) i l w) r e
+      (omega (arith, b, start-next d (h .described) i l)),
+)

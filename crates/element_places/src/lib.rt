@@ -20,21 +20,19 @@ ghost use Rattle.meaning.specs.Limits.{gaugeLimits, elementsMost};
 ghost use Rattle.meaning.specs.Space.{processes};
 ghost use Rattle.geometry.specs.Wiring.{processAt};
 ghost use Rattle.layout.specs.Spans.{processOf, Spans, spanWords};
-ghost use Rattle.lanes.specs.All.{LanesIn};
+ghost use Rattle.survey.specs.Surveys.{Surveyed};
 ghost use Rattle.figures.specs.Shares.{AllLanes};
 ghost use Rattle.pipe_parts.specs.Starts.{entering, enteringLength};
 ghost use Rattle.element_places.specs.Spread.{spread};
 ghost use Rattle.element_places.specs.Order.{saidOn, Put, said, PlacesOf, Placeable};
 ghost use Rattle.element_places.specs.Runs.{numberAfter, Counts, Fits, RunOf};
 ghost use Rattle.element_places.specs.Walked.{oneOf, ownSaid};
-ghost use Rattle.element_places.specs.Lent.{Placing, Running, Saying, Streaming};
+ghost use Rattle.element_places.specs.Lent.{Placing, Running, Saying};
 ghost use Rattle.element_places.specs.Lines.{Lined, Owning, Walking};
 use integers::V2;
-use survey::Flow;
 use lanes::LANES;
-use meaning::Description;
-use meaning::Nest;
-use meaning::Stream;
+use survey::Flow;
+use survey::Survey;
 
 // Elements one after the other: the first one's number, how far on the next one's is, the first one's place, and how many they are.
 struct Run {
@@ -186,7 +184,14 @@ fn put_pipe(
 }
 
 // What all pipes say.
-fn put_places(f: Flow, processes: u32, spans: &[u32], lanes: &[u16], first: u32, places: &mut [u16])
+fn fill_stream(
+    f: Flow,
+    processes: u32,
+    first: u32,
+    spans: &[u32],
+    lanes: &[u16],
+    places: &mut [u16],
+)
     requires { ⌜ Saying f processes first (now spans) (now lanes) (now places) ⌝ }
     ensures { λ r. ⌜ now (places .exit) ≡ said (f .nest) (f .stream) first processes (now (places .entry)) ⌝ }
 {
@@ -198,33 +203,23 @@ fn put_places(f: Flow, processes: u32, spans: &[u32], lanes: &[u16], first: u32,
     }
 }
 
-fn fill_stream(n: Nest, s: Stream, first: u32, spans: &[u32], lanes: &[u16], places: &mut [u16])
-    requires { ⌜ (Streaming n s first (now spans) (now places)) × (LanesIn n s (now lanes)) ⌝ }
-    ensures { λ r. ⌜ now (places .exit) ≡ said n s first (length (processes n)) (now (places .entry)) ⌝ }
-{
-    let f = lanes::flow_of(n, s);
-    let space = f.space;
-    let processes = numbering::size_of(space);
-    put_places(f, processes, spans, lanes, first, places);
-}
-
 // ---- all streams
 
 // The place of each element in the waiting list.
-pub fn fill_places(d: Description, spans: &[u32], lanes: &[u16], places: &mut [u16])
-    requires { ⌜ (Placeable d) × (Spans (d .nest) (now spans)) × (spanWords ≤ length (now spans)) × (AllLanes d (now lanes))
-        × (length (now places) ≡ elementsMost) ⌝ }
-    ensures { λ r. ⌜ PlacesOf d (now (places .exit)) ⌝ }
+pub fn fill_places(v: Survey, spans: &[u32], lanes: &[u16], places: &mut [u16])
+    requires { ⌜ (Placeable (v .description)) × (Surveyed v) × (Spans (v .description .nest) (now spans)) × (spanWords ≤ length (now spans))
+        × (AllLanes (v .description) (now lanes)) × (length (now places) ≡ elementsMost) ⌝ }
+    ensures { λ r. ⌜ PlacesOf (v .description) (now (places .exit)) ⌝ }
 {
-    let n = d.nest;
-    let m = d.sizes.streams;
+    let m = v.description.sizes.streams;
+    let processes = v.ground.processes;
     let mut i: u32 = 0;
     while i < m {
-        let s = decode::stream(d, i as usize);
-        let first = elements::elements_in(d, i);
+        let f = survey::flow_at(v, i as usize);
+        let first = elements::elements_in(v, i);
         let a = LANES * i as usize;
         let e = a + LANES;
-        fill_stream(n, s, first, spans, &lanes[a..e], places);
+        fill_stream(f, processes, first, spans, &lanes[a..e], places);
         i += 1;
     }
 }

@@ -10,14 +10,15 @@ ghost use lib.ListN.{length};
 ghost use Rattle.meaning.specs.Description.{descriptionOf};
 ghost use Rattle.meaning.specs.Array.{arrayOf};
 ghost use Rattle.meaning.specs.Rules.{memoryOf, apply};
+ghost use Rattle.survey.specs.Surveys.{Surveyed, SurveyOf};
 ghost use Rattle.layout.specs.Spans.{Spans, spanWords};
 ghost use Rattle.step_rules.specs.Meaning.{stepNamed};
 ghost use Rattle.opening.specs.Opening.{Opened};
 ghost use Rattle.named_step.specs.Named.{hasPortBy, namedBy, Rows};
 ghost use Rattle.named_step.specs.Stepped.{Stepped, Steppable};
 use meaning::Answer;
-use meaning::Description;
 use port_table::Size;
+use survey::Survey;
 
 // Whether process p is on a pipe of stream i.
 fn has_port(ports: &[u32], z: Size, p: usize, i: usize) -> bool
@@ -53,7 +54,7 @@ fn named(ports: &[u32], z: Size, kind: u32, number: usize, stream: usize) -> boo
 
 // The step of that name is done.
 fn perform(
-    d: Description,
+    v: Survey,
     ports: &[u32],
     spans: &[u32],
     z: Size,
@@ -64,13 +65,13 @@ fn perform(
     received: &mut [u32],
     state: &mut [u32],
 )
-    requires { ⌜ (Steppable d (now ports) z kind number stream (memoryOf (now waiting) (now received) (now state)))
-        × (Spans (d .nest) (now spans)) × (length (now spans) ≡ spanWords) ⌝ }
+    requires { ⌜ (Steppable (v .description) (now ports) z kind number stream (memoryOf (now waiting) (now received) (now state)))
+        × (Surveyed v) × (Spans (v .description .nest) (now spans)) × (length (now spans) ≡ spanWords) ⌝ }
     ensures { λ r. ⌜ memoryOf (now (waiting .entry)) (now (received .exit)) (now (state .exit))
-        ≡ apply (arrayOf d) (memoryOf (now (waiting .entry)) (now (received .entry)) (now (state .entry)))
+        ≡ apply (arrayOf (v .description)) (memoryOf (now (waiting .entry)) (now (received .entry)) (now (state .entry)))
         (stepNamed kind number stream) ⌝ }
 {
-    let g = step_rules::program_of(d);
+    let g = step_rules::program_of(v);
     step_rules::act(
         g,
         ports,
@@ -85,9 +86,10 @@ fn perform(
     );
 }
 
-// The call once the memory is opened.
+// The call once the memory is opened, with the survey of its bytes.
 pub fn step_opened(
     s: &[u8],
+    v: Survey,
     ports: &[u32],
     spans: &[u32],
     z: Size,
@@ -98,7 +100,7 @@ pub fn step_opened(
     received: &mut [u32],
     state: &mut [u32],
 ) -> Answer
-    requires { ⌜ (Opened (now s) (memoryOf (now waiting) (now received) (now state)) (now ports) z)
+    requires { ⌜ (Opened (now s) (memoryOf (now waiting) (now received) (now state)) (now ports) z) × (SurveyOf (now s) v)
         × (Spans (descriptionOf (now s) .nest) (now spans)) × (length (now spans) ≡ spanWords) ⌝ }
     ensures { λ r. ⌜ Stepped (now (s .entry)) kind number stream
         (memoryOf (now (waiting .entry)) (now (received .entry)) (now (state .entry))) r
@@ -106,9 +108,8 @@ pub fn step_opened(
 {
     if named(ports, z, kind, number, stream) {
         if step_rules::can(ports, state, z, kind, number, stream) {
-            let d = decode::description(s);
             perform(
-                d,
+                v,
                 ports,
                 spans,
                 z,

@@ -25,6 +25,8 @@ use Rattle.addresses.specs.Through.{pointOf}
 use Rattle.decode.specs.Refusals.{passed}
 use Rattle.declines.specs.Tests.{memoryLengths, memory-fits}
 use Rattle.figures.specs.Shares.{Described, described}
+use Rattle.survey.specs.declared.Survey.{Survey}
+use Rattle.survey.specs.Surveys.{SurveyOf}
 use Rattle.layout.specs.Spans.{Spans}
 use Rattle.body.specs.Fit.{Fit}
 use Rattle.ports.specs.Layout.{Regular}
@@ -113,10 +115,11 @@ pub record Opened (s : List ℕ) (M : Memory) (b : List ℕ) (z : Size) : Type 0
   pub accepted : refusalOf gaugeLimits s ≡ 0
   pub stood : Stood (descriptionOf s) M b z
 
--- what an opening answers: the refusal, and, if there is none, the port table of the array and the words of its processes
+-- what an opening answers: the refusal, and, if there is none, the survey, the port table of the array and the words of its processes
 pub record Answered (l : Limits) (s : List ℕ) (M : Memory) (b w : List ℕ) (r : Opening) : Type 0 where
   pub refused : r .refusal ≡ refusedBy l s (memoryTests (descriptionOf s) M)
   pub opened : r .refusal ≡ 0 → Opened s M b (r .size)
+  pub survey : r .refusal ≡ 0 → SurveyOf s (r .survey)
   pub spans : r .refusal ≡ 0 → Spans (descriptionOf s .nest) w
 
 -- ---- tests one after the other
@@ -183,7 +186,7 @@ module _ (d : Description) {f : Figures} (e : f ≡ figures d) where
     lengths-hold z = memory-fits (lengthOf d) (stateLength d) _ _ _ (sym own ∙ z)
 
     -- a length is refused
-    pub lengths-refused : {b : List ℕ} {z : Size} → (n ≡ 0 → ⊥) → Opens d M b (record { refusal = n; size = z })
+    pub lengths-refused : {b : List ℕ} {z : Size} {v : Survey} → (n ≡ 0 → ⊥) → Opens d M b (record { refusal = n; size = z; survey = v })
     lengths-refused g =
         let q = ne-eqb n 0 g in
         record { refused = own-or q; stood = λ h. absurd (g h) }
@@ -192,8 +195,8 @@ module _ (d : Description) {f : Figures} (e : f ≡ figures d) where
         own-or q = sym (lengths-first d M ∙ rw (← own, q) refl)
 
     -- none is: 22 or nothing
-    pub lengths-passed : {k : ℕ} {b : List ℕ} {z : Size} → n ≡ 0 → z ≡ sizeOf d → k ≡ refusal (soundTest d M) → PortsOf (arrayOf d) b
-        → Opens d M b (record { refusal = k; size = z })
+    pub lengths-passed : {k : ℕ} {b : List ℕ} {z : Size} {v : Survey} → n ≡ 0 → z ≡ sizeOf d → k ≡ refusal (soundTest d M)
+        → PortsOf (arrayOf d) b → Opens d M b (record { refusal = k; size = z; survey = v })
     lengths-passed {k} h ze ke table =
         let l = lengths-hold h in
         record {
@@ -211,21 +214,24 @@ module _ (d : Description) {f : Figures} (e : f ≡ figures d) where
 -- ---- the whole opening
 
 module _ {l : Limits} (u : UpTo l gaugeLimits) (s : List ℕ) (M : Memory) {b w : List ℕ} where
-  pub opened : {d : Description} {r : Opening} → refusalOf l s ≡ 0 → d ≡ descriptionOf s → Opens d M b r → Spans (descriptionOf s .nest) w
-      → Answered l s M b w r
-  opened {r = r} ok e h laid =
-      let o = subst (λ (d : Description). Opens d M b r) e h in
+  pub opened : {v : Survey} {r : Opening} → refusalOf l s ≡ 0 → SurveyOf s v → r .survey ≡ v → Opens (v .description) M b r
+      → Spans (v .description .nest) w → Answered l s M b w r
+  opened {v} {r} ok h e k laid =
+      let o = subst (λ (d : Description). Opens d M b r) (h .description-is) k in
       record {
         refused = o .refused ∙ rw ok refl;
         opened = λ g. record { accepted = by-gauge u s ok; stood = o .stood g };
-        spans = λ _. laid;
+        survey = λ _. subst (SurveyOf s) (sym e) h;
+        spans = λ _. subst (λ (d : Description). Spans (d .nest) w) (h .description-is) laid;
       }
 
-  pub refused : {n : ℕ} {z : Size} → n ≡ refusalOf l s → (n ≡ 0 → ⊥) → Answered l s M b w (record { refusal = n; size = z })
+  pub refused : {n : ℕ} {z : Size} {v : Survey} → n ≡ refusalOf l s → (n ≡ 0 → ⊥)
+      → Answered l s M b w (record { refusal = n; size = z; survey = v })
   refused {n} e g =
       record {
         refused = rw (← e, ne-eqb n 0 g) refl;
         opened = λ h. absurd (g h);
+        survey = λ h. absurd (g h);
         spans = λ h. absurd (g h);
       }
 

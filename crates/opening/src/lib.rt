@@ -1,5 +1,5 @@
 // What Step, Run, Ready and Result begin with: the refusals of the description, then 20, 26, 21 and 22 of the lent memory; and, if nothing
-// is refused, the words of the processes, the lanes of the streams, the port table of the array and its size.
+// is refused, the survey, the words of the processes, the lanes of the streams, the port table of the array and its size.
 //
 // specs/, by file:
 //
@@ -15,6 +15,7 @@ ghost use Rattle.meaning.specs.Limits.{limitsOf, gaugeLimits, UpTo};
 ghost use Rattle.meaning.specs.Array.{arrayOf};
 ghost use Rattle.meaning.specs.Rules.{sound, memoryOf};
 ghost use Rattle.meaning.specs.Description.{descriptionOf};
+ghost use Rattle.survey.specs.Surveys.{Surveyed};
 ghost use Rattle.layout.specs.Spans.{Spans, spanWords};
 ghost use Rattle.lanes.specs.All.{laneWords};
 ghost use Rattle.figures.specs.Shares.{AllLanes};
@@ -22,48 +23,49 @@ ghost use Rattle.port_table.specs.PortsOf.{PortsOf, portTableWords};
 ghost use Rattle.opening.specs.Opening.{sizeFrom, Grounds, Standing, Opens, Answered};
 use lanes::ALL;
 use layout::SPANS;
-use meaning::Description;
 use meaning::Figures;
 use meaning::Limits;
 use port_table::Size;
+use survey::Survey;
 
-// The number of the refusal, 0 for none, and the size of the array.
+// The number of the refusal, 0 for none, the size of the array, and the survey.
 pub struct Opening {
     pub refusal: u32,
     pub size: Size,
+    pub survey: Survey,
 }
 
-fn size_of(d: Description, f: Figures) -> Size
-    ensures { λ r. ⌜ r ≡ sizeFrom d f ⌝ }
+fn size_of(v: Survey, f: Figures) -> Size
+    ensures { λ r. ⌜ r ≡ sizeFrom (v .description) f ⌝ }
 {
     Size {
         processes: f.processes as usize,
-        streams: d.sizes.streams as usize,
+        streams: v.description.sizes.streams as usize,
         pipes: f.pipes as usize,
     }
 }
 
 // 0, or 22 where the state is not sound by the port table of the array.
 fn sound_refusal(
-    d: Description,
+    v: Survey,
     z: Size,
     state: &[u32],
     spans: &[u32],
     lanes: &[u16],
     ports: &mut [u32],
 ) -> u32
-    requires { ⌜ (Standing d z (now state) (now ports)) × (Spans (d .nest) (now spans)) × (spanWords ≤ length (now spans))
-        × (AllLanes d (now lanes)) ⌝ }
-    ensures { λ r. ⌜ (r ≡ refusal ((22 if not (sound (arrayOf d) (now (state .entry)))) ∷ []))
-        × (PortsOf (arrayOf d) (now (ports .exit))) ⌝ }
+    requires { ⌜ (Standing (v .description) z (now state) (now ports)) × (Surveyed v) × (Spans (v .description .nest) (now spans))
+        × (spanWords ≤ length (now spans)) × (AllLanes (v .description) (now lanes)) ⌝ }
+    ensures { λ r. ⌜ (r ≡ refusal ((22 if not (sound (arrayOf (v .description)) (now (state .entry)))) ∷ []))
+        × (PortsOf (arrayOf (v .description)) (now (ports .exit))) ⌝ }
 {
-    port_fill::fill_ports(d, spans, lanes, ports);
+    port_fill::fill_ports(v, spans, lanes, ports);
     declines::of_state(sound::sound(ports, state, z))
 }
 
 // The refusals of the memory, on an accepted description.
 fn open_accepted(
-    d: Description,
+    v: Survey,
     waiting: &[u32],
     received: &[u32],
     state: &[u32],
@@ -71,23 +73,26 @@ fn open_accepted(
     lanes: &mut [u16],
     ports: &mut [u32],
 ) -> Opening
-    requires { ⌜ (Grounds d) × (Spans (d .nest) (now spans)) × (spanWords ≤ length (now spans)) × (now lanes ≡ replicate laneWords 0)
-        × (length (now ports) ≡ portTableWords) ⌝ }
-    ensures { λ r. ⌜ (Opens d (memoryOf (now (waiting .entry)) (now (received .entry)) (now (state .entry))) (now (ports .exit)) r)
-        × (AllLanes d (now (lanes .exit))) ⌝ }
+    requires { ⌜ (Grounds (v .description)) × (Surveyed v) × (Spans (v .description .nest) (now spans)) × (spanWords ≤ length (now spans))
+        × (now lanes ≡ replicate laneWords 0) × (length (now ports) ≡ portTableWords) ⌝ }
+    ensures { λ r. ⌜ (r .survey ≡ v)
+        × (Opens (v .description) (memoryOf (now (waiting .entry)) (now (received .entry)) (now (state .entry))) (now (ports .exit)) r)
+        × (AllLanes (v .description) (now (lanes .exit))) ⌝ }
 {
-    let f = figures::figures_of(d, spans, lanes);
-    let z = size_of(d, f);
+    let f = figures::figures_of(v, spans, lanes);
+    let z = size_of(v, f);
     let r = declines::of_memory(f, waiting.len(), received.len(), state.len());
     if r == 0 {
         Opening {
-            refusal: sound_refusal(d, z, state, spans, lanes, ports),
+            refusal: sound_refusal(v, z, state, spans, lanes, ports),
             size: z,
+            survey: v,
         }
     } else {
         Opening {
             refusal: r,
             size: z,
+            survey: v,
         }
     }
 }
@@ -108,17 +113,10 @@ fn open_within(
         (memoryOf (now (waiting .entry)) (now (received .entry)) (now (state .entry))) (now (ports .exit)) (now (spans .exit)) r)
         × (r .refusal ≡ 0 → AllLanes (descriptionOf (now (s .entry))) (now (lanes .exit))) ⌝ }
 {
-    let r = refuse::refusal_within(s, limits, spans);
+    let v = refuse::survey_within(s, limits, spans);
+    let r = v.refusal;
     if r == 0 {
-        open_accepted(
-            decode::description(s),
-            waiting,
-            received,
-            state,
-            spans,
-            lanes,
-            ports,
-        )
+        open_accepted(v, waiting, received, state, spans, lanes, ports)
     } else {
         Opening {
             refusal: r,
@@ -127,6 +125,7 @@ fn open_within(
                 streams: 0,
                 pipes: 0,
             },
+            survey: v,
         }
     }
 }

@@ -2,22 +2,23 @@
 ghost use mathlib.Core.Path.{_≡_};
 ghost use Rattle.meaning.specs.Limits.{limitsOf};
 ghost use Rattle.meaning.specs.Calls.{plainRun};
+ghost use Rattle.survey.specs.Surveys.{Surveyed};
 ghost use Rattle.written_order.specs.Places.{Fitting};
 ghost use Rattle.plain.specs.Call.{Called};
 use layout::SPANS;
 use meaning::Answer;
-use meaning::Description;
+use survey::Survey;
 
 // The call on an accepted description.
-fn run_accepted(d: Description, values: &[u32], output: &mut [u32]) -> Answer
-    requires { ⌜ Fitting d ⌝ }
-    ensures { λ r. ⌜ Called d (now (values .entry)) (now (output .entry)) r (now (output .exit)) ⌝ }
+fn run_accepted(v: Survey, values: &[u32], output: &mut [u32]) -> Answer
+    requires { ⌜ (Fitting (v .description)) × (Surveyed v) ⌝ }
+    ensures { λ r. ⌜ Called (v .description) (now (values .entry)) (now (output .entry)) r (now (output .exit)) ⌝ }
 {
-    let e = elements::element_count(d);
+    let e = elements::element_count(v);
     let r = declines::of_plain(e, values.len(), output.len());
     if r == 0 {
         words::store(output, 0, values);
-        written_order::run_loops(d, output);
+        written_order::run_loops(v, output);
         Answer::Done
     } else {
         Answer::Refused(r)
@@ -30,10 +31,10 @@ pub fn plain_run(board: u32, s: &[u8], values: &[u32], output: &mut [u32]) -> An
         × (now (output .exit) ≡ plainRun (limitsOf board) (now (s .entry)) (now (values .entry)) (now (output .entry)) .output) ⌝ }
 {
     let mut spans = [0u32; SPANS];
-    let r = refuse::refusal_of(board, s, &mut spans);
-    if r == 0 {
-        run_accepted(decode::description(s), values, output)
+    let v = refuse::survey_of(board, s, &mut spans);
+    if v.refusal == 0 {
+        run_accepted(v, values, output)
     } else {
-        Answer::Refused(r)
+        Answer::Refused(v.refusal)
     }
 }

@@ -16,7 +16,7 @@ use Rattle.integers.specs.declared.V2.{V2}
 use Rattle.meaning.specs.declared.Nest.{Nest}
 use Rattle.meaning.specs.declared.Stream.{Stream}
 use Rattle.meaning.specs.declared.Description.{Description}
-use Rattle.meaning.specs.Limits.{processWordsMost}
+use Rattle.meaning.specs.Limits.{gaugeLimits, processWordsMost}
 use Rattle.meaning.specs.Lists.{total}
 use Rattle.meaning.specs.Space.{rowIndex, space, processes}
 use Rattle.meaning.specs.Streams.{hop, elements}
@@ -39,10 +39,14 @@ use Rattle.addresses.specs.Ends.{number-lt, number-point, entry-inside}
 use Rattle.addresses.specs.Indices.{portWords as portSize, endsWords, strideOf, process-count, stream-count}
 use Rattle.ports.specs.Rows.{rowOf}
 use Rattle.ports.specs.Ends.{endOf}
+use Rattle.survey.specs.declared.Flow.{Flow}
+use Rattle.survey.specs.declared.Survey.{Survey}
+use Rattle.survey.specs.Surveys.{FlowOf, Surveyed, noFlow, flow-is}
 use Rattle.layout.specs.Spans.{Spans}
+use Rattle.lanes.specs.All.{LanesIn, lanes-of}
 use Rattle.elements.specs.Counts.{total-most}
 use Rattle.pipe_parts.specs.Starts.{entering, startAt, start-most, enteredAt, entered-next, one-yes}
-use Rattle.figures.specs.Shares.{Described, Sharing, share-small, totals-room, stream-sharing}
+use Rattle.figures.specs.Shares.{Described, Sharing, share-small, totals-room, stream-sharing, sharing-at, share-at}
 use Rattle.port_rows.specs.declared.Strand.{Strand}
 use Rattle.port_rows.specs.Strands.{Narrow, rowFrom, endFrom}
 use Rattle.port_rows.specs.Rows.{StrandOf, row-is, end-is}
@@ -95,12 +99,11 @@ sums-zero d =
     (sym (total-none (endsWords (d .nest)) (streamsOf d)))
 
 -- what the functions are lent
-pub record Started (d : Description) (stride count : ℕ) (spans : List ℕ) : Type 0 where
+pub record Started (d : Description) (stride : ℕ) (spans : List ℕ) : Type 0 where
   pub described : Described d
   pub laid : Laid d
   pub narrow : stride ≤ processWordsMost
   pub strides : stride ≡ strideOf d
-  pub counted : count ≡ length (processes (d .nest))
   pub of-spans : Spans (d .nest) spans
   pub long : 3072 ≤ length spans
 
@@ -147,7 +150,7 @@ module _ (d : Description) (h : Described d) where
     omega (arith, es, sums-slack i (omega arith) .words),
   )
 
-  base-most : (i : ℕ) → i < d .sizes .streams → base d i ≤ 5120
+  pub base-most : (i : ℕ) → i < d .sizes .streams → base d i ≤ 5120
   base-most i l =
       omega (
         arith,
@@ -156,7 +159,7 @@ module _ (d : Description) (h : Described d) where
             (λ j k. share-small (h .streams j (omega (arith, h .in-use))) .pipes),
       )
 
-  first-most : (i : ℕ) → i < d .sizes .streams → streamStart nest (streamsOf d) i ≤ 24576
+  pub first-most : (i : ℕ) → i < d .sizes .streams → streamStart nest (streamsOf d) i ≤ 24576
   first-most i l =
       omega (
         arith,
@@ -164,21 +167,6 @@ module _ (d : Description) (h : Described d) where
         total-most (λ s. length (elements nest s)) (streamsOf d) i 4096 noStream (omega (arith, h .in-use))
             (λ j k. h .few .few j (omega (arith, h .in-use))),
       )
-
-  -- stream i, as the functions ask
-  pub stringing : (i : ℕ) {s : Stream} → i < d .sizes .streams → s ≡ getD (d .streams) i noStream → {g : Strand} → Narrow g → {first : ℕ}
-      → first ≡ streamStart nest (streamsOf d) i → {t : Sums} → t ≡ sumsOf d i → {spans : List ℕ} → Spans nest spans → 3072 ≤ length spans
-      → StreamFillable nest s g i first (t .pipes) spans
-  stringing i l e w ef et of-spans long =
-      record {
-        sharing = stream-sharing d h i l e;
-        of-spans = of-spans;
-        long = long;
-        narrow = w;
-        stream = omega (arith, six);
-        early = omega (arith, ef, first-most i l);
-        based = omega (arith, ap (λ (t : Sums). t .pipes) et, base-most i l);
-      }
 
   -- ---- a stream
 
@@ -310,36 +298,74 @@ module _ (d : Description) (h : Described d) where
 
 -- ---- a turn of the loop over the streams
 
-module _ {d : Description} {stride count : ℕ} {spans : List ℕ} (h : Started d stride count spans) (i : ℕ)
-    (l : i < d .sizes .streams) {s : Stream}
-    (es : s ≡ getD (d .streams) i noStream) {t : Sums} (et : t ≡ sumsOf d i) {g : Strand}
-    (eg : g ≡ strandFrom (hop (d .nest) s) count stride t) where
-  strand-is : StrandOf d i g
-  strand-is =
-      record {
-        lt = omega (arith, h .described .in-use);
-        hop = ap (λ (g : Strand). g .hop) eg ∙ ap (hop (d .nest)) (stream-of d (h .described) i l es);
-        stride = ap (λ (g : Strand). g .stride) eg ∙ h .strides;
-        offset = ap (λ (g : Strand). g .offset) eg ∙ ap (λ (t : Sums). 1 + t .words) et;
-        tail =
-            ap (λ (g : Strand). g .tail) eg ∙ ap₂ (λ (p w : ℕ). p * w + t .ends) (h .counted) (h .strides)
-            ∙ ap (λ (t : Sums). length (processes (d .nest)) * strideOf d + t .ends) et;
-      }
+module _ {v : Survey} {stride : ℕ} {spans : List ℕ} (h : Started (v .description) stride spans) (u : Surveyed v) (i : ℕ)
+    {f : Flow} (l : i < v .description .sizes .streams) (ef : f ≡ getD (v .flows) i noFlow) {t : Sums}
+    (et : t ≡ sumsOf (v .description) i) where
+  abbrev d : Description
+  d = v .description
 
-  narrow-is : Narrow g
-  narrow-is =
-      subst Narrow (sym eg)
-      (strand-narrow (stream-sharing d (h .described) i l es .hop) (omega (arith, h .counted, h .described .processes)) (h .narrow)
-      (subst Slack (sym et) (sums-slack d (h .described) i (omega arith))))
+  of-flow : FlowOf (d .nest) (getD (d .streams) i noStream) f
+  of-flow = flow-is u i l ef
 
-  pub filled-next : {first : ℕ} → first ≡ streamStart (d .nest) (streamsOf d) i → (xs : List ℕ) {out : List ℕ}
-      → out ≡ streamRows (d .nest) s g i first (t .pipes) xs → Filled d i xs → Filled d (i + 1) out
-  filled-next {first} ef xs {out} o f =
-      subst (λ (k : ℕ). Filled d k out) (sym (add-one i))
-      (subst (Filled d (suc i))
-      (sym (o ∙ ap (λ (s : Stream). streamRows (d .nest) s g i first (t .pipes) xs) (stream-of d (h .described) i l es)
-      ∙ ap₂ (λ (first base : ℕ). streamRows (d .nest) (streamAt d i) g i first base xs) ef (ap (λ (t : Sums). t .pipes) et)))
-      (stream-filled d (h .described) (h .laid) i l narrow-is strand-is xs f))
+  pub slack : Slack t
+  slack = subst Slack (sym et) (sums-slack d (h .described) i (omega arith))
+
+  pub hop-few : f .hop ≤ gaugeLimits .hop
+  hop-few = omega (arith, of-flow .hop-is, stream-sharing d (h .described) i l refl .hop)
+
+  pub processes-few : v .ground .processes ≤ 1024
+  processes-few = omega (arith, u .ground .processes-is, h .described .processes)
+
+  pub lanes-here : {w : List ℕ} → LanesIn (d .nest) (streamAt d i) w → LanesIn (f .nest) (f .stream) w
+  lanes-here = lanes-of (sym (of-flow .nest-is)) (sym (of-flow .stream-is ∙ stream-of d (h .described) i l refl))
+
+  module _ {c : ℕ} (e : c ≡ length (entries (f .nest) (f .stream))) where
+    pub entries-few : c ≤ 1024
+    entries-few = omega (arith, e, share-small (sharing-at (h .described) u i l ef) .pipes)
+
+    pub joined-next : join t (f .hop) c ≡ sumsOf d (i + 1)
+    joined-next =
+        sums-next d (h .described) i l refl (of-flow .hop-is)
+        (e ∙ ap₂ (λ (n : Nest) (s : Stream). length (entries n s)) (of-flow .nest-is) (of-flow .stream-is)) et
+
+  module _ {g : Strand} (eg : g ≡ strandFrom (f .hop) (v .ground .processes) stride t) {first : ℕ}
+      (e : first ≡ streamStart (d .nest) (streamsOf d) i) where
+    narrow-is : Narrow g
+    narrow-is = subst Narrow (sym eg) (strand-narrow hop-few processes-few (h .narrow) slack)
+
+    strand-is : StrandOf d i g
+    strand-is =
+        record {
+          lt = omega (arith, h .described .in-use);
+          hop = ap (λ (g : Strand). g .hop) eg ∙ of-flow .hop-is ∙ ap (hop (d .nest)) (stream-of d (h .described) i l refl);
+          stride = ap (λ (g : Strand). g .stride) eg ∙ h .strides;
+          offset = ap (λ (g : Strand). g .offset) eg ∙ ap (λ (t : Sums). 1 + t .words) et;
+          tail =
+              ap (λ (g : Strand). g .tail) eg ∙ ap₂ (λ (p w : ℕ). p * w + t .ends) (u .ground .processes-is) (h .strides)
+              ∙ ap (λ (t : Sums). length (processes (d .nest)) * strideOf d + t .ends) et;
+        }
+
+    -- stream i, as the functions ask
+    pub stringing : StreamFillable f (v .ground .processes) g i first (t .pipes) spans
+    stringing =
+        record {
+          sharing = sharing-at (h .described) u i l ef;
+          flowing = share-at (h .described) u i l ef (h .of-spans) (h .long);
+          narrow = narrow-is;
+          stream = omega (arith, six d (h .described));
+          early = omega (arith, e, first-most d (h .described) i l);
+          based = omega (arith, ap (λ (t : Sums). t .pipes) et, base-most d (h .described) i l);
+        }
+
+    pub filled-next : (xs : List ℕ) {out : List ℕ} → out ≡ streamRows (f .nest) (f .stream) g i first (t .pipes) xs → Filled d i xs
+        → Filled d (i + 1) out
+    filled-next xs {out} o done =
+        subst (λ (k : ℕ). Filled d k out) (sym (add-one i))
+        (subst (Filled d (suc i))
+        (sym (o ∙ ap₂ (λ (n : Nest) (s : Stream). streamRows n s g i first (t .pipes) xs) (of-flow .nest-is)
+        (of-flow .stream-is ∙ stream-of d (h .described) i l refl)
+        ∙ ap₂ (λ (first base : ℕ). streamRows (d .nest) (streamAt d i) g i first base xs) e (ap (λ (t : Sums). t .pipes) et)))
+        (stream-filled d (h .described) (h .laid) i l narrow-is strand-is xs done))
 
 pub filled-zero : (d : Description) → {xs : List ℕ} → length xs ≡ portTableWords → Filled d 0 xs
 filled-zero d e =

@@ -1,5 +1,5 @@
 -- The rows of a stream, what its rows share, and what the functions are lent. Assumes nothing.
-use mathlib.Core.Path.{_≡_, sym, _∙_, ap, ap₂, subst, subst₂}
+use mathlib.Core.Path.{_≡_, sym, _∙_, ap, ap₂, subst}
 use mathlib.Core.Bool.{Bool, true, false, not, cond}
 use mathlib.Core.List.{List}
 use Prim.Native.Nat.{ℕ, _+_, _*_, _≤_, _<_}
@@ -20,12 +20,12 @@ use Rattle.meaning.specs.Pipes.{entries, pipeElements}
 use Rattle.lists.specs.Tests.{filter-fewer}
 use Rattle.geometry.specs.Places.{getD-in}
 use Rattle.geometry.specs.Boxes.{points-inside}
-use Rattle.layout.specs.Spans.{processOf, Spans}
+use Rattle.layout.specs.Spans.{processOf}
 use Rattle.survey.specs.StateWords.{process-words}
 use Rattle.ports.specs.declared.Port.{Port}
 use Rattle.ports.specs.declared.End.{End}
 use Rattle.survey.specs.declared.Flow.{Flow}
-use Rattle.lanes.specs.Flow.{Flows, Seen}
+use Rattle.lanes.specs.Flow.{Flows, Seen, Flowing}
 use Rattle.pipe_parts.specs.Starts.{entering, enteringLength, startAt, enteredAt, start-most}
 use Rattle.pipe_parts.specs.Heads.{Heads, entering-some}
 use Rattle.figures.specs.Shares.{Sharing}
@@ -129,10 +129,9 @@ pub record PortsFillable (f : Flow) (g : Strand) (count : ℕ) (spans lanes head
   pub small : length (elements (f .nest) (f .stream)) ≤ 4096
   pub stream : i < 6
 
-pub record StreamFillable (n : Nest) (s : Stream) (g : Strand) (i first base : ℕ) (spans : List ℕ) : Type 0 where
-  pub sharing : Sharing n s
-  pub of-spans : Spans n spans
-  pub long : 3072 ≤ length spans
+pub record StreamFillable (f : Flow) (count : ℕ) (g : Strand) (i first base : ℕ) (spans : List ℕ) : Type 0 where
+  pub sharing : Sharing (f .nest) (f .stream)
+  pub flowing : Flowing f count spans
   pub narrow : Narrow g
   pub stream : i < 6
   pub early : first ≤ 24576
@@ -234,19 +233,15 @@ module _ (n : Nest) (s : Stream) (g : Strand) (first base p : ℕ) (l : List ℕ
 
 -- ---- a stream by its flow
 
-module _ {f : Flow} (flows : Flows f) {n : Nest} {s : Stream} (en : f .nest ≡ n)
-    (es : f .stream ≡ s) {g : Strand} {i first base : ℕ} {spans : List ℕ} (h : StreamFillable n s g i first base spans) where
-  small-here : length (elements (f .nest) (f .stream)) ≤ 4096
-  small-here = subst₂ (λ (n : Nest) (s : Stream). length (elements n s) ≤ 4096) (sym en) (sym es) (h .sharing .elements)
-
-  module _ {lanes : List ℕ} (seen : Seen f spans lanes) {count : ℕ} (c : count ≡ length (processes (f .nest))) where
+module _ {f : Flow} {count : ℕ} {g : Strand} {i first base : ℕ} {spans : List ℕ} (h : StreamFillable f count g i first base spans) where
+  module _ {lanes : List ℕ} (seen : Seen f spans lanes) where
     pub ends-fillable : EndsFillable f g count spans lanes first base
     ends-fillable =
         record {
           seen = seen;
-          counted = c;
+          counted = h .flowing .counted;
           narrow = h .narrow;
-          small = small-here;
+          small = h .sharing .elements;
           early = h .early;
           based = h .based;
         }
@@ -255,17 +250,15 @@ module _ {f : Flow} (flows : Flows f) {n : Nest} {s : Stream} (en : f .nest ≡ 
     ports-fillable {heads} o =
         record {
           seen = seen;
-          counted = c;
-          of-heads = subst (λ (k : ℕ). Heads (f .nest) (f .stream) k heads) c o;
+          counted = h .flowing .counted;
+          of-heads = subst (λ (k : ℕ). Heads (f .nest) (f .stream) k heads) (h .flowing .counted) o;
           narrow = h .narrow;
-          small = small-here;
+          small = h .sharing .elements;
           stream = h .stream;
         }
 
-  pub strung : {count : ℕ} → count ≡ length (processes (f .nest)) → (l : List ℕ) {x out : List ℕ}
-      → x ≡ endRows (f .nest) (f .stream) g first base count l
-      → out ≡ portRows (f .nest) (f .stream) g i count x → out ≡ streamRows n s g i first base l
-  strung {count} c l ex eo =
+  pub strung : (l : List ℕ) {x out : List ℕ} → x ≡ endRows (f .nest) (f .stream) g first base count l
+      → out ≡ portRows (f .nest) (f .stream) g i count x → out ≡ streamRows (f .nest) (f .stream) g i first base l
+  strung l ex eo =
       eo ∙ ap (portRows (f .nest) (f .stream) g i count) ex
-      ∙ ap (λ (k : ℕ). portRows (f .nest) (f .stream) g i k (endRows (f .nest) (f .stream) g first base k l)) c
-      ∙ ap₂ (λ (n : Nest) (s : Stream). streamRows n s g i first base l) en es
+      ∙ ap (λ (k : ℕ). portRows (f .nest) (f .stream) g i k (endRows (f .nest) (f .stream) g first base k l)) (h .flowing .counted)

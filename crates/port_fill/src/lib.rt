@@ -11,30 +11,28 @@ ghost use mathlib.Core.Path.{_≡_};
 ghost use Prim.Native.Nat.{_≤_};
 ghost use lib.ListN.{length};
 ghost use Rattle.meaning.specs.Limits.{gaugeLimits, processWordsMost};
-ghost use Rattle.meaning.specs.Streams.{hop};
 ghost use Rattle.meaning.specs.Pipes.{entries};
 ghost use Rattle.meaning.specs.Array.{arrayOf};
 ghost use Rattle.geometry.specs.Descriptions.{Laid};
+ghost use Rattle.survey.specs.Surveys.{Surveyed};
 ghost use Rattle.addresses.specs.Indices.{strideOf};
 ghost use Rattle.layout.specs.Spans.{Spans, spanWords};
 ghost use Rattle.pipe_parts.specs.Starts.{enteringOne};
 ghost use Rattle.pipe_parts.specs.Heads.{headWords, Heads};
 ghost use Rattle.lanes.specs.All.{LanesIn};
-ghost use Rattle.figures.specs.Shares.{Described, Sharing, AllLanes};
+ghost use Rattle.figures.specs.Shares.{Described, AllLanes};
 ghost use Rattle.port_rows.specs.Strands.{Narrow};
 ghost use Rattle.port_table.specs.PortsOf.{PortsOf, portTableWords};
 ghost use Rattle.port_fill.specs.Strung.{Slack, strandFrom, join, PortFillable, EndFillable, PortsFillable, EndsFillable};
 ghost use Rattle.port_fill.specs.Strung.{StreamFillable, portRow, endRow, portRows, endRows, streamRows};
 ghost use Rattle.port_fill.specs.Filled.{Started};
-use survey::Flow;
 use lanes::LANES;
-use meaning::Description;
-use meaning::Nest;
-use meaning::Stream;
 use pipe_parts::HEADS;
 use port_rows::Strand;
 use port_table::PORT;
 use port_table::PROCESS;
+use survey::Flow;
+use survey::Survey;
 
 const PIPE_ROWS: u32 = port_table::PIPE_ROWS as u32;
 
@@ -61,12 +59,12 @@ fn joined(t: Sums, hop: u32, pipes: u32) -> Sums
     }
 }
 
-fn strand_of(n: Nest, s: Stream, processes: u32, stride: u32, t: Sums) -> Strand
-    requires { ⌜ (Sharing n s) × (processes ≤ gaugeLimits .processes) × (stride ≤ processWordsMost) × (Slack t) ⌝ }
-    ensures { λ r. ⌜ (r ≡ strandFrom (hop n s) processes stride t) × (Narrow r) ⌝ }
+fn strand_of(hop: u32, processes: u32, stride: u32, t: Sums) -> Strand
+    requires { ⌜ (hop ≤ gaugeLimits .hop) × (processes ≤ gaugeLimits .processes) × (stride ≤ processWordsMost) × (Slack t) ⌝ }
+    ensures { λ r. ⌜ (r ≡ strandFrom hop processes stride t) × (Narrow r) ⌝ }
 {
     Strand {
-        hop: survey::hop_of(n, s),
+        hop: hop,
         stride: stride,
         offset: 1 + t.words,
         tail: processes * stride + t.ends,
@@ -74,16 +72,16 @@ fn strand_of(n: Nest, s: Stream, processes: u32, stride: u32, t: Sums) -> Strand
 }
 
 // The words of a process.
-fn stride_of(d: Description) -> u32
-    requires { ⌜ Described d ⌝ }
-    ensures { λ r. ⌜ (r ≡ strideOf d) × (r ≤ processWordsMost) ⌝ }
+fn stride_of(v: Survey) -> u32
+    requires { ⌜ (Described (v .description)) × (Surveyed v) ⌝ }
+    ensures { λ r. ⌜ (r ≡ strideOf (v .description)) × (r ≤ processWordsMost) ⌝ }
 {
-    let n = d.nest;
-    let m = d.sizes.streams;
+    let m = v.description.sizes.streams;
     let mut sum: u32 = 1;
     let mut i: u32 = 0;
     while i < m {
-        sum += 4 + survey::hop_of(n, decode::stream(d, i as usize));
+        let f = survey::flow_at(v, i as usize);
+        sum += 4 + f.hop;
         i += 1;
     }
     sum
@@ -187,9 +185,9 @@ fn put_ports(
 
 // All rows of stream i, whose elements have the numbers from `first` on and whose pipes those from `base` on; how many pipes there are.
 fn fill_stream(
-    n: Nest,
-    s: Stream,
+    f: Flow,
     g: Strand,
+    processes: u32,
     i: usize,
     first: u32,
     base: u32,
@@ -197,12 +195,11 @@ fn fill_stream(
     lanes: &[u16],
     ports: &mut [u32],
 ) -> u32
-    requires { ⌜ (StreamFillable n s g i first base (now spans)) × (LanesIn n s (now lanes)) × (length (now ports) ≡ portTableWords) ⌝ }
-    ensures { λ r. ⌜ (r ≡ length (entries n s)) × (now (ports .exit) ≡ streamRows n s g i first base (now (ports .entry))) ⌝ }
+    requires { ⌜ (StreamFillable f processes g i first base (now spans)) × (LanesIn (f .nest) (f .stream) (now lanes))
+        × (length (now ports) ≡ portTableWords) ⌝ }
+    ensures { λ r. ⌜ (r ≡ length (entries (f .nest) (f .stream)))
+        × (now (ports .exit) ≡ streamRows (f .nest) (f .stream) g i first base (now (ports .entry))) ⌝ }
 {
-    let f = lanes::flow_of(n, s);
-    let space = f.space;
-    let processes = numbering::size_of(space);
     let mut heads = [0u32; HEADS];
     let pipes = put_ends(
         f,
@@ -221,19 +218,13 @@ fn fill_stream(
 
 // ---- all streams
 
-fn fill_streams(
-    d: Description,
-    stride: u32,
-    processes: u32,
-    spans: &[u32],
-    lanes: &[u16],
-    ports: &mut [u32],
-)
-    requires { ⌜ (Started d stride processes (now spans)) × (AllLanes d (now lanes)) × (length (now ports) ≡ portTableWords) ⌝ }
-    ensures { λ r. ⌜ PortsOf (arrayOf d) (now (ports .exit)) ⌝ }
+fn fill_streams(v: Survey, stride: u32, spans: &[u32], lanes: &[u16], ports: &mut [u32])
+    requires { ⌜ (Started (v .description) stride (now spans)) × (Surveyed v) × (AllLanes (v .description) (now lanes))
+        × (length (now ports) ≡ portTableWords) ⌝ }
+    ensures { λ r. ⌜ PortsOf (arrayOf (v .description)) (now (ports .exit)) ⌝ }
 {
-    let n = d.nest;
-    let m = d.sizes.streams;
+    let m = v.description.sizes.streams;
+    let processes = v.ground.processes;
     let mut sums = Sums {
         words: 0,
         pipes: 0,
@@ -241,28 +232,35 @@ fn fill_streams(
     };
     let mut i: u32 = 0;
     while i < m {
-        let s = decode::stream(d, i as usize);
-        let g = strand_of(n, s, processes, stride, sums);
-        let first = elements::elements_in(d, i);
+        let f = survey::flow_at(v, i as usize);
+        let hop = f.hop;
+        let g = strand_of(hop, processes, stride, sums);
+        let first = elements::elements_in(v, i);
         let base = sums.pipes;
         let a = LANES * i as usize;
         let e = a + LANES;
-        let pipes = fill_stream(n, s, g, i as usize, first, base, spans, &lanes[a..e], ports);
-        let hop = g.hop;
+        let pipes = fill_stream(
+            f,
+            g,
+            processes,
+            i as usize,
+            first,
+            base,
+            spans,
+            &lanes[a..e],
+            ports,
+        );
         sums = joined(sums, hop, pipes);
         i += 1;
     }
 }
 
 // The port table of an accepted description.
-pub fn fill_ports(d: Description, spans: &[u32], lanes: &[u16], ports: &mut [u32])
-    requires { ⌜ (Described d) × (Laid d) × (Spans (d .nest) (now spans)) × (spanWords ≤ length (now spans)) × (AllLanes d (now lanes))
-        × (length (now ports) ≡ portTableWords) ⌝ }
-    ensures { λ r. ⌜ PortsOf (arrayOf d) (now (ports .exit)) ⌝ }
+pub fn fill_ports(v: Survey, spans: &[u32], lanes: &[u16], ports: &mut [u32])
+    requires { ⌜ (Described (v .description)) × (Laid (v .description)) × (Surveyed v) × (Spans (v .description .nest) (now spans))
+        × (spanWords ≤ length (now spans)) × (AllLanes (v .description) (now lanes)) × (length (now ports) ≡ portTableWords) ⌝ }
+    ensures { λ r. ⌜ PortsOf (arrayOf (v .description)) (now (ports .exit)) ⌝ }
 {
-    let n = d.nest;
-    let place = n.place;
-    let processes = numbering::size_of(numbering::extent_of(n, place));
-    let stride = stride_of(d);
-    fill_streams(d, stride, processes, spans, lanes, ports);
+    let stride = stride_of(v);
+    fill_streams(v, stride, spans, lanes, ports);
 }

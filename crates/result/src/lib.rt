@@ -14,6 +14,7 @@ ghost use Rattle.meaning.specs.Limits.{limitsOf};
 ghost use Rattle.meaning.specs.Description.{descriptionOf};
 ghost use Rattle.meaning.specs.Rules.{memoryOf};
 ghost use Rattle.meaning.specs.Calls.{lengthOf, result};
+ghost use Rattle.survey.specs.Surveys.{Surveyed, SurveyOf};
 ghost use Rattle.layout.specs.Spans.{Spans, spanWords};
 ghost use Rattle.figures.specs.Shares.{AllLanes};
 ghost use Rattle.element_places.specs.Order.{Placeable};
@@ -23,10 +24,10 @@ ghost use Rattle.result.specs.Call.{Called, Drawable};
 use lanes::ALL;
 use layout::SPANS;
 use meaning::Answer;
-use meaning::Description;
 use meaning::ELEMENTS;
 use port_table::PORTS;
 use port_table::Size;
+use survey::Survey;
 
 // Whether every pipe is wholly received.
 fn all_out(ports: &[u32], state: &[u32], pipes: usize) -> bool
@@ -57,19 +58,21 @@ fn put_in_order(received: &[u32], places: &[u16], elements: usize, output: &mut 
     }
 }
 
-fn fill_output(d: Description, spans: &[u32], lanes: &[u16], received: &[u32], output: &mut [u32])
-    requires { ⌜ (Placeable d) × (length (now received) ≡ lengthOf d) × (length (now output) ≡ lengthOf d)
-        × (Spans (d .nest) (now spans)) × (spanWords ≤ length (now spans)) × (AllLanes d (now lanes)) ⌝ }
-    ensures { λ r. ⌜ now (output .exit) ≡ elementOrder d (now (received .entry)) ⌝ }
+fn fill_output(v: Survey, spans: &[u32], lanes: &[u16], received: &[u32], output: &mut [u32])
+    requires { ⌜ (Placeable (v .description)) × (Surveyed v) × (length (now received) ≡ lengthOf (v .description))
+        × (length (now output) ≡ lengthOf (v .description)) × (Spans (v .description .nest) (now spans)) × (spanWords ≤ length (now spans))
+        × (AllLanes (v .description) (now lanes)) ⌝ }
+    ensures { λ r. ⌜ now (output .exit) ≡ elementOrder (v .description) (now (received .entry)) ⌝ }
 {
     let mut places = [0u16; ELEMENTS];
-    element_places::fill_places(d, spans, lanes, &mut places);
+    element_places::fill_places(v, spans, lanes, &mut places);
     put_in_order(received, &places, received.len(), output);
 }
 
-// The call once the memory is opened.
+// The call once the memory is opened, with the survey of its bytes.
 fn result_opened(
     s: &[u8],
+    v: Survey,
     ports: &[u32],
     spans: &[u32],
     lanes: &[u16],
@@ -78,7 +81,7 @@ fn result_opened(
     state: &[u32],
     output: &mut [u32],
 ) -> Answer
-    requires { ⌜ (Drawable (now s) (now ports) z (now received) (now state))
+    requires { ⌜ (Drawable (now s) (now ports) z (now received) (now state)) × (SurveyOf (now s) v)
         × (Spans (descriptionOf (now s) .nest) (now spans)) × (spanWords ≤ length (now spans))
         × (AllLanes (descriptionOf (now s)) (now lanes)) ⌝ }
     ensures { λ r. ⌜ Called (now (s .entry)) (now (received .entry)) (now (state .entry)) (now (output .entry)) r (now (output .exit)) ⌝ }
@@ -86,7 +89,7 @@ fn result_opened(
     let out = all_out(ports, state, z.pipes);
     let r = declines::of_result(out, output.len() == received.len());
     if r == 0 {
-        fill_output(decode::description(s), spans, lanes, received, output);
+        fill_output(v, spans, lanes, received, output);
         Answer::Done
     } else {
         Answer::Refused(r)
@@ -125,8 +128,9 @@ pub fn result(
     let r = o.refusal;
     if r == 0 {
         let z = o.size;
+        let v = o.survey;
         let spans = &spans;
-        result_opened(s, &ports, spans, &lanes, z, received, state, output)
+        result_opened(s, v, &ports, spans, &lanes, z, received, state, output)
     } else {
         Answer::Refused(r)
     }

@@ -5,6 +5,7 @@ ghost use Rattle.meaning.specs.Limits.{limitsOf};
 ghost use Rattle.meaning.specs.Description.{descriptionOf};
 ghost use Rattle.meaning.specs.Rules.{memoryOf};
 ghost use Rattle.meaning.specs.Calls.{run};
+ghost use Rattle.survey.specs.Surveys.{SurveyOf};
 ghost use Rattle.layout.specs.Spans.{Spans, spanWords};
 ghost use Rattle.opening.specs.Opening.{Opened};
 ghost use Rattle.run.specs.Call.{RanBy};
@@ -15,10 +16,12 @@ use port_table::PORTS;
 use port_table::Size;
 use ready_set::FLAGS;
 use ready_set::MEMBERS;
+use survey::Survey;
 
-// The call once the memory is opened.
+// The call once the memory is opened, with the survey of its bytes.
 fn run_opened(
     s: &[u8],
+    v: Survey,
     ports: &[u32],
     spans: &[u32],
     z: Size,
@@ -27,12 +30,12 @@ fn run_opened(
     received: &mut [u32],
     state: &mut [u32],
 ) -> Ran
-    requires { ⌜ (Opened (now s) (memoryOf (now waiting) (now received) (now state)) (now ports) z)
+    requires { ⌜ (Opened (now s) (memoryOf (now waiting) (now received) (now state)) (now ports) z) × (SurveyOf (now s) v)
         × (Spans (descriptionOf (now s) .nest) (now spans)) × (length (now spans) ≡ spanWords) ⌝ }
     ensures { λ r. ⌜ RanBy (now (s .entry)) steps (memoryOf (now (waiting .entry)) (now (received .entry)) (now (state .entry))) r
         (memoryOf (now (waiting .entry)) (now (received .exit)) (now (state .exit))) ⌝ }
 {
-    let g = step_rules::program_of(decode::description(s));
+    let g = step_rules::program_of(v);
     let mut wakeups = [0u16; STATE_WORDS + 1];
     wakeups::fill_wakeups(ports, z, &mut wakeups);
     let mut flags = [0u64; FLAGS];
@@ -77,8 +80,9 @@ pub fn run(
     let r = o.refusal;
     if r == 0 {
         let z = o.size;
+        let v = o.survey;
         let spans = &spans;
-        run_opened(s, &ports, spans, z, steps, waiting, received, state)
+        run_opened(s, v, &ports, spans, z, steps, waiting, received, state)
     } else {
         Ran::Refused(r)
     }

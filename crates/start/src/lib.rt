@@ -10,6 +10,7 @@ ghost use lib.ListN.{length};
 ghost use Rattle.meaning.specs.Limits.{limitsOf};
 ghost use Rattle.meaning.specs.Rules.{memoryOf};
 ghost use Rattle.meaning.specs.Calls.{start};
+ghost use Rattle.survey.specs.Surveys.{Surveyed};
 ghost use Rattle.layout.specs.Spans.{Spans, spanWords};
 ghost use Rattle.figures.specs.Shares.{AllLanes};
 ghost use Rattle.element_places.specs.Order.{Placeable};
@@ -18,9 +19,9 @@ ghost use Rattle.start.specs.Call.{startedBy, Called, Fitting};
 use lanes::ALL;
 use layout::SPANS;
 use meaning::Answer;
-use meaning::Description;
 use meaning::ELEMENTS;
 use meaning::Figures;
+use survey::Survey;
 
 // The values at the places of their elements.
 fn put_values(values: &[u32], places: &[u16], waiting: &mut [u32])
@@ -38,7 +39,7 @@ fn put_values(values: &[u32], places: &[u16], waiting: &mut [u32])
 
 // The values in pipe order, and words of zero.
 fn fill_memory(
-    d: Description,
+    v: Survey,
     f: Figures,
     spans: &[u32],
     lanes: &[u16],
@@ -47,13 +48,14 @@ fn fill_memory(
     received: &mut [u32],
     state: &mut [u32],
 )
-    requires { ⌜ (Fitting d f (now values) (memoryOf (now waiting) (now received) (now state))) × (Spans (d .nest) (now spans))
-        × (spanWords ≤ length (now spans)) × (AllLanes d (now lanes)) ⌝ }
+    requires { ⌜ (Fitting (v .description) f (now values) (memoryOf (now waiting) (now received) (now state))) × (Surveyed v)
+        × (Spans (v .description .nest) (now spans)) × (spanWords ≤ length (now spans)) × (AllLanes (v .description) (now lanes)) ⌝ }
     ensures { λ r. ⌜ memoryOf (now (waiting .exit)) (now (received .exit)) (now (state .exit))
-        ≡ startedBy d (now (values .entry)) (memoryOf (now (waiting .entry)) (now (received .entry)) (now (state .entry))) ⌝ }
+        ≡ startedBy (v .description) (now (values .entry))
+        (memoryOf (now (waiting .entry)) (now (received .entry)) (now (state .entry))) ⌝ }
 {
     let mut places = [0u16; ELEMENTS];
-    element_places::fill_places(d, spans, lanes, &mut places);
+    element_places::fill_places(v, spans, lanes, &mut places);
     put_values(values, &places, waiting);
     sweeps::clear(f.elements, received);
     sweeps::clear(f.words, state);
@@ -61,22 +63,24 @@ fn fill_memory(
 
 // The call on an accepted description.
 fn start_accepted(
-    d: Description,
+    v: Survey,
     spans: &[u32],
     values: &[u32],
     waiting: &mut [u32],
     received: &mut [u32],
     state: &mut [u32],
 ) -> Answer
-    requires { ⌜ (Placeable d) × (Spans (d .nest) (now spans)) × (spanWords ≤ length (now spans)) ⌝ }
-    ensures { λ r. ⌜ Called d (now (values .entry)) (memoryOf (now (waiting .entry)) (now (received .entry)) (now (state .entry))) r
+    requires { ⌜ (Placeable (v .description)) × (Surveyed v) × (Spans (v .description .nest) (now spans))
+        × (spanWords ≤ length (now spans)) ⌝ }
+    ensures { λ r. ⌜ Called (v .description) (now (values .entry))
+        (memoryOf (now (waiting .entry)) (now (received .entry)) (now (state .entry))) r
         (memoryOf (now (waiting .exit)) (now (received .exit)) (now (state .exit))) ⌝ }
 {
     let mut lanes = [0u16; ALL];
-    let f = figures::figures_of(d, spans, &mut lanes);
+    let f = figures::figures_of(v, spans, &mut lanes);
     let r = declines::of_start(f, values.len(), waiting.len(), received.len(), state.len());
     if r == 0 {
-        fill_memory(d, f, spans, &lanes, values, waiting, received, state);
+        fill_memory(v, f, spans, &lanes, values, waiting, received, state);
         Answer::Done
     } else {
         Answer::Refused(r)
@@ -99,18 +103,11 @@ pub fn start(
         (memoryOf (now (waiting .entry)) (now (received .entry)) (now (state .entry))) .memory) ⌝ }
 {
     let mut spans = [0u32; SPANS];
-    let r = refuse::refusal_of(board, s, &mut spans);
-    if r == 0 {
+    let v = refuse::survey_of(board, s, &mut spans);
+    if v.refusal == 0 {
         let spans = &spans;
-        start_accepted(
-            decode::description(s),
-            spans,
-            values,
-            waiting,
-            received,
-            state,
-        )
+        start_accepted(v, spans, values, waiting, received, state)
     } else {
-        Answer::Refused(r)
+        Answer::Refused(v.refusal)
     }
 }

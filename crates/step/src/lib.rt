@@ -30,9 +30,11 @@ pub fn step(
     let r = o.refusal;
     if r == 0 {
         let z = o.size;
+        let v = o.survey;
         let spans = &spans;
         named_step::step_opened(
             s,
+            v,
             &ports,
             spans,
             z,

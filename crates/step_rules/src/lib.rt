@@ -12,14 +12,14 @@ ghost use Prim.Native.Nat.{_<_};
 ghost use lib.ListN.{length, take};
 ghost use Rattle.meaning.specs.Lists.{every};
 ghost use Rattle.meaning.specs.Rules.{memoryOf};
-ghost use Rattle.vectors.specs.Within.{Within, Rows};
+ghost use Rattle.vectors.specs.Within.{Within};
+ghost use Rattle.survey.specs.Surveys.{GroundOf};
 ghost use Rattle.fire.specs.Firing.{canUse, canFire};
 ghost use Rattle.port_table.specs.PortsOf.{portsAt, RowsFit, PartsFit};
 ghost use Rattle.step_rules.specs.Steps.{programOf, canBy, firedBy, actBy};
 ghost use Rattle.step_rules.specs.Fits.{Inside, Programmed};
 use fire::can_use;
 use integers::V3;
-use meaning::Description;
 use meaning::Line;
 use meaning::Nest;
 use port_table::Size;
@@ -27,6 +27,7 @@ use send_receive::can_receive;
 use send_receive::can_send;
 use send_receive::receive;
 use send_receive::send;
+use survey::Survey;
 use take_give::can_give;
 use take_give::can_take;
 use take_give::give;
@@ -41,18 +42,18 @@ pub struct Program {
 }
 
 // What the processes of a description run.
-pub fn program_of(d: Description) -> Program
-    requires { ⌜ (Within 8 (d .nest .step)) × (Rows 4 (d .nest .place)) ⌝ }
-    ensures { λ r. ⌜ (r ≡ programOf d) × (Within 200 (r .increment)) ⌝ }
+pub fn program_of(v: Survey) -> Program
+    requires { ⌜ GroundOf (v .description .nest) (v .ground) ⌝ }
+    ensures { λ r. ⌜ (r ≡ programOf (v .description)) × (Within 200 (r .increment)) ⌝ }
 {
-    let n = d.nest;
-    let place = n.place;
-    let lines = d.lines;
+    let n = v.description.nest;
+    let increment = v.ground.increment;
+    let lines = v.description.lines;
     Program {
         nest: n,
-        increment: vectors::line_of(n, place),
+        increment: increment,
         lines: lines,
-        count: d.sizes.lines,
+        count: v.description.sizes.lines,
     }
 }
 

@@ -1,5 +1,5 @@
 -- What a refusal of 0 leaves for the columns, and the refusal of the call by its tests. Assumes nothing.
-use mathlib.Core.Path.{_≡_, refl, sym, _∙_, ap, subst}
+use mathlib.Core.Path.{_≡_, refl, sym, _∙_, ap, subst, subst₂}
 use mathlib.Core.Bool.{Bool, true, false, cond}
 use mathlib.Core.List.{List, []}
 use Prim.Native.Nat.{ℕ, _≤_, _<_}
@@ -8,24 +8,27 @@ use lib.Dec.{eqb}
 use lib.ListN.{length, getD}
 use lib.Seq.{getD-take}
 use borrow.Author.Tests.{eqb-true, eqb-false, eq-eqb, ne-eqb, ltb-false}
+use Rattle.meaning.specs.declared.Nest.{Nest}
 use Rattle.meaning.specs.declared.Stream.{Stream}
 use Rattle.meaning.specs.declared.Description.{Description}
 use Rattle.meaning.specs.declared.Limits.{Limits}
 use Rattle.meaning.specs.Limits.{gaugeLimits}
 use Rattle.meaning.specs.Tests.{Test, refusal}
 use Rattle.meaning.specs.Space.{processes}
-use Rattle.meaning.specs.Description.{sizesOf, descriptionOf, streamsOf, noStream}
+use Rattle.meaning.specs.Description.{descriptionOf, streamsOf, noStream}
 use Rattle.meaning.specs.Accept.{refusalOf}
-use Rattle.geometry.specs.Descriptions.{laid}
-use Rattle.decode.specs.Offsets.{Sized}
 use Rattle.decode.specs.Refusals.{passed}
 use Rattle.declines.specs.Tests.{tableLengths}
 use Rattle.numbering.specs.Ranges.{Bounded}
+use Rattle.survey.specs.declared.Flow.{Flow}
+use Rattle.survey.specs.declared.Survey.{Survey}
 use Rattle.survey.specs.InRange.{nest-bounded}
 use Rattle.survey.specs.Accepted.{accepted-within}
-use Rattle.lanes.specs.Flow.{Laid}
-use Rattle.survey.specs.Surveys.{streams-used}
+use Rattle.survey.specs.Surveys.{Surveyed, SurveyOf, noFlow, flow-is}
+use Rattle.layout.specs.Spans.{Spans}
+use Rattle.lanes.specs.Flow.{Laid, Flowing, flowing-at}
 use Rattle.lanes.specs.Accepted.{laid-stream}
+use Rattle.pipes.specs.Passed.{Passed}
 use Rattle.process_row.specs.declared.Shape.{Shape}
 use Rattle.table.specs.Columns.{refusedFor, Drawn, Columns}
 
@@ -33,34 +36,33 @@ pub record Drawable (d : Description) : Type 0 where
   pub bounded : Bounded (d .nest)
   pub processes : length (processes (d .nest)) ≤ 1024
   pub most : d .sizes .streams ≤ 6
-  pub used : length (streamsOf d) ≡ d .sizes .streams
   pub laid : (i : ℕ) → i < length (streamsOf d) → Laid (d .nest) (getD (streamsOf d) i noStream)
 
 -- a refusal of 0
-pub accepted-sized : (l : Limits) (s : List ℕ) → refusalOf l s ≡ 0 → Sized (sizesOf s)
-accepted-sized l s e = accepted-within l s e .0 .sized
-
-pub accepted-bounded : (l : Limits) (s : List ℕ) → refusalOf l s ≡ 0 → Bounded (descriptionOf s .nest)
-accepted-bounded l s e = nest-bounded (accepted-within l s e .0 .ranged .nest)
-
-pub drawable : (s : List ℕ) → refusalOf gaugeLimits s ≡ 0 → Drawable (descriptionOf s)
-drawable s e =
+pub drawable : {s : List ℕ} {v : Survey} → SurveyOf s v → refusalOf gaugeLimits s ≡ 0 → Drawable (v .description)
+drawable {s} h e =
     let a = accepted-within gaugeLimits s e in
+    subst Drawable (sym (h .description-is))
     record {
-      bounded = accepted-bounded gaugeLimits s e;
+      bounded = nest-bounded (a .0 .ranged .nest);
       processes = a .1 .processes;
       most = a .0 .ranged .sized .most-streams;
-      used = streams-used s;
       laid = laid-stream s e;
     }
 
--- stream i as it is read
-module _ {d : Description} {i : ℕ} {t : Stream} (g : Drawable d) (l : i < d .sizes .streams) (e : t ≡ getD (d .streams) i noStream) where
-  pub stream-read : t ≡ getD (streamsOf d) i noStream
-  stream-read = e ∙ sym (getD-take (d .sizes .streams) (d .streams) i noStream l)
+-- stream i of a survey
+module _ {v : Survey} (g : Drawable (v .description)) (u : Surveyed v) (i : ℕ) {f : Flow} (l : i < v .description .sizes .streams)
+    (e : f ≡ getD (v .flows) i noFlow) where
+  read : getD (streamsOf (v .description)) i noStream ≡ getD (v .description .streams) i noStream
+  read = getD-take (v .description .sizes .streams) (v .description .streams) i noStream l
 
-  pub stream-laid : Laid (d .nest) t
-  stream-laid = subst (Laid (d .nest)) (sym stream-read) (g .laid i (omega (arith, g .used)))
+  pub flow-drawable : {spans : List ℕ} → Spans (v .description .nest) spans → 3072 ≤ length spans → Flowing f (v .ground .processes) spans
+  flow-drawable = flowing-at u i l e (subst (Laid (v .description .nest)) read (g .laid i (omega (arith, u .in-use))))
+
+  pub flow-passed : {w : List ℕ} → Passed (f .nest) (f .stream) w
+      → Passed (v .description .nest) (getD (streamsOf (v .description)) i noStream) w
+  flow-passed {w} =
+      let k = flow-is u i l e in subst₂ (λ (n : Nest) (s : Stream). Passed n s w) (k .nest-is) (k .stream-is ∙ sym read)
 
 -- ---- the refusal of the call
 

@@ -10,10 +10,9 @@ ghost use Prim.Native.Nat.{ℕ, _<_, _≤_};
 ghost use lib.ListN.{length, getD, replicate};
 ghost use Rattle.integers.specs.Fill.{fillBy};
 ghost use Rattle.meaning.specs.Limits.{limitsOf, gaugeLimits, UpTo};
-ghost use Rattle.meaning.specs.Space.{processes};
-ghost use Rattle.meaning.specs.Description.{descriptionOf, streamsOf};
+ghost use Rattle.meaning.specs.Description.{streamsOf};
 ghost use Rattle.meaning.specs.Calls.{answer, table};
-ghost use Rattle.numbering.specs.Ranges.{Bounded};
+ghost use Rattle.survey.specs.Surveys.{Surveyed, SurveyOf};
 ghost use Rattle.layout.specs.Spans.{Spans, spanWords};
 ghost use Rattle.process_row.specs.Rows.{rowFrom, Readable, columnWords};
 ghost use Rattle.table.specs.Blocks.{Streamed};
@@ -24,7 +23,6 @@ use integers::V2;
 use integers::V3;
 use layout::SPANS;
 use meaning::Answer;
-use meaning::Description;
 use meaning::Limits;
 use meaning::Nest;
 use meaning::Row;
@@ -32,21 +30,25 @@ use numbering::Extent;
 use pipes::BLOCK;
 use process_row::COLUMNS;
 use process_row::Shape;
+use survey::Survey;
 
 // ---- the columns
 
 // The words of all streams in use.
-fn fill_streams(d: Description, spans: &[u32], words: &mut [u32])
-    requires { ⌜ (Drawable d) × (Spans (d .nest) (now spans)) × (spanWords ≤ length (now spans)) × (now words ≡ replicate columnWords 0) ⌝ }
-    ensures { λ r. ⌜ Streamed (d .nest) (streamsOf d) (length (streamsOf d)) (now (words .exit)) ⌝ }
+fn fill_streams(v: Survey, spans: &[u32], words: &mut [u32])
+    requires { ⌜ (Drawable (v .description)) × (Surveyed v) × (Spans (v .description .nest) (now spans)) × (spanWords ≤ length (now spans))
+        × (now words ≡ replicate columnWords 0) ⌝ }
+    ensures { λ r. ⌜ Streamed (v .description .nest) (streamsOf (v .description)) (length (streamsOf (v .description)))
+        (now (words .exit)) ⌝ }
 {
-    let n = d.nest;
-    let m = d.sizes.streams as usize;
+    let m = v.description.sizes.streams as usize;
+    let processes = v.ground.processes;
     let mut i: usize = 0;
     while i < m {
         let a = SPANS + BLOCK * i;
         let e = a + BLOCK;
-        pipes::fill_stream(n, decode::stream(d, i), spans, &mut words[a..e]);
+        let f = survey::flow_at(v, i);
+        pipes::fill_stream(f, processes, spans, &mut words[a..e]);
         i += 1;
     }
 }
@@ -63,29 +65,30 @@ fn copy_spans(spans: &[u32], words: &mut [u32])
     }
 }
 
-// What the rows need of a nest.
-fn shape_of(n: Nest) -> Shape
-    requires { ⌜ Bounded n ⌝ }
-    ensures { λ r. ⌜ Shaped n r ⌝ }
+// What the rows need of a description.
+fn shape_of(v: Survey) -> Shape
+    requires { ⌜ Surveyed v ⌝ }
+    ensures { λ r. ⌜ Shaped (v .description .nest) r ⌝ }
 {
-    let place = n.place;
-    let space = numbering::extent_of(n, place);
+    let n = v.description.nest;
+    let space = v.ground.space;
     Shape {
         refusal: 0,
-        rows: numbering::size_of(space) as usize,
+        rows: v.ground.processes as usize,
         nest: n,
         space: space,
     }
 }
 
 // The columns of a description; their words come as zeros.
-fn draw(d: Description, spans: &[u32], words: &mut [u32]) -> Shape
-    requires { ⌜ (Drawable d) × (Spans (d .nest) (now spans)) × (spanWords ≤ length (now spans)) × (now words ≡ replicate columnWords 0) ⌝ }
-    ensures { λ r. ⌜ (r .refusal ≡ 0) × (Drawn d r (now (words .exit))) ⌝ }
+fn draw(v: Survey, spans: &[u32], words: &mut [u32]) -> Shape
+    requires { ⌜ (Drawable (v .description)) × (Surveyed v) × (Spans (v .description .nest) (now spans)) × (spanWords ≤ length (now spans))
+        × (now words ≡ replicate columnWords 0) ⌝ }
+    ensures { λ r. ⌜ (r .refusal ≡ 0) × (Drawn (v .description) r (now (words .exit))) ⌝ }
 {
-    fill_streams(d, spans, words);
+    fill_streams(v, spans, words);
     copy_spans(spans, words);
-    shape_of(d.nest)
+    shape_of(v)
 }
 
 // The shape of a declined call: no rows.
@@ -114,28 +117,18 @@ fn declined(refusal: u32) -> Shape
     }
 }
 
-// The number of processes.
-fn process_count(n: Nest) -> usize
-    requires { ⌜ Bounded n ⌝ }
-    ensures { λ r. ⌜ r ≡ length (processes n) ⌝ }
-{
-    let place = n.place;
-    numbering::size_of(numbering::extent_of(n, place)) as usize
-}
-
-// The refusal of the call, 0 if there is none; the words of the processes are then filled.
-fn refusal_for(s: &[u8], limits: Limits, room: usize, spans: &mut [u32; SPANS]) -> u32
+// The survey of the description with the refusal of the call, 0 if there is none; the words of the processes are then filled.
+fn survey_for(s: &[u8], limits: Limits, room: usize, spans: &mut [u32; SPANS]) -> Survey
     requires { ⌜ UpTo limits gaugeLimits ⌝ }
-    ensures { λ r. ⌜ (r ≡ refusedFor limits (now (s .entry)) room)
-        × (r ≡ 0 → Spans (descriptionOf (now (s .entry)) .nest) (now (spans .exit))) ⌝ }
+    ensures { λ r. ⌜ (r .refusal ≡ refusedFor limits (now (s .entry)) room)
+        × (r .refusal ≡ 0 → (SurveyOf (now (s .entry)) r) × (Spans (r .description .nest) (now (spans .exit)))) ⌝ }
 {
-    let r = refuse::refusal_within(s, limits, spans);
-    if r == 0 {
-        let n = decode::description(s).nest;
-        declines::of_table(process_count(n), room)
-    } else {
-        r
+    let mut v = refuse::survey_within(s, limits, spans);
+    if v.refusal == 0 {
+        let refusal = declines::of_table(v.ground.processes as usize, room);
+        v.refusal = refusal;
     }
+    v
 }
 
 // The columns of the call; their words come as zeros.
@@ -144,12 +137,12 @@ pub fn fill_columns(s: &[u8], board: u32, room: usize, words: &mut [u32; COLUMNS
     ensures { λ r. ⌜ Columns (limitsOf board) (now (s .entry)) room r (now (words .exit)) ⌝ }
 {
     let mut spans = [0u32; SPANS];
-    let refusal = refusal_for(s, boards::limits_of(board), room, &mut spans);
-    if refusal == 0 {
+    let v = survey_for(s, boards::limits_of(board), room, &mut spans);
+    if v.refusal == 0 {
         let spans = &spans;
-        draw(decode::description(s), spans, words)
+        draw(v, spans, words)
     } else {
-        declined(refusal)
+        declined(v.refusal)
     }
 }
 

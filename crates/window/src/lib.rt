@@ -14,19 +14,19 @@ ghost use Rattle.meaning.specs.Tests.{refusal};
 ghost use Rattle.meaning.specs.Description.{streamsOf, descriptionOf};
 ghost use Rattle.meaning.specs.Array.{arrayOf, pipeNumber};
 ghost use Rattle.meaning.specs.Calls.{refusedBy, window};
+ghost use Rattle.survey.specs.Surveys.{Surveyed};
 ghost use Rattle.layout.specs.Spans.{processOf, Spans, spanWords};
+ghost use Rattle.lanes.specs.Flow.{Flowing};
 ghost use Rattle.pipes.specs.Elements.{Near};
 ghost use Rattle.pipe_parts.specs.Starts.{Counting};
-ghost use Rattle.figures.specs.Shares.{Sharing, Described};
+ghost use Rattle.figures.specs.Shares.{Described};
 ghost use Rattle.window.specs.Search.{counted, searched, looking, visited, streamLengths, allLengths};
 ghost use Rattle.window.specs.Pieces.{Windowed, ownTests, pieceOf, nothing, Within};
-use survey::Flow;
 use lanes::LANES;
 use layout::SPANS;
-use meaning::Description;
 use meaning::Limits;
-use meaning::Nest;
-use meaning::Stream;
+use survey::Flow;
+use survey::Survey;
 
 // A pipe looked for: how many are still to be passed over, the elements of those that were, and once it is found its own.
 struct Search {
@@ -96,26 +96,25 @@ fn searched(f: Flow, processes: u32, spans: &[u32], lanes: &[u16], first: Search
     w
 }
 
-// The same by nest and stream.
-fn stream_searched(n: Nest, s: Stream, spans: &[u32], w: Search) -> Search
-    requires { ⌜ (Sharing n s) × (Spans n (now spans)) × (spanWords ≤ length (now spans)) × (w .start ≤ 25165824) ⌝ }
-    ensures { λ r. ⌜ (r ≡ searched w (streamLengths n s)) × (r .start ≤ w .start + 4194304) ⌝ }
+// The same with lanes that it fills itself.
+fn stream_searched(f: Flow, processes: u32, spans: &[u32], w: Search) -> Search
+    requires { ⌜ (Flowing f processes (now spans)) × (w .start ≤ 25165824) ⌝ }
+    ensures { λ r. ⌜ (r ≡ searched w (streamLengths (f .nest) (f .stream))) × (r .start ≤ w .start + 4194304) ⌝ }
 {
-    let f = lanes::flow_of(n, s);
-    let space = f.space;
-    let processes = numbering::size_of(space);
     let mut lanes = [0u16; LANES];
     lanes::fill_lanes(f, processes, spans, &mut lanes);
     searched(f, processes, spans, &lanes, w)
 }
 
 // The pipes of all streams.
-fn all_searched(d: Description, spans: &[u32], pipe: u32) -> Search
-    requires { ⌜ (Described d) × (Spans (d .nest) (now spans)) × (spanWords ≤ length (now spans)) ⌝ }
-    ensures { λ r. ⌜ (r ≡ searched (looking pipe 0) (allLengths (d .nest) (streamsOf d))) × (r .start ≤ 25165824) ⌝ }
+fn all_searched(v: Survey, spans: &[u32], pipe: u32) -> Search
+    requires { ⌜ (Described (v .description)) × (Surveyed v) × (Spans (v .description .nest) (now spans))
+        × (spanWords ≤ length (now spans)) ⌝ }
+    ensures { λ r. ⌜ (r ≡ searched (looking pipe 0) (allLengths (v .description .nest) (streamsOf (v .description))))
+        × (r .start ≤ 25165824) ⌝ }
 {
-    let n = d.nest;
-    let m = d.sizes.streams;
+    let m = v.description.sizes.streams;
+    let processes = v.ground.processes;
     let mut w = Search {
         left: pipe,
         start: 0,
@@ -124,7 +123,7 @@ fn all_searched(d: Description, spans: &[u32], pipe: u32) -> Search
     };
     let mut i: u32 = 0;
     while i < m {
-        w = stream_searched(n, decode::stream(d, i as usize), spans, w);
+        w = stream_searched(survey::flow_at(v, i as usize), processes, spans, w);
         i += 1;
     }
     w
@@ -144,11 +143,12 @@ fn refused(number: u32) -> Piece
 }
 
 // The part of a pipe, if there is such a pipe.
-fn located(d: Description, spans: &[u32], pipe: u32) -> Piece
-    requires { ⌜ (Windowed d) × (Spans (d .nest) (now spans)) × (spanWords ≤ length (now spans)) ⌝ }
-    ensures { λ r. ⌜ r ≡ pieceOf d pipe (cond (ltb pipe (pipeNumber (arrayOf d))) 0 19) ⌝ }
+fn located(v: Survey, spans: &[u32], pipe: u32) -> Piece
+    requires { ⌜ (Windowed (v .description)) × (Surveyed v) × (Spans (v .description .nest) (now spans))
+        × (spanWords ≤ length (now spans)) ⌝ }
+    ensures { λ r. ⌜ r ≡ pieceOf (v .description) pipe (cond (ltb pipe (pipeNumber (arrayOf (v .description)))) 0 19) ⌝ }
 {
-    let w = all_searched(d, spans, pipe);
+    let w = all_searched(v, spans, pipe);
     if w.found {
         Piece {
             refusal: 0,
@@ -162,20 +162,22 @@ fn located(d: Description, spans: &[u32], pipe: u32) -> Piece
 
 // The part once the description is accepted, of lists of so many words.
 fn accepted_piece(
-    d: Description,
+    v: Survey,
     spans: &[u32],
     pipe: u32,
     side: u32,
     waiting: usize,
     received: usize,
 ) -> Piece
-    requires { ⌜ (Windowed d) × (Spans (d .nest) (now spans)) × (spanWords ≤ length (now spans)) ⌝ }
-    ensures { λ r. ⌜ (r ≡ pieceOf d pipe (refusal (ownTests d pipe side waiting received))) × (Within r waiting received) ⌝ }
+    requires { ⌜ (Windowed (v .description)) × (Surveyed v) × (Spans (v .description .nest) (now spans))
+        × (spanWords ≤ length (now spans)) ⌝ }
+    ensures { λ r. ⌜ (r ≡ pieceOf (v .description) pipe (refusal (ownTests (v .description) pipe side waiting received)))
+        × (Within r waiting received) ⌝ }
 {
-    let e = elements::element_count(d);
+    let e = elements::element_count(v);
     let r = declines::of_window(e, side, waiting, received);
     if r == 0 {
-        located(d, spans, pipe)
+        located(v, spans, pipe)
     } else {
         refused(r)
     }
@@ -196,12 +198,12 @@ fn piece_within(
         × (Within r waiting received) ⌝ }
 {
     let mut spans = [0u32; SPANS];
-    let number = refuse::refusal_within(s, limits, &mut spans);
-    if number == 0 {
+    let v = refuse::survey_within(s, limits, &mut spans);
+    if v.refusal == 0 {
         let spans = &spans;
-        accepted_piece(decode::description(s), spans, pipe, side, waiting, received)
+        accepted_piece(v, spans, pipe, side, waiting, received)
     } else {
-        refused(number)
+        refused(v.refusal)
     }
 }
 

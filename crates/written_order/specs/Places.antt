@@ -22,12 +22,12 @@ use Rattle.meaning.specs.Description.{streamsOf, noStream}
 use Rattle.meaning.specs.Body.{streamStart, elementCount, touchedFrom, touchedBy}
 use Rattle.meaning.specs.Calls.{lengthOf}
 use Rattle.geometry.specs.RowOrder.{row-lt}
-use Rattle.vectors.specs.Within.{Rows}
-use Rattle.numbering.specs.declared.Extent.{Extent}
-use Rattle.numbering.specs.Ranges.{Bounded}
-use Rattle.numbering.specs.Extents.{boxed, image-inside}
+use Rattle.numbering.specs.Extents.{Numbered, image-inside}
+use Rattle.survey.specs.declared.Flow.{Flow}
+use Rattle.survey.specs.declared.Survey.{Survey}
 use Rattle.survey.specs.InRange.{InRange, in-range}
-use Rattle.elements.specs.Counts.{Few, in-use, start-next, start-most}
+use Rattle.survey.specs.Surveys.{Charted, Surveyed, noFlow, charted, flow-is}
+use Rattle.elements.specs.Counts.{Few, start-next, start-most}
 use Rattle.body.specs.Fit.{Runnable}
 use Rattle.written_order.specs.Columns.{column, column-length, column-other, column-at}
 
@@ -70,14 +70,17 @@ module _ (n : Nest) (x : V3) where
 abbrev pub numberFrom : Nest → Matrix → ℕ → ℕ → ℕ
 numberFrom n m start k = start + rowIndex (boxOf n m) (image m (getD (instances n) k zero3))
 
--- what a column's filling is told: the box around the images, where the stream's elements begin, and the column
-pub record Filling (n : Nest) (m : Matrix) (e : Extent) (start i : ℕ) : Type 0 where
-  pub bounded : Bounded n
-  pub rows : Rows 4 m
-  pub box : boxed e ≡ boxOf n m
-  pub few : length (instances n) ≤ 4096
+-- what a column's filling is told: the stream, how many instances there are, where the stream's elements begin, and the column
+pub record Filling (f : Flow) (count start i : ℕ) : Type 0 where
+  pub charted : Charted f
+  pub counted : count ≡ length (instances (f .nest))
+  pub few : count ≤ 4096
   pub lt : i < 6
-  pub fits : start + length (points (boxOf n m)) ≤ 24576
+  pub fits : start + length (points (boxOf (f .nest) (f .stream .map))) ≤ 24576
+
+-- an instance by its number in the column
+pub numbered : {f : Flow} {count start i k : ℕ} → Filling f count start i → k < count → Numbered (f .nest) (f .stream .map) k
+numbered p l = record { bounded = p .charted .in-range .nest; rows = p .charted .in-range .map; lt = omega (arith, p .counted) }
 
 module _ (d : Description) where
   abbrev pub streamAt : ℕ → Stream
@@ -128,38 +131,9 @@ module _ (d : Description) where
       → take (6 * k + d .sizes .streams - 6 * k) (drop (6 * k) table) ≡ touchedBy d (getD (instances (d .nest)) k zero3)
   lent table k h l = let e : 6 * k + d .sizes .streams - 6 * k ≡ d .sizes .streams = omega arith in rw e (h .row k l)
 
-  -- the column of stream i, as it is read
-  pub column-is : (i : ℕ) {s : Stream} {start : ℕ} (table : List ℕ) {out : List ℕ} → i < d .sizes .streams
-      → s ≡ getD (d .streams) i noStream → start ≡ streamStart (d .nest) (streamsOf d) i
-      → out ≡ column i (numberFrom (d .nest) (s .map) start) (length (instances (d .nest))) table
-      → out ≡ column i (place i) (length (instances (d .nest))) table
-  column-is i table l e g o =
-      o ∙ ap₂ (λ (s : Stream) (start : ℕ). column i (numberFrom (d .nest) (s .map) start) (length (instances (d .nest))) table)
-      (e ∙ sym (getD-take (d .sizes .streams) (d .streams) i noStream l)) g
-
-  module _ (six : length (d .streams) ≡ 6) (h : Fitting d) where
-    -- it can be filled
-    pub filling : (i : ℕ) {s : Stream} {e : Extent} {start : ℕ} → i < d .sizes .streams → s ≡ getD (d .streams) i noStream
-        → boxed e ≡ boxOf (d .nest) (s .map) → start ≡ streamStart (d .nest) (streamsOf d) i → Filling (d .nest) (s .map) e start i
-    filling i {s} l e b g =
-        let r : InRange (d .nest) s = in-range (h .few .ranged .nest) (rw e (h .few .ranged .streams i)) in
-        record {
-          bounded = r .nest;
-          rows = r .map;
-          box = b;
-          few = h .instances;
-          lt = omega (arith, h .few .ranged .sized .most-streams);
-          fits =
-              omega (
-                arith,
-                start-next d six (h .few) i l e refl,
-                start-most d six (h .few) (i + 1) (omega arith),
-                h .few .ranged .sized .most-streams,
-              );
-        }
-
+  module _ (in-use : length (streamsOf d) ≡ d .sizes .streams) (h : Fitting d) where
     places-length : (x : V3) → length (touchedBy d x) ≡ d .sizes .streams
-    places-length x = touched-length (d .nest) x 0 (streamsOf d) ∙ in-use d six (h .few)
+    places-length x = touched-length (d .nest) x 0 (streamsOf d) ∙ in-use
 
     -- all columns are such a table
     pub columns-table : (xs : List ℕ) → length xs ≡ 24576 → Table (columns (d .sizes .streams) xs)
@@ -175,7 +149,7 @@ module _ (d : Description) where
               let u : j < m = omega (arith, w) in
               getD-take m (drop (6 * k) t) j 0 u ∙ getD-drop (6 * k) t j 0
               ∙ columns-at m j k xs u (h .few .ranged .sized .most-streams) l (omega (arith, h .instances))
-              ∙ sym (touched-at (d .nest) x 0 (streamsOf d) j (omega (arith, in-use d six (h .few)))
+              ∙ sym (touched-at (d .nest) x 0 (streamsOf d) j (omega (arith, in-use))
               ∙ ap (λ (c : ℕ). c + number (d .nest) x (streamAt j)) (zero-add (streamStart (d .nest) (streamsOf d) j)));
         }
       where
@@ -216,9 +190,44 @@ module _ (d : Description) where
                     omega (
                       arith,
                       touched-lt (d .nest) x 0 (streamsOf d) (λ j u.
-                          let r = stream-ranged j (omega (arith, in-use d six (h .few))) in
+                          let r = stream-ranged j (omega (arith, in-use)) in
                           row-lt (boxOf (d .nest) (streamAt j .map)) (image (streamAt j .map) x)
-                          (image-inside (record { bounded = r .nest; rows = r .map; lt = l }))) i (omega (arith, e, in-use d six (h .few))),
+                          (image-inside (record { bounded = r .nest; rows = r .map; lt = l }))) i (omega (arith, e, in-use)),
                     );
               };
         }
+
+-- ---- the column of a stream that was read
+
+module _ {v : Survey} (h : Fitting (v .description)) (k : Surveyed v) (i : ℕ) (l : i < v .description .sizes .streams)
+    {f : Flow} (e : f ≡ getD (v .flows) i noFlow)
+    {start : ℕ} (g : start ≡ streamStart (v .description .nest) (streamsOf (v .description)) i) where
+  -- it can be filled
+  pub filling : Filling f (v .ground .instances) start i
+  filling =
+      let d = v .description in
+      let w = flow-is k i l e in
+      record {
+        charted = charted (in-range (h .few .ranged .nest) (h .few .ranged .streams i)) w;
+        counted = k .ground .instances-is ∙ ap (λ (n : Nest). length (instances n)) (sym (w .nest-is));
+        few = omega (arith, k .ground .instances-is, h .instances);
+        lt = omega (arith, h .few .ranged .sized .most-streams);
+        fits =
+            omega (
+              arith,
+              start-next d (k .in-use) (h .few) i l (w .stream-is) (ap (λ (n : Nest). length (elements n (f .stream))) (w .nest-is)),
+              start-most d (k .in-use) (h .few) (i + 1) (omega arith),
+              h .few .ranged .sized .most-streams,
+            );
+      }
+
+  -- and is the stream's
+  pub column-is : (table : List ℕ) {out : List ℕ}
+      → out ≡ column i (numberFrom (f .nest) (f .stream .map) start) (length (instances (f .nest))) table
+      → out ≡ column i (place (v .description) i) (length (instances (v .description .nest))) table
+  column-is table o =
+      let d = v .description in
+      let w = flow-is k i l e in
+      o ∙ ap (λ (n : Nest). column i (numberFrom n (f .stream .map) start) (length (instances n)) table) (w .nest-is)
+      ∙ ap₂ (λ (s : Stream) (start : ℕ). column i (numberFrom (d .nest) (s .map) start) (length (instances (d .nest))) table)
+      (w .stream-is ∙ sym (getD-take (d .sizes .streams) (d .streams) i noStream l)) g

@@ -1,8 +1,9 @@
 -- The run of the instances one by one. Assumes nothing.
-use mathlib.Core.Path.{_≡_, _∙_, ap₂}
+use mathlib.Core.Path.{_≡_, refl, _∙_, ap₂}
 use mathlib.Core.List.{List}
 use Prim.Native.Nat.{ℕ, _+_, _*_, _-_, _≤_, _<_}
 use native.Mathlib.Numerals.{add-one}
+use native.Mathlib.Omega.{arith}
 use lib.ListN.{length, getD, take, drop, drop-of-length-le}
 use lib.Seq.{drop-cons}
 use Rattle.integers.specs.Vectors.{zero3}
@@ -11,8 +12,18 @@ use Rattle.meaning.specs.declared.Description.{Description}
 use Rattle.meaning.specs.Loops.{instances}
 use Rattle.meaning.specs.Description.{linesOf}
 use Rattle.meaning.specs.Body.{execute, executeAll}
+use Rattle.numbering.specs.Turns.{turning, all-some, instances-length}
+use Rattle.survey.specs.declared.Survey.{Survey}
+use Rattle.survey.specs.InRange.{nest-bounded}
+use Rattle.survey.specs.Surveys.{Surveyed}
 use Rattle.body.specs.Execute.{executeAt, execute-touched}
-use Rattle.written_order.specs.Places.{Table, lent}
+use Rattle.written_order.specs.Places.{Fitting, Table, lent}
+
+-- there is a first instance
+pub some-instance : {v : Survey} → Fitting (v .description) → Surveyed v → 0 < v .ground .instances
+some-instance {v} h k =
+    let n = v .description .nest in
+    omega (arith, k .ground .instances-is, instances-length n, all-some (turning n refl (nest-bounded (h .few .ranged .nest))))
 
 module _ (d : Description) (xs : List V3) (k : ℕ) (store : List ℕ) where
   pub run-next : k < length xs → executeAll d (drop (k + 1) xs) (execute d (getD xs k zero3) store) ≡ executeAll d (drop k xs) store

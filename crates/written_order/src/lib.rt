@@ -10,26 +10,30 @@ ghost use Prim.Native.Nat.{_<_};
 ghost use lib.ListN.{length, getD};
 ghost use Rattle.integers.specs.Vectors.{zero3};
 ghost use Rattle.meaning.specs.Loops.{instances};
+ghost use Rattle.meaning.specs.Description.{streamsOf};
 ghost use Rattle.meaning.specs.Body.{execute, finalValues};
 ghost use Rattle.meaning.specs.Calls.{lengthOf};
+ghost use Rattle.survey.specs.Surveys.{Surveyed};
 ghost use Rattle.written_order.specs.Columns.{column};
 ghost use Rattle.written_order.specs.Places.{Fitting, Filling, Table, numberFrom, place, columns};
-use integers::Matrix;
 use integers::V3;
 use meaning::Description;
 use meaning::ELEMENTS;
-use meaning::Nest;
-use numbering::Extent;
+use survey::Flow;
+use survey::Survey;
 
 // ---- the places of the instances
 
-// Column i of the table: the elements of one stream, whose numbers begin at start.
-fn fill_column(n: Nest, m: Matrix, e: Extent, start: u32, i: u32, table: &mut [u32; ELEMENTS])
-    requires { ⌜ Filling n m e start i ⌝ }
-    ensures { λ r. ⌜ now (table .exit) ≡ column i (numberFrom n m start) (length (instances n)) (now (table .entry)) ⌝ }
+// Column i of the table: the elements of one stream, whose numbers begin at start, for each of count instances.
+fn fill_column(f: Flow, count: u32, start: u32, i: u32, table: &mut [u32; ELEMENTS])
+    requires { ⌜ Filling f count start i ⌝ }
+    ensures { λ r. ⌜ now (table .exit)
+        ≡ column i (numberFrom (f .nest) (f .stream .map) start) (length (instances (f .nest))) (now (table .entry)) ⌝ }
 {
-    let count = numbering::instance_count(n);
-    let form = counting::form_of(m, e);
+    let n = f.nest;
+    let map = f.stream.map;
+    let elements = f.elements;
+    let form = counting::form_of(map, elements);
     let course = counting::course_of(n);
     let mut x = course.first;
     let mut k: u32 = 0;
@@ -41,27 +45,25 @@ fn fill_column(n: Nest, m: Matrix, e: Extent, start: u32, i: u32, table: &mut [u
 }
 
 // The column of stream i.
-fn fill_stream(d: Description, i: u32, table: &mut [u32; ELEMENTS])
-    requires { ⌜ (Fitting d) × (i < d .sizes .streams) ⌝ }
-    ensures { λ r. ⌜ now (table .exit) ≡ column i (place d i) (length (instances (d .nest))) (now (table .entry)) ⌝ }
+fn fill_stream(v: Survey, i: u32, table: &mut [u32; ELEMENTS])
+    requires { ⌜ (Fitting (v .description)) × (Surveyed v) × (i < v .description .sizes .streams) ⌝ }
+    ensures { λ r. ⌜ now (table .exit)
+        ≡ column i (place (v .description) i) (length (instances (v .description .nest))) (now (table .entry)) ⌝ }
 {
-    let n = d.nest;
-    let s = decode::stream(d, i as usize);
-    let map = s.map;
-    let e = numbering::extent_of(n, map);
-    let start = elements::elements_in(d, i);
-    fill_column(n, map, e, start, i, table);
+    let f = survey::flow_at(v, i as usize);
+    let start = elements::elements_in(v, i);
+    fill_column(f, v.ground.instances, start, i, table);
 }
 
 // The columns of all streams: row k then has the elements that instance k touches.
-fn fill_table(d: Description, table: &mut [u32; ELEMENTS])
-    requires { ⌜ Fitting d ⌝ }
-    ensures { λ r. ⌜ now (table .exit) ≡ columns d (d .sizes .streams) (now (table .entry)) ⌝ }
+fn fill_table(v: Survey, table: &mut [u32; ELEMENTS])
+    requires { ⌜ (Fitting (v .description)) × (Surveyed v) ⌝ }
+    ensures { λ r. ⌜ now (table .exit) ≡ columns (v .description) (v .description .sizes .streams) (now (table .entry)) ⌝ }
 {
-    let m = d.sizes.streams;
+    let m = v.description.sizes.streams;
     let mut i: u32 = 0;
     while i < m {
-        fill_stream(d, i, table);
+        fill_stream(v, i, table);
         i += 1;
     }
 }
@@ -70,8 +72,8 @@ fn fill_table(d: Description, table: &mut [u32; ELEMENTS])
 
 // Instance k, which is x.
 fn run_instance(d: Description, k: u32, x: V3, table: &[u32], store: &mut [u32])
-    requires { ⌜ (Fitting d) × (Table d (now table)) × (k < length (instances (d .nest))) × (length (now store) ≡ lengthOf d)
-        × (x ≡ getD (instances (d .nest)) k zero3) ⌝ }
+    requires { ⌜ (Fitting d) × (length (streamsOf d) ≡ d .sizes .streams) × (Table d (now table)) × (k < length (instances (d .nest)))
+        × (length (now store) ≡ lengthOf d) × (x ≡ getD (instances (d .nest)) k zero3) ⌝ }
     ensures { λ r. ⌜ now (store .exit) ≡ execute d (getD (instances (d .nest)) k zero3) (now (store .entry)) ⌝ }
 {
     let lines = d.lines;
@@ -82,12 +84,14 @@ fn run_instance(d: Description, k: u32, x: V3, table: &[u32], store: &mut [u32])
 }
 
 // All instances in the written order.
-fn run_instances(d: Description, table: &[u32], store: &mut [u32])
-    requires { ⌜ (Fitting d) × (Table d (now table)) × (length (now store) ≡ lengthOf d) ⌝ }
-    ensures { λ r. ⌜ now (store .exit) ≡ finalValues d (now (store .entry)) ⌝ }
+fn run_instances(v: Survey, table: &[u32], store: &mut [u32])
+    requires { ⌜ (Fitting (v .description)) × (Surveyed v) × (Table (v .description) (now table))
+        × (length (now store) ≡ lengthOf (v .description)) ⌝ }
+    ensures { λ r. ⌜ now (store .exit) ≡ finalValues (v .description) (now (store .entry)) ⌝ }
 {
+    let d = v.description;
     let n = d.nest;
-    let last = numbering::instance_count(n) - 1;
+    let last = v.ground.instances - 1;
     let course = counting::course_of(n);
     let mut x = course.first;
     let mut k: u32 = 0;
@@ -99,11 +103,11 @@ fn run_instances(d: Description, table: &[u32], store: &mut [u32])
 }
 
 // The run of a description's loops, on values in element order.
-pub fn run_loops(d: Description, store: &mut [u32])
-    requires { ⌜ (Fitting d) × (length (now store) ≡ lengthOf d) ⌝ }
-    ensures { λ r. ⌜ now (store .exit) ≡ finalValues d (now (store .entry)) ⌝ }
+pub fn run_loops(v: Survey, store: &mut [u32])
+    requires { ⌜ (Fitting (v .description)) × (Surveyed v) × (length (now store) ≡ lengthOf (v .description)) ⌝ }
+    ensures { λ r. ⌜ now (store .exit) ≡ finalValues (v .description) (now (store .entry)) ⌝ }
 {
     let mut table = [0; ELEMENTS];
-    fill_table(d, &mut table);
-    run_instances(d, &table, store);
+    fill_table(v, &mut table);
+    run_instances(v, &table, store);
 }

@@ -10,17 +10,17 @@ use Rattle.named_step.proofs.perform.Statement.{statement}
 use Rattle.named_step.proofs.perform.Tie as tie
 
 program-of-requires : tie.Need-program-of-requires
-program-of-requires c κs = search needs
+program-of-requires c κs = c .before .before .before .before .before .pre .1 .ground
 
 act-requires : tie.Need-act-requires
 act-requires c κs =
     let s = c .before .before .before .before .before .before .before .before in
     let h = s .pre .0 in
     let e = c .before .before .program-of .ensures in
-    let w : Within 200 (increment (s .args .d .nest)) = rw (e .0) at (e .1) in
+    let w : Within 200 (increment (s .args .v .description .nest)) = rw (e .0) at (e .1) in
     rw (e .0) (
       fits (h .grounds) (h .stood),
-      programmed (h .grounds) (h .stood) (s .pre .1) (s .pre .2) w,
+      programmed (h .grounds) (h .stood) (s .pre .2) (s .pre .3) w,
       h .inside,
       waiting-fits (h .grounds) (h .stood),
       received-fits (h .grounds) (h .stood),

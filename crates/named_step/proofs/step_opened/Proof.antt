@@ -2,8 +2,6 @@
 -- exactly where it is so by the array. Assumes nothing.
 use mathlib.Core.Path.{sym, _∙_}
 use borrow.Author.Needs.{needs}
-use Rattle.meaning.specs.Limits.{gaugeLimits}
-use Rattle.survey.specs.Accepted.{accepted-within}
 use Rattle.opening.specs.Opening.{grounds}
 use Rattle.opening.specs.Opened.{fits}
 use Rattle.named_step.specs.Named.{rows-of, named-inside}
@@ -24,20 +22,19 @@ can-requires c κs =
       named-inside (a .ports .now) _ (a .kind) (a .number) (a .stream) (sym (c .before .before .named .ensures) ∙ c .before .if1 .taken),
     )
 
-description-requires : tie.Need-description-requires
-description-requires c κs = accepted-within gaugeLimits _
-    (c .before .before .before .before .before .before .before .before .before .before .before .pre .0 .accepted) .0 .sized
-
 perform-requires : tie.Need-perform-requires
 perform-requires c κs =
-    let k = c .before .before .before .before in
+    let k = c .before .before .before in
     let s = k .before .before .before .before .before .before .before .before .before .before in
     let a = s .args in
-    rw (c .before .before .description .ensures) (
-      steppable (s .pre .0) (a .kind) (a .number) (a .stream) (sym (k .before .before .before .named .ensures)
-          ∙ k .before .before .if1 .taken) (sym (k .can .ensures) ∙ c .before .before .before .if2 .taken),
-      s .pre .1,
-      s .pre .2,
+    let v = s .pre .1 in (
+      rw (v .description-is) (
+        steppable (s .pre .0) (a .kind) (a .number) (a .stream) (sym (k .before .before .before .named .ensures)
+        ∙ k .before .before .if1 .taken) (sym (k .can .ensures) ∙ c .before .before .if2 .taken)
+      ),
+      v .surveyed,
+      rw (v .description-is) (s .pre .2),
+      s .pre .3,
     )
 
 same-length : tie.Need-same-length
@@ -48,13 +45,12 @@ same-length-2 c = search needs
 
 returns : tie.Need-returns
 returns c =
-    let k = c .before .before .before .before .before .before .before .before .before in
+    let k = c .before .before .before .before .before .before .before .before in
     let s = k .before .before .before .before .before .before .before .before .before .before in
     let a = s .args in
     done (s .pre .0) (a .kind) (a .number) (a .stream) (sym (k .before .before .before .named .ensures) ∙ k .before .before .if1 .taken)
-    (sym (k .can .ensures) ∙ c .before .before .before .before .before .before .before .before .if2 .taken)
-    (c .before .before .before .before .perform .ensures
-    ∙ rw (c .before .before .before .before .before .before .before .description .ensures))
+    (sym (k .can .ensures) ∙ c .before .before .before .before .before .before .before .if2 .taken)
+    (c .before .before .before .before .perform .ensures ∙ rw (s .pre .1 .description-is))
 
 same-length-3 : tie.Need-same-length-3
 same-length-3 c = search needs
@@ -78,7 +74,6 @@ step-opened-spec =
     (tie.spec
     named-requires
     can-requires
-    description-requires
     perform-requires
     same-length
     same-length-2

@@ -11,7 +11,7 @@ use Rattle.plain.proofs.run_accepted.Statement.{statement}
 use Rattle.plain.proofs.run_accepted.Tie as tie
 
 element-count-requires : tie.Need-element-count-requires
-element-count-requires c κs = c .before .before .pre .few
+element-count-requires c κs = let p = c .before .before .pre in (p .0 .few, p .1)
 
 of-plain-requires : tie.Need-of-plain-requires
 of-plain-requires c κs = search needs
@@ -21,8 +21,9 @@ store-requires c κs =
     let r = c .before .before in
     let k = r .before in
     let a = k .before .before .before .args in
-    let n = own-is (a .d) (length (now (a .values))) (length (now (a .output))) (k .element-count .ensures .0) (r .of-plain .ensures) in
-    let l = lengths-are (a .d) (length (now (a .values))) (length (now (a .output))) n (c .before .if1 .taken) in
+    let d = a .v .description in
+    let n = own-is d (length (now (a .values))) (length (now (a .output))) (k .element-count .ensures .0) (r .of-plain .ensures) in
+    let l = lengths-are d (length (now (a .values))) (length (now (a .output))) n (c .before .if1 .taken) in
     omega (arith, l .0, l .1)
 
 run-loops-requires : tie.Need-run-loops-requires
@@ -32,9 +33,10 @@ run-loops-requires c κs =
     let k = r .before in
     let s = k .before .before .before in
     let a = s .args in
-    let n = own-is (a .d) (length (now (a .values))) (length (now (a .output))) (k .element-count .ensures .0) (r .of-plain .ensures) in
-    let l = lengths-are (a .d) (length (now (a .values))) (length (now (a .output))) n (i .if1 .taken) in
-    (s .pre, c .before .before .before .store .kept .0 ∙ l .1)
+    let d = a .v .description in
+    let n = own-is d (length (now (a .values))) (length (now (a .output))) (k .element-count .ensures .0) (r .of-plain .ensures) in
+    let l = lengths-are d (length (now (a .values))) (length (now (a .output))) n (i .if1 .taken) in
+    (s .pre .0, s .pre .1, c .before .before .before .store .kept .0 ∙ l .1)
 
 same-length : tie.Need-same-length
 same-length c = search needs
@@ -46,19 +48,21 @@ returns c =
     let i = f .before .before in
     let k = i .before .before in
     let a = k .before .before .before .args in
-    let n = own-is (a .d) (length (now (a .values))) (length (now (a .output))) (k .element-count .ensures .0)
+    let d = a .v .description in
+    let n = own-is d (length (now (a .values))) (length (now (a .output))) (k .element-count .ensures .0)
     (i .before .of-plain .ensures) in
-    let e = lengths-are (a .d) (length (now (a .values))) (length (now (a .output))) n (i .if1 .taken) in
-    run-done (a .d) (now (a .values)) (now (a .output)) n (i .if1 .taken)
+    let e = lengths-are d (length (now (a .values))) (length (now (a .output))) n (i .if1 .taken) in
+    run-done d (now (a .values)) (now (a .output)) n (i .if1 .taken)
     (f .store .ensures ∙ stored-all (now (a .values)) (now (a .output)) (e .1 ∙ sym (e .0))) (l .run-loops .ensures)
 
 returns-2 : tie.Need-returns-2
 returns-2 c =
     let k = c .before .before in
     let a = k .before .before .before .args in
-    let n = own-is (a .d) (length (now (a .values))) (length (now (a .output))) (k .element-count .ensures .0)
+    let d = a .v .description in
+    let n = own-is d (length (now (a .values))) (length (now (a .output))) (k .element-count .ensures .0)
     (c .before .of-plain .ensures) in
-    run-refused (a .d) (now (a .values)) (now (a .output)) n (c .if1 .left)
+    run-refused d (now (a .values)) (now (a .output)) n (c .if1 .left)
 
 pub run-accepted-spec : {M : Type 1} → statement M
 run-accepted-spec =

@@ -21,7 +21,8 @@ link-of-requires : tie.Need-link-of-requires
 link-of-requires c κs = search needs
 
 mul-count : tie.Need-mul-count
-mul-count c = search needs
+mul-count c =
+    let p = c .before .before .before .before .before .before .pre .0 .near in record { fits = omega (arith, p .lt, few p) }
 
 shared-slice-read-count : tie.Need-shared-slice-read-count
 shared-slice-read-count c =

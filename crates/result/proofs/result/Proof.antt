@@ -26,16 +26,16 @@ slice-aggregate-result-opened-2 c = search needs
 
 result-opened-requires : tie.Need-result-opened-requires
 result-opened-requires c κs =
-    let z = c .before .before .before .before .before .before .if1 .taken in
-    let e = c .before .before .before .before .before .before .before .before .before .open-with-lanes .ensures in
-    (drawable (e .0 .opened z), e .0 .spans z, omega arith, e .1 z)
+    let i = c .before .before .before .before .before .before .before in
+    let e = i .before .before .before .open-with-lanes .ensures in
+    let z = i .if1 .taken in (drawable (e .0 .opened z), e .0 .survey z, e .0 .spans z, omega arith, e .1 z)
 
 same-length : tie.Need-same-length
 same-length c = search needs
 
 returns : tie.Need-returns
 returns c =
-    let i = c .before .before .before .before .before .before .before .before .before in
+    let i = c .before .before .before .before .before .before .before .before .before .before in
     let o = i .before .before .before in
     let a = o .before .before .before .before .before .before .before .before .before .args in
     opened-call _ (now (a .s)) (now (a .output)) (memoryOf (now (a .waiting)) (now (a .received)) (now (a .state)))

@@ -1,8 +1,6 @@
 -- `result::result_opened` meets its contract: where neither 25 nor 28 applies the output has a word for each element, so it can be filled;
 -- else it stays. Assumes nothing.
 use borrow.Author.Needs.{needs}
-use Rattle.meaning.specs.Limits.{gaugeLimits}
-use Rattle.survey.specs.Accepted.{accepted-within}
 use Rattle.result.specs.Out.{asked}
 use Rattle.result.specs.Call.{fillable, call-done, call-refused}
 use Rattle.result.proofs.result_opened.Statement.{statement}
@@ -14,30 +12,25 @@ all-out-requires c κs = asked (c .before .before .before .before .before .befor
 of-result-requires : tie.Need-of-result-requires
 of-result-requires c κs = search needs
 
-description-requires : tie.Need-description-requires
-description-requires c κs =
-    accepted-within gaugeLimits _ (c .before .before .before .before .before .before .before .before .before .before .pre .0 .accepted) .0
-    .sized
-
 fill-output-requires : tie.Need-fill-output-requires
 fill-output-requires c κs =
-    let r = c .before .before .before in
+    let r = c .before .before in
     let s = r .before .before .before .before .before .before .before .before .before in
-    let e = c .before .description .ensures in
-    let f = fillable (s .pre .0) (s .args .output .now) (r .before .all-out .ensures) (r .of-result .ensures)
-    (c .before .before .if1 .taken) e in
-    (f .0, f .1, f .2, rw e (s .pre .1), s .pre .2, rw e (s .pre .3))
+    let v = s .pre .1 in
+    let f = fillable (s .pre .0) (s .args .output .now) (r .before .all-out .ensures) (r .of-result .ensures) (c .before .if1 .taken)
+    (v .description-is) in
+    (f .0, v .surveyed, f .1, f .2, rw (v .description-is) (s .pre .2), s .pre .3, rw (v .description-is) (s .pre .4))
 
 same-length : tie.Need-same-length
 same-length c = search needs
 
 returns : tie.Need-returns
 returns c =
-    let i = c .before .before .before .before .before in
+    let i = c .before .before .before .before in
     let r = i .before in
     let s = r .before .before .before .before .before .before .before .before .before in
     call-done (s .pre .0) (s .args .output .now) (r .before .all-out .ensures) (r .of-result .ensures) (i .if1 .taken)
-    (c .before .before .before .before .description .ensures) (c .before .before .fill-output .ensures)
+    (s .pre .1 .description-is) (c .before .before .fill-output .ensures)
 
 returns-2 : tie.Need-returns-2
 returns-2 c =
@@ -51,7 +44,6 @@ result-opened-spec =
     (tie.spec
     all-out-requires
     of-result-requires
-    description-requires
     fill-output-requires
     same-length
     returns

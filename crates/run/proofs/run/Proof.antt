@@ -18,8 +18,9 @@ slice-aggregate-run-opened c = search needs
 
 run-opened-requires : tie.Need-run-opened-requires
 run-opened-requires c κs =
-    let z = c .before .before .before .before .before .before .if1 .taken in
-    let e = c .before .before .before .before .before .before .before .before .«open» .ensures in (e .opened z, e .spans z, omega arith)
+    let i = c .before .before .before .before .before .before .before in
+    let e = i .before .before .«open» .ensures in
+    let z = i .if1 .taken in (e .opened z, e .survey z, e .spans z, omega arith)
 
 same-length : tie.Need-same-length
 same-length c = search needs
@@ -29,10 +30,10 @@ same-length-2 c = search needs
 
 returns : tie.Need-returns
 returns c =
-    let k = c .before .before .before .before .before .before .before .before .before .before .before .before .before in
+    let k = c .before .before .before .before .before .before .before .before .before .before .before .before .before .before in
     let a = k .before .before .before .before .before .before .before .before .before .args in
     opened-call _ (now (a .s)) (a .steps) (memoryOf (now (a .waiting)) (now (a .received)) (now (a .state))) (k .«open» .ensures .refused)
-    (c .before .before .before .before .before .before .before .before .before .before .before .if1 .taken)
+    (c .before .before .before .before .before .before .before .before .before .before .before .before .if1 .taken)
     (c .before .before .before .before .run-opened .ensures)
 
 same-length-3 : tie.Need-same-length-3

@@ -1,34 +1,26 @@
 -- `run::run_opened` meets its contract: the flags are kept true of the state, so after the steps the lowest one set tells whether any step
 -- is ready. Assumes nothing.
 use borrow.Author.Needs.{needs}
-use Rattle.meaning.specs.Limits.{gaugeLimits}
-use Rattle.survey.specs.Accepted.{accepted-within}
-use Rattle.opening.specs.Opening.{grounds}
 use Rattle.run_steps.specs.Turn.{table-asks, flags-ask, starts}
 use Rattle.run.specs.Call.{ran-by}
 use Rattle.run.proofs.run_opened.Statement.{statement}
 use Rattle.run.proofs.run_opened.Tie as tie
 
-description-requires : tie.Need-description-requires
-description-requires c κs = accepted-within gaugeLimits _ (c .before .before .before .before .before .before .pre .0 .accepted) .0 .sized
-
 program-of-requires : tie.Need-program-of-requires
-program-of-requires c κs =
-    let g = grounds _ (c .before .before .before .before .before .before .before .pre .0 .accepted) .described in
-    rw (c .description .ensures) (g .nest .step, g .nest .place)
+program-of-requires c κs = c .before .before .before .before .before .before .pre .1 .surveyed .ground
 
 slice-aggregate-fill-wakeups : tie.Need-slice-aggregate-fill-wakeups
 slice-aggregate-fill-wakeups c = search needs
 
 fill-wakeups-requires : tie.Need-fill-wakeups-requires
-fill-wakeups-requires c κs = table-asks (c .before .before .before .before .before .before .before .before .before .pre .0)
+fill-wakeups-requires c κs = table-asks (c .before .before .before .before .before .before .before .before .pre .0)
 
 slice-aggregate-fill-flags : tie.Need-slice-aggregate-fill-flags
 slice-aggregate-fill-flags c = search needs
 
 fill-flags-requires : tie.Need-fill-flags-requires
 fill-flags-requires c κs =
-    flags-ask (c .before .before .before .before .before .before .before .before .before .before .before .before .before .pre .0)
+    flags-ask (c .before .before .before .before .before .before .before .before .before .before .before .before .pre .0)
 
 slice-aggregate-run-steps : tie.Need-slice-aggregate-run-steps
 slice-aggregate-run-steps c = search needs
@@ -40,10 +32,9 @@ run-steps-requires : tie.Need-run-steps-requires
 run-steps-requires c κs =
     let k = c .before .before .before .before .before .before .before .before .before .before .before in
     let p = k .program-of .ensures in
-    let h = k .before .before .before .before .before .before .before .before .pre in
-    starts (h .0) (k .before .description .ensures) (p .0) (p .1)
-    (h .1) (h .2) (c .before .before .before .before .before .before .before .before .before .fill-wakeups .ensures)
-    (c .before .before .before .before .before .fill-flags .ensures)
+    let h = k .before .before .before .before .before .before .before .pre in
+    starts (h .0) (h .1 .description-is) (p .0) (p .1) (h .2) (h .3)
+    (c .before .before .before .before .before .before .before .before .before .fill-wakeups .ensures) (c .before .before .before .before .before .fill-flags .ensures)
 
 slice-aggregate-lowest : tie.Need-slice-aggregate-lowest
 slice-aggregate-lowest c = search needs
@@ -66,7 +57,6 @@ pub run-opened-spec : {M : Type 1} → statement M
 run-opened-spec =
     tie.close
     (tie.spec
-    description-requires
     program-of-requires
     slice-aggregate-fill-wakeups
     fill-wakeups-requires

@@ -11,7 +11,7 @@ slice-aggregate-fill-places c = search needs
 
 fill-places-requires : tie.Need-fill-places-requires
 fill-places-requires c κs = let p = c .before .before .before .before .before .before .before .pre in
-    (p .0 .placeable, p .1, p .2, p .3, omega arith)
+    (p .0 .placeable, p .1, p .2, p .3, p .4, omega arith)
 
 slice-aggregate-put-values : tie.Need-slice-aggregate-put-values
 slice-aggregate-put-values c = search needs

@@ -12,7 +12,7 @@ slice-aggregate-figures-of : tie.Need-slice-aggregate-figures-of
 slice-aggregate-figures-of c = search needs
 
 figures-of-requires : tie.Need-figures-of-requires
-figures-of-requires c κs = let p = c .before .before .before .before .before .before .pre in (p .0 .described, p .1, p .2, refl)
+figures-of-requires c κs = let p = c .before .before .before .before .before .before .pre in (p .0 .described, p .1, p .2, p .3, refl)
 
 of-start-requires : tie.Need-of-start-requires
 of-start-requires c κs = search needs
@@ -25,10 +25,12 @@ fill-memory-requires c κs =
     let f = c .before .before .before .before .before .before .before in
     let s = f .before .before .before .before .before .before .before in
     let a = s .args in (
-      fitting (a .d) (f .figures-of .ensures .0) (now (a .values)) (memoryOf (now (a .waiting)) (now (a .received)) (now (a .state)))
+      fitting (a .v .description) (f .figures-of .ensures .0) (now (a .values))
+          (memoryOf (now (a .waiting)) (now (a .received)) (now (a .state)))
           (c .before .before .before .before .before .of-start .ensures) (s .pre .0) (c .before .before .before .before .if1 .taken),
       s .pre .1,
       s .pre .2,
+      s .pre .3,
       f .figures-of .ensures .1,
     )
 
@@ -45,7 +47,8 @@ returns : tie.Need-returns
 returns c =
     let f = c .before .before .before .before .before .before .before .before .before .before .before .before .before .before in
     let a = f .before .before .before .before .before .before .before .args in
-    call-done (a .d) (f .figures-of .ensures .0) (now (a .values)) (memoryOf (now (a .waiting)) (now (a .received)) (now (a .state)))
+    call-done (a .v .description) (f .figures-of .ensures .0) (now (a .values))
+    (memoryOf (now (a .waiting)) (now (a .received)) (now (a .state)))
     (c .before .before .before .before .before .before .before .before .before .before .before .before .of-start .ensures)
     (c .before .before .before .before .before .before .before .before .before .before .before .if1 .taken)
     (c .before .before .before .before .before .before .fill-memory .ensures)
@@ -53,7 +56,7 @@ returns c =
 returns-2 : tie.Need-returns-2
 returns-2 c =
     let a = c .before .before .before .before .before .before .before .before .before .before .args in
-    call-refused (a .d) (c .before .before .before .figures-of .ensures .0) (now (a .values))
+    call-refused (a .v .description) (c .before .before .before .figures-of .ensures .0) (now (a .values))
     (memoryOf (now (a .waiting)) (now (a .received)) (now (a .state))) (c .before .of-start .ensures) (c .if1 .left)
 
 pub start-accepted-spec : {M : Type 1} → statement M

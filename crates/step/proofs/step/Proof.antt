@@ -19,8 +19,9 @@ slice-aggregate-step-opened c = search needs
 
 step-opened-requires : tie.Need-step-opened-requires
 step-opened-requires c κs =
-    let z = c .before .before .before .before .before .before .if1 .taken in
-    let e = c .before .before .before .before .before .before .before .before .«open» .ensures in (e .opened z, e .spans z, omega arith)
+    let i = c .before .before .before .before .before .before .before in
+    let e = i .before .before .«open» .ensures in
+    let z = i .if1 .taken in (e .opened z, e .survey z, e .spans z, omega arith)
 
 same-length : tie.Need-same-length
 same-length c = search needs
@@ -30,10 +31,10 @@ same-length-2 c = search needs
 
 returns : tie.Need-returns
 returns c =
-    let k = c .before .before .before .before .before .before .before .before .before .before .before .before .before in
+    let k = c .before .before .before .before .before .before .before .before .before .before .before .before .before .before in
     let a = k .before .before .before .before .before .before .before .before .before .args in
     opened-call _ (now (a .s)) (a .kind) (a .number) (a .stream) (memoryOf (now (a .waiting)) (now (a .received)) (now (a .state)))
-    (k .«open» .ensures .refused) (c .before .before .before .before .before .before .before .before .before .before .before .if1 .taken)
+    (k .«open» .ensures .refused) (c .before .before .before .before .before .before .before .before .before .before .before .before .if1 .taken)
     (c .before .before .before .before .step-opened .ensures)
 
 same-length-3 : tie.Need-same-length-3

@@ -18,7 +18,7 @@ fill-streams-requires c κs = search needs
 copy-spans-requires : tie.Need-copy-spans-requires
 copy-spans-requires c κs =
     let f = c .before .before .before in
-    let s = f .before .before .before .before in (s .pre .2, omega (arith, f .fill-streams .kept .1 .1 .0, zeros-length (s .pre .3)))
+    let s = f .before .before .before .before in (s .pre .3, omega (arith, f .fill-streams .kept .1 .1 .0, zeros-length (s .pre .4)))
 
 shape-of-requires : tie.Need-shape-of-requires
 shape-of-requires c κs = search needs
@@ -31,21 +31,21 @@ returns c =
     let k = c .before .before .before in
     let f = k .before .before .before .before in
     let s = f .before .before .before .before in
-    let n = s .args .d .nest in
+    let d = s .args .v .description in
     let g = s .pre .0 in
     let es = now (s .args .spans) in
     let w = f .fill-streams .last .1 .1 .0 in
-    let l : 3072 ≤ length w = omega (arith, f .fill-streams .kept .1 .1 .0, zeros-length (s .pre .3)) in (
+    let l : 3072 ≤ length w = omega (arith, f .fill-streams .kept .1 .1 .0, zeros-length (s .pre .4)) in (
       c .shape-of .ensures .refusal,
       record {
         shaped = c .shape-of .ensures;
         bounded = g .bounded;
         few = g .processes;
-        most = omega (arith, g .used, g .most);
+        most = omega (arith, s .pre .1 .in-use, g .most);
         front = es;
-        spans = s .pre .1;
+        spans = s .pre .2;
         copied = subst (λ (v : List ℕ). (j : ℕ) → j < 3072 → getD v j 0 ≡ getD es j 0) (sym (k .copy-spans .ensures)) (front-copied es w l);
-        streams = subst (Streamed n (streamsOf (s .args .d)) _) (sym (k .copy-spans .ensures))
+        streams = subst (Streamed (d .nest) (streamsOf d) _) (sym (k .copy-spans .ensures))
             (streamed-copied es w l (f .fill-streams .ensures));
       },
     )

@@ -25,11 +25,12 @@ returns c =
     let e = k .before .element-count .ensures .0 in
     let s = k .before .before .before in
     let a = s .args in
-    let l = lists-fit (a .d) (a .pipe) (a .side) (a .waiting) (a .received) e (k .of-window .ensures) (c .before .if1 .taken) in
+    let d = a .v .description in
+    let l = lists-fit d (a .pipe) (a .side) (a .waiting) (a .received) e (k .of-window .ensures) (c .before .if1 .taken) in
     let h = c .located .ensures in (
-      h ∙ ap (pieceOf (a .d) (a .pipe)) (by-pipe (a .d) (a .pipe) (a .side) (a .waiting) (a .received) (l .0) (l .1) (l .2)),
+      h ∙ ap (pieceOf d (a .pipe)) (by-pipe d (a .pipe) (a .side) (a .waiting) (a .received) (l .0) (l .1) (l .2)),
       subst (λ (r : Piece). Within r (a .waiting) (a .received)) (sym h)
-          (located-within (a .d) (a .pipe) (a .side) (a .waiting) (a .received) (l .0) (l .1) (s .pre .0 .laid)),
+          (located-within d (a .pipe) (a .side) (a .waiting) (a .received) (l .0) (l .1) (s .pre .0 .laid)),
     )
 
 returns-2 : tie.Need-returns-2
@@ -37,9 +38,10 @@ returns-2 c =
     let k = c .before .before in
     let e = k .before .element-count .ensures .0 in
     let a = k .before .before .before .args in
+    let d = a .v .description in
     let z = c .before .if1 .left in
-    refused-piece (a .d) (a .pipe) (c .refused .ensures) z
-    (by-lists (a .d) (a .pipe) (a .side) (a .waiting) (a .received) e (k .of-window .ensures) z)
+    refused-piece d (a .pipe) (c .refused .ensures) z
+    (by-lists d (a .pipe) (a .side) (a .waiting) (a .received) e (k .of-window .ensures) z)
 
 pub accepted-piece-spec : {M : Type 1} → statement M
 accepted-piece-spec =

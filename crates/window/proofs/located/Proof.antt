@@ -7,7 +7,7 @@ use Rattle.window.proofs.located.Statement.{statement}
 use Rattle.window.proofs.located.Tie as tie
 
 all-searched-requires : tie.Need-all-searched-requires
-all-searched-requires c κs = let p = c .before .pre in (p .0 .described, p .1, p .2)
+all-searched-requires c κs = let p = c .before .pre in (p .0 .described, p .1, p .2, p .3)
 
 refused-requires : tie.Need-refused-requires
 refused-requires c κs = search needs
@@ -16,13 +16,13 @@ returns : tie.Need-returns
 returns c =
     let s = c .before in
     let a = s .before .before .args in
-    found-piece (a .d) (a .pipe) (s .all-searched .ensures .0) (c .if1 .taken) refl refl refl
+    found-piece (a .v .description) (a .pipe) (s .all-searched .ensures .0) (c .if1 .taken) refl refl refl
 
 returns-2 : tie.Need-returns-2
 returns-2 c =
     let s = c .before .before in
     let a = s .before .before .args in
-    lost-piece (a .d) (a .pipe) (s .all-searched .ensures .0) (c .before .if1 .left) (c .refused .ensures)
+    lost-piece (a .v .description) (a .pipe) (s .all-searched .ensures .0) (c .before .if1 .left) (c .refused .ensures)
 
 pub located-spec : {M : Type 1} → statement M
 located-spec =

@@ -1,7 +1,6 @@
 -- `written_order::run_instance` meets its contract: row k of the table holds the elements that instance k touches, so that its lines run on
 -- these. Assumes nothing.
-use mathlib.Core.Path.{_≡_, sym, subst₂}
-use lib.ListN.{length, length-map}
+use mathlib.Core.Path.{sym, subst₂}
 use borrow.Author.Needs.{needs}
 use Rattle.body.specs.Fit.{Runnable}
 use Rattle.written_order.specs.Places.{lent, runnable}
@@ -35,9 +34,8 @@ execute-requires c κs =
     let a = c .before .before .before .before .before .before in
     let d = a .args .d in
     let p = a .pre in
-    let six : length (d .streams) ≡ 6 = rw length-map at (a .good .0 .1 .1 .1 .1 .0 .1 .0 .1) in
-    subst₂ (Runnable (d .sizes .lines) (d .lines)) (sym (p .3)) (sym (lent d (a .args .table .now) (a .args .k) (p .1) (p .2)))
-    (runnable d six (p .0) (a .args .k) (p .2))
+    subst₂ (Runnable (d .sizes .lines) (d .lines)) (sym (p .4)) (sym (lent d (a .args .table .now) (a .args .k) (p .2) (p .3)))
+    (runnable d (p .1) (p .0) (a .args .k) (p .3))
 
 same-length : tie.Need-same-length
 same-length c = search needs
@@ -45,7 +43,7 @@ same-length c = search needs
 returns : tie.Need-returns
 returns c =
     let a = c .before .before .before .before .before .before .before .before .before in
-    executed (a .args .d) (a .args .k) (a .args .table .now) (a .args .store .now) (a .pre .1) (a .pre .2) (a .pre .4)
+    executed (a .args .d) (a .args .k) (a .args .table .now) (a .args .store .now) (a .pre .2) (a .pre .3) (a .pre .5)
     (c .before .before .execute .ensures)
 
 pub run-instance-spec : {M : Type 1} → statement M

@@ -1,8 +1,8 @@
 -- `written_order::run_loops` meets its contract: the columns of all streams make a table of which row k holds the elements that instance k
 -- touches. Assumes nothing.
-use mathlib.Core.Path.{_≡_, sym, _∙_, ap, subst}
+use mathlib.Core.Path.{sym, _∙_, ap, subst}
 use Prim.Native.Nat.{ℕ}
-use lib.ListN.{length, length-map, length-replicate}
+use lib.ListN.{length, length-replicate}
 use borrow.Author.Needs.{needs}
 use Rattle.written_order.specs.Places.{Table, columns-length, columns-table}
 use Rattle.written_order.proofs.run_loops.Statement.{statement}
@@ -18,12 +18,10 @@ slice-aggregate-run-instances c =
 run-instances-requires : tie.Need-run-instances-requires
 run-instances-requires c κs =
     let a = c .before .before .before .before .before in
-    let d = a .args .d in
-    let six : length (d .streams) ≡ 6 = rw length-map at (a .good .0 .1 .1 .1 .1 .0 .1 .0 .1) in (
-      a .pre .0,
-      subst (Table d) (sym (c .before .before .fill-table .ensures)) (columns-table d six (a .pre .0) _ (length-replicate {A = ℕ} 24576 0)),
-      a .pre .1,
-    )
+    let p = a .pre in
+    let d = a .args .v .description in
+    let t = columns-table d (p .1 .in-use) (p .0) _ (length-replicate {A = ℕ} 24576 0) in
+    (p .0, p .1, subst (Table d) (sym (c .before .before .fill-table .ensures)) t, p .2)
 
 same-length : tie.Need-same-length
 same-length c = search needs
