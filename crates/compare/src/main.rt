@@ -294,12 +294,12 @@ fn print_visits(walk: &[i8], instances: usize, small: bool)
 fn walk_lines(board: u32, s: &[u8], small: bool) {
     let mut spans = [0u32; SPANS];
     let mut walk = [0i8; WALK];
-    let refusal = walkable::walk_of(board, s, &mut spans, &mut walk);
+    let v = walkable::walk_of(board, s, &mut spans, &mut walk);
+    let refusal = v.refusal;
     print(b"walk");
     print_number(refusal);
     if refusal == 0 {
-        let n = walkable::nest_of(s);
-        print_visits(&walk, numbering::instance_count(n) as usize, small);
+        print_visits(&walk, v.ground.instances as usize, small);
     } else {
         print(b" 0\n");
     }

@@ -4,11 +4,13 @@
 // than any description has.
 ghost use Rattle.vectors.specs.Within.{Within};
 ghost use Rattle.numbering.specs.Ranges.{Bounded};
+ghost use Rattle.survey.specs.Surveys.{Surveyed};
 ghost use Rattle.walk.specs.Walked.{Along, Readable};
 use integers::V3;
 use layout::SPANS;
 use libc::STDIN_FILENO;
 use meaning::Nest;
+use survey::Survey;
 use text::PAGE;
 use walk::WALK;
 
@@ -56,22 +58,22 @@ fn print_figures(processes: u32, instances: u32) {
     text::print_page(page, end);
 }
 
-fn print_whole(n: Nest, walk: &[i8], loops: u32)
-    requires { ⌜ (Bounded n) × (Along n (now walk)) ⌝ }
+fn print_whole(v: Survey, walk: &[i8])
+    requires { ⌜ (Bounded (v .description .nest)) × (Surveyed v) × (Along (v .description .nest) (now walk)) ⌝ }
 {
-    let place = n.place;
-    let processes = numbering::size_of(numbering::extent_of(n, place));
-    let instances = numbering::instance_count(n);
-    print_figures(processes, instances);
-    print_visits(n, walk, instances as usize, loops);
+    let n = v.description.nest;
+    let instances = v.ground.instances;
+    print_figures(v.ground.processes, instances);
+    print_visits(n, walk, instances as usize, v.description.sizes.loops);
 }
 
 fn print_walk(board: u32, s: &[u8]) {
     let mut spans = [0u32; SPANS];
     let mut walk = [0i8; WALK];
-    let refusal = walkable::walk_of(board, s, &mut spans, &mut walk);
+    let v = walkable::walk_of(board, s, &mut spans, &mut walk);
+    let refusal = v.refusal;
     if refusal == 0 {
-        print_whole(walkable::nest_of(s), &walk, integers::bits_at(s, 0));
+        print_whole(v, &walk);
     } else {
         text::print_refusal(refusal);
     }

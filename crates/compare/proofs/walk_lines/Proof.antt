@@ -1,8 +1,7 @@
 -- `compare::walk_lines` is safe and ends. Assumes nothing.
-use mathlib.Core.Path.{sym, _∙_}
+use mathlib.Core.Path.{sym}
 use native.Mathlib.Omega.{arith}
 use borrow.Author.Needs.{needs}
-use Rattle.survey.specs.Accepted.{walk-within}
 use Rattle.compare.proofs.walk_lines.Statement.{statement}
 use Rattle.compare.proofs.walk_lines.Tie as tie
 
@@ -18,24 +17,16 @@ print-requires c κs = search needs
 print-number-requires : tie.Need-print-number-requires
 print-number-requires c κs = search needs
 
-nest-of-requires : tie.Need-nest-of-requires
-nest-of-requires c κs = walk-within _ _ (sym (c .before .before .before .before .walk-of .ensures .0) ∙ c .if1 .taken) .0
-
 slice-aggregate-print-visits : tie.Need-slice-aggregate-print-visits
-slice-aggregate-print-visits c =
-    let b = c .before .before in sym (b .before .before .before .before .walk-of .ensures .1 (b .if1 .taken) .1 .room)
-
-instance-count-requires : tie.Need-instance-count-requires
-instance-count-requires c κs = search needs
+slice-aggregate-print-visits c = sym (c .before .before .before .before .before .walk-of .ensures .1 (c .before .if1 .taken) .2 .room)
 
 cast-print-visits : tie.Need-cast-print-visits
 cast-print-visits c = search needs
 
 print-visits-requires : tie.Need-print-visits-requires
 print-visits-requires c κs =
-    let b = c .before .before .before in
-    let h = b .before .before .before .before .walk-of .ensures .1 (b .if1 .taken) .1 in
-    let e = rw (c .before .before .nest-of .ensures .0) at (c .instance-count .ensures .0) in omega (arith, h .few, h .room, e)
+    let h = c .before .before .before .before .before .before .walk-of .ensures .1 (c .before .before .if1 .taken) in
+    omega (arith, h .2 .few, h .2 .room, h .0 .surveyed .ground .instances-is)
 
 slice-aggregate-print-2 : tie.Need-slice-aggregate-print-2
 slice-aggregate-print-2 c = search needs
@@ -57,9 +48,7 @@ walk-lines-spec =
     slice-aggregate-print
     print-requires
     print-number-requires
-    nest-of-requires
     slice-aggregate-print-visits
-    instance-count-requires
     cast-print-visits
     print-visits-requires
     slice-aggregate-print-2
