@@ -115,7 +115,7 @@ fn backward(v: V2) -> bool
 
 // ---- the loops
 
-pub fn ground_of(n: Nest) -> Ground
+fn ground_of(n: Nest) -> Ground
     requires { ⌜ Bounded n ⌝ }
     ensures { λ r. ⌜ GroundOf n r ⌝ }
 {

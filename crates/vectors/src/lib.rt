@@ -35,7 +35,7 @@ fn rolled(u: V3) -> V3
     }
 }
 
-pub fn cross_of(u: V3, v: V3) -> V3
+fn cross_of(u: V3, v: V3) -> V3
     requires { ⌜ (Within 4 u) × (Within 4 v) ⌝ }
     ensures { λ r. ⌜ (r ≡ cross u v) × (Within 32 r) ⌝ }
 {
@@ -67,7 +67,7 @@ pub fn image_of(m: Matrix, v: V3) -> V2
     }
 }
 
-pub fn negated(v: V3) -> V3
+fn negated(v: V3) -> V3
     requires { ⌜ Within 200 v ⌝ }
     ensures { λ r. ⌜ (r ≡ neg3 v) × (Within 200 r) ⌝ }
 {
@@ -109,7 +109,7 @@ pub fn moved(p: V2, d: V2, k: u32) -> V2
 }
 
 // Turned so that its step is not negative.
-pub fn turned(step: V3, v: V3) -> V3
+fn turned(step: V3, v: V3) -> V3
     requires { ⌜ (Within 8 step) × (Within 200 v) ⌝ }
     ensures { λ r. ⌜ (r ≡ turn step v) × (Within 200 r) ⌝ }
 {

@@ -63,7 +63,8 @@ pub fn survey_within(s: &[u8], limits: Limits, spans: &mut [u32; SPANS]) -> Surv
         × ((r .refusal ≡ 0 → ⊥) → now (spans .exit) ≡ now (spans .entry)) ⌝ }
 {
     let v = nest_survey(s, limits);
-    if v.refusal == 0 {
+    let refusal = v.refusal;
+    if refusal == 0 {
         let n = v.description.nest;
         let g = v.ground;
         layout::fill_processes(n, g, spans);

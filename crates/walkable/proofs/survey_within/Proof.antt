@@ -12,7 +12,7 @@ nest-survey-requires c κs = search needs
 
 fill-processes-requires : tie.Need-fill-processes-requires
 fill-processes-requires c κs =
-    let v = c .before .before .before .before .before in
+    let v = c .before .before .before .before in
     let s = v .before .before in
     let z = c .before .before .before .if1 .taken in
     let h = v .nest-survey .ensures .1 z in
@@ -21,12 +21,12 @@ fill-processes-requires c κs =
 
 returns : tie.Need-returns
 returns c =
-    let v = c .before .before .before .before .before .before in
+    let v = c .before .before .before .before .before in
     let z = c .before .before .before .before .if1 .taken in
     (v .nest-survey .ensures .0, λ _. (v .nest-survey .ensures .1 z, c .fill-processes .ensures), λ f. absurd (f z))
 
 returns-2 : tie.Need-returns-2
-returns-2 c = let v = c .before .before .nest-survey .ensures in (v .0, λ z. absurd (c .if1 .left z), λ f. refl)
+returns-2 c = let v = c .before .nest-survey .ensures in (v .0, λ z. absurd (c .if1 .left z), λ f. refl)
 
 pub survey-within-spec : {M : Type 1} → statement M
 survey-within-spec =
