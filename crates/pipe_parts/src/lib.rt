@@ -16,8 +16,8 @@ ghost use Rattle.layout.specs.Spans.{processOf};
 ghost use Rattle.pipes.specs.Elements.{Near};
 ghost use Rattle.pipe_parts.specs.Starts.{enteringLength};
 ghost use Rattle.pipe_parts.specs.Heads.{headWords, headed};
-use survey::Flow;
 use meaning::PROCESSES;
+use survey::Flow;
 
 // The words of the heads: for each process how many pipes enter before it, and from this word on how many elements the pipe has that enters
 // there.

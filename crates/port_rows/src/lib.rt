@@ -22,10 +22,10 @@ ghost use Rattle.lanes.specs.Flow.{Flows};
 ghost use Rattle.pipes.specs.Elements.{Near};
 ghost use Rattle.port_rows.specs.Strands.{Narrow, beforeFrom, afterFrom, roomFrom, pipeOf, PortGiven, portFrom, offFrom, rowFrom};
 ghost use Rattle.port_rows.specs.Strands.{endFrom};
-use survey::Flow;
 use pipe_parts::TOTALS;
 use ports::End;
 use ports::Port;
+use survey::Flow;
 
 // What the rows of a stream share: the places of its links, the words of a process, where the stream's words begin among them, and the
 // index of the first word of its first pipe's ends.

@@ -29,9 +29,9 @@ perform-requires c κs =
     let a = s .args in
     let v = s .pre .1 in (
       rw (v .description-is) (
-        steppable (s .pre .0) (a .kind) (a .number) (a .stream) (sym (k .before .before .before .named .ensures)
-        ∙ k .before .before .if1 .taken) (sym (k .can .ensures) ∙ c .before .before .if2 .taken)
-      ),
+          steppable (s .pre .0) (a .kind) (a .number) (a .stream) (sym (k .before .before .before .named .ensures)
+          ∙ k .before .before .if1 .taken) (sym (k .can .ensures) ∙ c .before .before .if2 .taken)
+          ),
       v .surveyed,
       rw (v .description-is) (s .pre .2),
       s .pre .3,

@@ -49,10 +49,11 @@ returns c =
     let k = c .before .before .before .before .before .before in
     let a = k .before .before .before .before .before .before .before .before .before .before .before .before .args in
     let f = k .before .before .before .before .figures-of .ensures in
-    let r = c .before .before .sound-refusal .ensures in (
+    let r = c .before .before .sound-refusal .ensures in
+    let d = a .v .description in (
       refl,
-      lengths-passed (a .v .description) (f .0) (memoryOf (now (a .waiting)) (now (a .received)) (now (a .state))) (k .of-memory .ensures)
-          (c .before .before .before .before .before .if1 .taken) (k .before .size-of .ensures ∙ size-is (a .v .description) (f .0)) (r .0) (r .1),
+      lengths-passed d (f .0) (memoryOf (now (a .waiting)) (now (a .received)) (now (a .state))) (k .of-memory .ensures)
+          (c .before .before .before .before .before .if1 .taken) (k .before .size-of .ensures ∙ size-is d (f .0)) (r .0) (r .1),
       f .1,
     )
 
@@ -65,8 +66,8 @@ returns-2 c =
     let a = c .before .before .before .before .before .before .before .before .before .before .before .before .before .args in
     let f = c .before .before .before .before .before .figures-of .ensures in (
       refl,
-      lengths-refused (a .v .description) (f .0) (memoryOf (now (a .waiting)) (now (a .received)) (now (a .state))) (c .before .of-memory .ensures)
-          (c .if1 .left),
+      lengths-refused (a .v .description) (f .0) (memoryOf (now (a .waiting)) (now (a .received)) (now (a .state)))
+          (c .before .of-memory .ensures) (c .if1 .left),
       f .1,
     )
 

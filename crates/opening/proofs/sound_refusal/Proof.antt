@@ -11,7 +11,8 @@ use Rattle.opening.proofs.sound_refusal.Tie as tie
 
 fill-ports-requires : tie.Need-fill-ports-requires
 fill-ports-requires c κs =
-    let p = c .before .before .before .before .before .pre in (p .0 .grounds .described, p .0 .grounds .laid, p .1, p .2, p .3, p .4, p .0 .words)
+    let p = c .before .before .before .before .before .pre in
+    (p .0 .grounds .described, p .0 .grounds .laid, p .1, p .2, p .3, p .4, p .0 .words)
 
 sound-requires : tie.Need-sound-requires
 sound-requires c κs =

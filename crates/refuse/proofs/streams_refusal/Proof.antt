@@ -18,7 +18,8 @@ use Rattle.refuse.proofs.streams_refusal.Statement.{statement}
 use Rattle.refuse.proofs.streams_refusal.Tie as tie
 
 abbrev Inv-loop : tie.InvT-loop
-Inv-loop v limits walk d g m i₀ i = from limits (v .description) i ≡ refusal (testsFrom limits (v .description) 0 (streamsOf (v .description)))
+Inv-loop v limits walk d g m i₀ i =
+    from limits (v .description) i ≡ refusal (testsFrom limits (v .description) 0 (streamsOf (v .description)))
 
 abbrev μ-loop : tie.MeasureT-loop
 μ-loop v limits walk d g m i₀ i = v .description .sizes .streams - i

@@ -28,7 +28,8 @@ returns-3 c =
     let a = b .before .before in
     let x = a .before .before .args in
     skips 11 _ (a .before .rank-refused .ensures) (a .if1 .left)
-    (skips 12 (moveTests (x .limits) (x .f .nest) (x .written) (x .f .stream)) (b .before .line-refused .ensures) (b .if2 .left) (c .move-refusal .ensures))
+    (skips 12 (moveTests (x .limits) (x .f .nest) (x .written) (x .f .stream)) (b .before .line-refused .ensures) (b .if2 .left)
+    (c .move-refusal .ensures))
 
 pub stream-refusal-spec : {M : Type 1} → statement M
 stream-refusal-spec = tie.close (tie.spec rank-refused-requires line-refused-requires move-refusal-requires returns returns-2 returns-3)

@@ -34,7 +34,8 @@ run-steps-requires c κs =
     let p = k .program-of .ensures in
     let h = k .before .before .before .before .before .before .before .pre in
     starts (h .0) (h .1 .description-is) (p .0) (p .1) (h .2) (h .3)
-    (c .before .before .before .before .before .before .before .before .before .fill-wakeups .ensures) (c .before .before .before .before .before .fill-flags .ensures)
+    (c .before .before .before .before .before .before .before .before .before .fill-wakeups .ensures)
+    (c .before .before .before .before .before .fill-flags .ensures)
 
 slice-aggregate-lowest : tie.Need-slice-aggregate-lowest
 slice-aggregate-lowest c = search needs

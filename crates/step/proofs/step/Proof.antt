@@ -34,7 +34,8 @@ returns c =
     let k = c .before .before .before .before .before .before .before .before .before .before .before .before .before .before in
     let a = k .before .before .before .before .before .before .before .before .before .args in
     opened-call _ (now (a .s)) (a .kind) (a .number) (a .stream) (memoryOf (now (a .waiting)) (now (a .received)) (now (a .state)))
-    (k .«open» .ensures .refused) (c .before .before .before .before .before .before .before .before .before .before .before .before .if1 .taken)
+    (k .«open» .ensures .refused)
+    (c .before .before .before .before .before .before .before .before .before .before .before .before .if1 .taken)
     (c .before .before .before .before .step-opened .ensures)
 
 same-length-3 : tie.Need-same-length-3

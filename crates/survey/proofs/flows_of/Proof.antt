@@ -1,6 +1,6 @@
 -- `survey::flows_of` meets its contract: the flows are those of the first i streams. Assumes nothing.
 use mathlib.Core.Path.{_≡_, refl, sym, subst}
-use Prim.Native.Nat.{_-_, _≤_}
+use Prim.Native.Nat.{_-_, _≤_, _<_}
 use native.Mathlib.Omega.{arith}
 use lib.ListN.{length, length-set}
 use Rattle.meaning.specs.declared.Stream.{Stream}
@@ -34,14 +34,20 @@ flow-of-requires c κs =
     let i = c .before .before .loop .i in
     (in-range (p .0 .nest) (rw (← c .stream .ensures) at (p .0 .streams i)), p .1)
 
+-- stream i is one of six
+stream-lt : (c : tie.After-flow-of Inv-loop μ-loop) → c .before .before .before .loop .i < 6
+stream-lt c =
+    let s = c .before .before .before .before .before .before .before in
+    omega (arith, c .before .before .loop-test .taken, s .pre .0 .sized .most-streams)
+
 mul-out : tie.Need-mul-out Inv-loop μ-loop
-mul-out c = record { fits = omega (arith, c .before .before .loop-test .taken, c .before .before .before .before .before .before .before .pre .0 .sized .most-streams) }
+mul-out c = record { fits = omega (arith, stream-lt c) }
 
 array-set-from-out : tie.Need-array-set-from-out Inv-loop μ-loop
-array-set-from-out c = omega (arith, c .before .before .loop-test .taken, c .before .before .before .before .before .before .before .pre .0 .sized .most-streams)
+array-set-from-out c = omega (arith, stream-lt c)
 
 add-i : tie.Need-add-i Inv-loop μ-loop
-add-i c = record { fits = omega (arith, c .before .before .loop-test .taken, c .before .before .before .before .before .before .before .pre .0 .sized .most-streams) }
+add-i c = record { fits = omega (arith, stream-lt c) }
 
 loop-less : tie.Need-loop-less Inv-loop μ-loop
 loop-less c = search needs

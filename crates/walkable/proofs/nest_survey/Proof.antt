@@ -55,10 +55,11 @@ returns-2 : tie.Need-returns-2
 returns-2 c =
     let e = c .before .before in
     let a = e .before .before .args in
+    let l = a .limits in
     let s = now (a .s) in (
       c .refused .ensures
-          ∙ stops (earlyTests (a .limits) s) (layoutTests (a .limits) (descriptionOf s .nest)) (e .early-refusal .ensures) (c .before .if1 .left)
-          ∙ walk-tests (a .limits) s,
+          ∙ stops (earlyTests l s) (layoutTests l (descriptionOf s .nest)) (e .early-refusal .ensures) (c .before .if1 .left)
+          ∙ walk-tests l s,
       λ z. absurd (c .before .if1 .left (sym (c .refused .ensures) ∙ z)),
     )
 
