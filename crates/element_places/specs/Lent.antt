@@ -38,8 +38,8 @@ use Rattle.layout.specs.Spans.{processOf, Spans}
 use Rattle.survey.specs.declared.Flow.{Flow}
 use Rattle.survey.specs.declared.Survey.{Survey}
 use Rattle.survey.specs.Surveys.{FlowOf, Surveyed, noFlow, flow-is}
-use Rattle.lanes.specs.Flow.{Flows, Seen}
-use Rattle.lanes.specs.All.{LanesIn, seen-of}
+use Rattle.lanes.specs.Flow.{Flows, LanesIn, Seen}
+use Rattle.lanes.specs.All.{seen-of}
 use Rattle.pipes.specs.Elements.{At, Near, good, inside, total-none, at-one, one-elements, index-moving}
 use Rattle.figures.specs.Shares.{stream-is, sharing-at, share-at}
 use Rattle.pipe_parts.specs.Starts.{entering, entering-entry, entering-pipe, enteringLength, length-yes, length-no}
@@ -172,21 +172,21 @@ module _ {f : Flow} {from start : ℕ} {spans lanes : List ℕ} {p : ℕ} {place
         eqb-true (before (f .nest) (f .stream) here) 0
         (sym (entry-before (good (h .near)) (inside (h .near))) ∙ entering-entry (f .nest) (f .stream) here enters)
 
-    -- somebody computes on it
-    pub somebody : {q : ℕ} → q ≡ getD lanes (3072 + getD lanes p 0) 0 → q ≡ 0 → ⊥
-    somebody e z =
-        let none = eq-eqb (length (pipeElements (f .nest) (f .stream) here)) 0 (sym (total-none (h .near) (sym e ∙ z))) in
+    -- somebody computes on it, as the lanes of a moving stream say
+    pub somebody : T (f .moving) → {q : ℕ} → q ≡ getD lanes (1024 + getD lanes p 0) 0 → q ≡ 0 → ⊥
+    somebody m e z =
+        let none = eq-eqb (length (pipeElements (f .nest) (f .stream) here)) 0 (sym (total-none (h .near) m (sym e ∙ z))) in
         subst T (sym (entering-pipe (f .nest) (f .stream) here enters) ∙ pipe-some (good (h .near)) (inside (h .near)) ∙ ap not none) tt
 
-    module _ {q : ℕ} (e : q ≡ getD lanes (3072 + getD lanes p 0) 0) where
-      pub running : T (f .moving) → Running f from spans (q - 1)
-      running m = record { at = at-one (h .near) (sym e) (somebody e); moves = m; fits = h .fits }
+    module _ (m : T (f .moving)) {q : ℕ} (e : q ≡ getD lanes (1024 + getD lanes p 0) 0) where
+      pub running : Running f from spans (q - 1)
+      running = record { at = at-one (h .near) m (sym e) (somebody m e); moves = m; fits = h .fits }
 
       -- the run of its elements
       pub run-here : {r : Run} → RunOf (f .nest) (f .stream) from start (processOf (f .nest) (q - 1)) r
           → RunOf (f .nest) (f .stream) from start here r
       run-here {r} of =
-          let same = one-elements (h .near) (sym e) (somebody e) in
+          let same = one-elements (h .near) m (sym e) (somebody m e) in
           record {
             counted = of .counted ∙ ap length same;
             few = of .few;

@@ -29,8 +29,8 @@ use Rattle.survey.specs.StateWords.{end-words}
 use Rattle.elements.specs.Counts.{Few, total-most}
 use Rattle.elements.specs.Few.{accepted-few}
 use Rattle.survey.specs.declared.Flow.{Flow}
-use Rattle.lanes.specs.All.{LanesOf, LanesIn, lanes-of}
-use Rattle.lanes.specs.Flow.{Laid, Seen, Flowing, flowing-at}
+use Rattle.lanes.specs.All.{LanesOf, lanes-of}
+use Rattle.lanes.specs.Flow.{Laid, LanesIn, Seen, Flowing, flowing-at}
 use Rattle.survey.specs.declared.Survey.{Survey}
 use Rattle.survey.specs.Surveys.{Surveyed, noFlow, flow-is, streams-used}
 use Rattle.layout.specs.Spans.{Spans}

@@ -13,8 +13,8 @@ ghost use Rattle.meaning.specs.Pipes.{isEntry, entries};
 ghost use Rattle.meaning.specs.Accept.{figures};
 ghost use Rattle.layout.specs.Spans.{processOf, Spans, spanWords};
 ghost use Rattle.survey.specs.Surveys.{Surveyed};
-ghost use Rattle.lanes.specs.Flow.{Flowing};
-ghost use Rattle.lanes.specs.All.{LanesIn, laneWords};
+ghost use Rattle.lanes.specs.Flow.{LanesIn, Flowing};
+ghost use Rattle.lanes.specs.All.{ownLaneWords, laneWords};
 ghost use Rattle.pipes.specs.Elements.{Near};
 ghost use Rattle.figures.specs.Sums.{stepsOn, Under, sumsOver, sumsAt};
 ghost use Rattle.figures.specs.Shares.{Summing, Sharing, Small, shareOf, join, Room, totalsOf, Described, AllLanes};
@@ -89,8 +89,8 @@ fn sums_of(f: Flow, processes: u32, spans: &[u32], lanes: &[u16]) -> Sums
 
 // A stream's part of the figures, and its lanes, whose words come as zeros.
 fn share_of(f: Flow, processes: u32, spans: &[u32], lanes: &mut [u16]) -> Share
-    requires { ⌜ (Sharing (f .nest) (f .stream)) × (Flowing f processes (now spans)) × (length (now lanes) ≡ 4096)
-        × ((k : ℕ) → k < 4096 → getD (now lanes) k 0 ≡ 0) ⌝ }
+    requires { ⌜ (Sharing (f .nest) (f .stream)) × (Flowing f processes (now spans)) × (length (now lanes) ≡ ownLaneWords)
+        × ((k : ℕ) → k < ownLaneWords → getD (now lanes) k 0 ≡ 0) ⌝ }
     ensures { λ r. ⌜ (r ≡ shareOf (f .nest) (f .stream)) × (Small r) × (LanesIn (f .nest) (f .stream) (now (lanes .exit))) ⌝ }
 {
     lanes::fill_lanes(f, processes, spans, lanes);

@@ -98,18 +98,21 @@ flows {f = f} l k =
 
 -- room for a process and an entry in the lanes
 pub record Visitable (l : List ℕ) (p e : ℕ) : Type 0 where
-  pub words : length l ≡ 4096
+  pub words : length l ≡ 3072
   pub process : p < 1024
   pub entry : e < 1024
   pub held : getD l (2048 + e) 0 ≤ 1024
+
+-- words that hold the lanes of a stream
+abbrev pub LanesIn : Nest → Stream → List ℕ → Type 0
+LanesIn n s = Lanes (entryNumber n s) (computes n) (not (stationary n s)) (length (processes n)) (length (processes n))
 
 -- what the later functions look at: the words of the processes, and the lanes of all of them
 pub record Seen (f : Flow) (spans lanes : List ℕ) : Type 0 where
   pub flows : Flows f
   pub of-spans : Spans (f .nest) spans
   pub long : 3072 ≤ length spans
-  pub of-lanes : Lanes (entryNumber (f .nest) (f .stream)) (computes (f .nest)) (length (processes (f .nest)))
-      (length (processes (f .nest))) lanes
+  pub of-lanes : LanesIn (f .nest) (f .stream) lanes
 
 -- a stream that is laid out, with the words of its processes
 pub record Flowing (f : Flow) (count : ℕ) (spans : List ℕ) : Type 0 where
@@ -121,8 +124,8 @@ pub record Flowing (f : Flow) (count : ℕ) (spans : List ℕ) : Type 0 where
 -- what filling the lanes is lent
 pub record Fillable (f : Flow) (count : ℕ) (spans lanes : List ℕ) : Type 0 where
   pub flowing : Flowing f count spans
-  pub words : length lanes ≡ 4096
-  pub zeros : (i : ℕ) → i < 4096 → getD lanes i 0 ≡ 0
+  pub words : length lanes ≡ 3072
+  pub zeros : (i : ℕ) → i < 3072 → getD lanes i 0 ≡ 0
 
 module _ {f : Flow} (h : Flows f) where
   pub spanning : Spanning (boxed (f .space))

@@ -1,8 +1,9 @@
 // The lanes of a stream: which line of processes each process is on, and who computes there.
 //
-// One pass over the processes leaves the lanes, 1,024 words each: the entry of a process's line; how many before it compute there; for an
-// entry, how many compute on its line, and the number plus one of one of them. All else is then found at once for each process. A call
-// makes the lanes of all streams once and hands them on.
+// One pass over the processes leaves the lanes, 1,024 words each: the entry of a process's line; the marks; for an entry, how many compute
+// on its line. Of a moving stream an entry's mark is the number plus one of one of those, of a stationary one a process's mark is how many
+// before it compute on its line. All else is then found at once for each process. A call makes the lanes of all streams once and hands them
+// on.
 //
 // specs/, by file:
 //
@@ -15,22 +16,21 @@
 ghost use mathlib.Core.Path.{_≡_};
 ghost use Prim.Native.Nat.{_<_};
 ghost use lib.ListN.{length};
+ghost use Rattle.meaning.specs.Limits.{gaugeLimits};
 ghost use Rattle.meaning.specs.Space.{processes};
-ghost use Rattle.lanes.specs.Lanes.{visited};
+ghost use Rattle.lanes.specs.Lanes.{markedAt, markOf, visited};
 ghost use Rattle.lanes.specs.Held.{entryNumber};
 ghost use Rattle.lanes.specs.Flow.{Flows, Visitable, Fillable, Seen};
 use meaning::PROCESSES;
 use meaning::STREAMS;
 use survey::Flow;
 
-// The words of the lanes: the entries, and from these on how many compute before a process, how many on a line, and one of them.
-pub const BEFORE: usize = PROCESSES;
+// The words of the lanes: the entries, and from these on the marks, and how many compute on a line.
+pub const MARKS: usize = PROCESSES;
 
 pub const HELD: usize = 2 * PROCESSES;
 
-pub const ONE: usize = 3 * PROCESSES;
-
-pub const LANES: usize = 4 * PROCESSES;
+pub const LANES: usize = 3 * PROCESSES;
 
 // The words of the lanes of all streams.
 pub const ALL: usize = STREAMS * LANES;
@@ -47,17 +47,33 @@ fn entry_number(f: Flow, p: u32) -> u32
     numbering::row_number(space, vectors::moved(y, back, k))
 }
 
+// Whose mark a computing process p makes, whose line enters at e: the entry's if the stream moves, else its own.
+fn marked_at(p: usize, e: usize, moving: bool) -> usize
+    requires { ⌜ (p < gaugeLimits .processes) × (e < gaugeLimits .processes) ⌝ }
+    ensures { λ r. ⌜ (r ≡ markedAt p e moving) × (r < gaugeLimits .processes) ⌝ }
+{
+    if moving { e } else { p }
+}
+
+// That mark: its number plus one, or how many compute before it on its line.
+fn mark_of(p: usize, held: u16, moving: bool) -> u16
+    requires { ⌜ p < gaugeLimits .processes ⌝ }
+    ensures { λ r. ⌜ r ≡ markOf p held moving ⌝ }
+{
+    if moving { (p + 1) as u16 } else { held }
+}
+
 // Process p, whose line enters at e, joins its lane.
-fn visit(lanes: &mut [u16], p: usize, e: usize, computing: bool)
+fn visit(lanes: &mut [u16], p: usize, e: usize, computing: bool, moving: bool)
     requires { ⌜ Visitable (now lanes) p e ⌝ }
-    ensures { λ r. ⌜ now (lanes .exit) ≡ visited (now (lanes .entry)) p e computing ⌝ }
+    ensures { λ r. ⌜ now (lanes .exit) ≡ visited (now (lanes .entry)) p e computing moving ⌝ }
 {
     let held = lanes[HELD + e];
     lanes[p] = e as u16;
     if computing {
-        lanes[BEFORE + p] = held;
+        let i = marked_at(p, e, moving);
+        lanes[MARKS + i] = mark_of(p, held, moving);
         lanes[HELD + e] = held + 1;
-        lanes[ONE + e] = (p + 1) as u16;
     }
 }
 
@@ -69,7 +85,13 @@ pub fn fill_lanes(f: Flow, processes: u32, spans: &[u32], lanes: &mut [u16])
     let mut p: u32 = 0;
     while p < processes {
         let e = entry_number(f, p);
-        visit(lanes, p as usize, e as usize, spans[p as usize] != 0);
+        visit(
+            lanes,
+            p as usize,
+            e as usize,
+            spans[p as usize] != 0,
+            f.moving,
+        );
         p += 1;
     }
 }

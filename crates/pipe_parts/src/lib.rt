@@ -20,7 +20,7 @@ use meaning::PROCESSES;
 use survey::Flow;
 
 // The words of the heads: for each process how many pipes enter before it, and from this word on how many elements the pipe has that enters
-// there.
+// there. They fit 16 bits.
 pub const TOTALS: usize = PROCESSES;
 
 pub const HEADS: usize = 2 * PROCESSES;
@@ -50,10 +50,11 @@ pub fn entering_length(f: Flow, spans: &[u32], lanes: &[u16], p: usize) -> u32
 }
 
 // At process p: so many pipes enter before it, and the pipe that enters there has so many elements.
-pub fn put_head(heads: &mut [u32], p: usize, count: u32, total: u32)
-    requires { ⌜ (p < gaugeLimits .processes) × (length (now heads) ≡ headWords) ⌝ }
+pub fn put_head(heads: &mut [u16], p: usize, count: u32, total: u32)
+    requires { ⌜ (p < gaugeLimits .processes) × (length (now heads) ≡ headWords) × (count ≤ gaugeLimits .processes)
+        × (total ≤ gaugeLimits .instances) ⌝ }
     ensures { λ r. ⌜ now (heads .exit) ≡ headed (now (heads .entry)) p count total ⌝ }
 {
-    heads[p] = count;
-    heads[TOTALS + p] = total;
+    heads[p] = count as u16;
+    heads[TOTALS + p] = total as u16;
 }

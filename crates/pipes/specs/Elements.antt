@@ -19,6 +19,7 @@ use Rattle.meaning.specs.Streams.{stationary, pass}
 use Rattle.meaning.specs.Pipes.{reach, pipe, pipeElements, soak, drain}
 use Rattle.meaning.specs.Array.{rowSoak}
 use Rattle.meaning.specs.Points.{Inside}
+use Rattle.lists.specs.Tests.{is-true}
 use Rattle.geometry.specs.Numbers.{yes-cond, neg-not}
 use Rattle.geometry.specs.Places.{ahead, getD-in}
 use Rattle.geometry.specs.Boxes.{box-has, points-inside}
@@ -203,14 +204,6 @@ module _ {f : Flow} {spans lanes : List ℕ} {p : ℕ} (h : Near f spans lanes p
         held-most (entryNumber (f .nest) (f .stream)) (computes (f .nest)) (length (processes (f .nest))) (getD lanes p 0),
       )
 
-  pub one-le : getD lanes (3072 + getD lanes p 0) 0 ≤ 1024
-  one-le = go (h .seen .of-lanes .one (getD lanes p 0) entry-lt)
-    where
-      go : {w : ℕ} → One (entryNumber (f .nest) (f .stream)) (computes (f .nest)) (length (processes (f .nest))) (getD lanes p 0) w
-          → w ≤ 1024
-      go (nobody z q) = omega arith
-      go (somebody q z b t r) = omega (arith, few)
-
   -- of a stationary stream
   pub still-of : f .moving ≡ false → T (stationary (f .nest) (f .stream))
   still-of e = subst T (sym (not-false (stationary (f .nest) (f .stream)) (sym (h .seen .flows .moving-is) ∙ e))) tt
@@ -236,57 +229,71 @@ module _ {f : Flow} {spans lanes : List ℕ} {p : ℕ} (h : Near f spans lanes p
       sym (ap length (no-pipe good inside (none-filter (computing (f .nest)) (pipe (f .nest) (f .stream) (processOf (f .nest) p))
       (sym held-there ∙ h .seen .of-lanes .held (getD lanes p 0) entry-lt ∙ e))))
 
-  pub total-none : getD lanes (3072 + getD lanes p 0) 0 ≡ 0 → 0 ≡ length (pipeElements (f .nest) (f .stream) (processOf (f .nest) p))
-  total-none e = go (h .seen .of-lanes .one (getD lanes p 0) entry-lt) e
-    where
-      go : {w : ℕ} → One (entryNumber (f .nest) (f .stream)) (computes (f .nest)) (length (processes (f .nest))) (getD lanes p 0) w → w ≡ 0
-          → 0 ≡ length (pipeElements (f .nest) (f .stream) (processOf (f .nest) p))
-      go (nobody z q) e = nobody-there q
-      go (somebody q z b t r) e = absurd (omega arith)
+  module _ (moves : T (f .moving)) where
+    one-there : One (entryNumber (f .nest) (f .stream)) (computes (f .nest)) (length (processes (f .nest))) (getD lanes p 0)
+        (getD lanes (1024 + getD lanes p 0) 0)
+    one-there =
+        h .seen .of-lanes .one (sym (h .seen .flows .moving-is) ∙ is-true (f .moving) moves) (getD lanes p 0) entry-lt
 
-  -- somebody on it
-  pub at-one : {q : ℕ} → getD lanes (3072 + getD lanes p 0) 0 ≡ q → (q ≡ 0 → ⊥) → At f spans (q - 1)
-  at-one e g = go (h .seen .of-lanes .one (getD lanes p 0) entry-lt) e g
-    where
-      go : {w q : ℕ}
-          → One (entryNumber (f .nest) (f .stream)) (computes (f .nest)) (length (processes (f .nest))) (getD lanes p 0) w → w ≡ q
-          → (q ≡ 0 → ⊥) → At f spans (q - 1)
-      go (nobody z k) e g = absurd (g (sym e ∙ z))
-      go {q} (somebody i z b t r) e g =
-          let j : i ≡ q - 1 = omega arith in
-          subst (At f spans) j
-          (record { flows = h .seen .flows; words = h .seen .of-spans; long = h .seen .long; lt = b; computing = t })
+    pub one-le : getD lanes (1024 + getD lanes p 0) 0 ≤ 1024
+    one-le = go one-there
+      where
+        go : {w : ℕ} → One (entryNumber (f .nest) (f .stream)) (computes (f .nest)) (length (processes (f .nest))) (getD lanes p 0) w
+            → w ≤ 1024
+        go (nobody z q) = omega arith
+        go (somebody q z b t r) = omega (arith, few)
 
-  -- its line is the same
-  pub one-elements : {q : ℕ} → getD lanes (3072 + getD lanes p 0) 0 ≡ q → (q ≡ 0 → ⊥)
-      → pipeElements (f .nest) (f .stream) (processOf (f .nest) (q - 1)) ≡ pipeElements (f .nest) (f .stream) (processOf (f .nest) p)
-  one-elements e g = go (h .seen .of-lanes .one (getD lanes p 0) entry-lt) e g
-    where
-      go : {w q : ℕ}
-          → One (entryNumber (f .nest) (f .stream)) (computes (f .nest)) (length (processes (f .nest))) (getD lanes p 0) w → w ≡ q
-          → (q ≡ 0 → ⊥) → pipeElements (f .nest) (f .stream) (processOf (f .nest) (q - 1))
-          ≡ pipeElements (f .nest) (f .stream) (processOf (f .nest) p)
-      go (nobody z k) e g = absurd (g (sym e ∙ z))
-      go {q} (somebody i z b t r) e g =
-          let j : i ≡ q - 1 = omega arith in
-          let hi = points-inside (space (f .nest)) (processOf (f .nest) i) (getD-in (processes (f .nest)) i zero2 b) in
-          let o = one-number (space (f .nest)) (entry-is good hi .inside) (entry-is good inside .inside)
-          (r ∙ h .seen .of-lanes .entries p (h .lt)) in
-          ap (λ (i : ℕ). pipeElements (f .nest) (f .stream) (processOf (f .nest) i)) (sym j)
-          ∙ same-elements good inside hi
-          (join-pipe (entry-pipe good (processOf (f .nest) p))
-          (flip-pipe (subst (OnePipe (f .nest) (f .stream) (processOf (f .nest) i)) o (entry-pipe good (processOf (f .nest) i)))))
+    pub total-none : getD lanes (1024 + getD lanes p 0) 0 ≡ 0 → 0 ≡ length (pipeElements (f .nest) (f .stream) (processOf (f .nest) p))
+    total-none e = go one-there e
+      where
+        go : {w : ℕ} → One (entryNumber (f .nest) (f .stream)) (computes (f .nest)) (length (processes (f .nest))) (getD lanes p 0) w
+            → w ≡ 0 → 0 ≡ length (pipeElements (f .nest) (f .stream) (processOf (f .nest) p))
+        go (nobody z q) e = nobody-there q
+        go (somebody q z b t r) e = absurd (omega arith)
 
-  pub total-one : {q r : ℕ} → getD lanes (3072 + getD lanes p 0) 0 ≡ q → (q ≡ 0 → ⊥)
-      → r ≡ length (pipeElements (f .nest) (f .stream) (processOf (f .nest) (q - 1)))
-      → r ≡ length (pipeElements (f .nest) (f .stream) (processOf (f .nest) p))
-  total-one e g k = k ∙ ap length (one-elements e g)
+    -- somebody on it
+    pub at-one : {q : ℕ} → getD lanes (1024 + getD lanes p 0) 0 ≡ q → (q ≡ 0 → ⊥) → At f spans (q - 1)
+    at-one e g = go one-there e g
+      where
+        go : {w q : ℕ}
+            → One (entryNumber (f .nest) (f .stream)) (computes (f .nest)) (length (processes (f .nest))) (getD lanes p 0) w → w ≡ q
+            → (q ≡ 0 → ⊥) → At f spans (q - 1)
+        go (nobody z k) e g = absurd (g (sym e ∙ z))
+        go {q} (somebody i z b t r) e g =
+            let j : i ≡ q - 1 = omega arith in
+            subst (At f spans) j
+            (record { flows = h .seen .flows; words = h .seen .of-spans; long = h .seen .long; lt = b; computing = t })
+
+    -- its line is the same
+    pub one-elements : {q : ℕ} → getD lanes (1024 + getD lanes p 0) 0 ≡ q → (q ≡ 0 → ⊥)
+        → pipeElements (f .nest) (f .stream) (processOf (f .nest) (q - 1)) ≡ pipeElements (f .nest) (f .stream) (processOf (f .nest) p)
+    one-elements e g = go one-there e g
+      where
+        go : {w q : ℕ}
+            → One (entryNumber (f .nest) (f .stream)) (computes (f .nest)) (length (processes (f .nest))) (getD lanes p 0) w → w ≡ q
+            → (q ≡ 0 → ⊥) → pipeElements (f .nest) (f .stream) (processOf (f .nest) (q - 1))
+            ≡ pipeElements (f .nest) (f .stream) (processOf (f .nest) p)
+        go (nobody z k) e g = absurd (g (sym e ∙ z))
+        go {q} (somebody i z b t r) e g =
+            let j : i ≡ q - 1 = omega arith in
+            let hi = points-inside (space (f .nest)) (processOf (f .nest) i) (getD-in (processes (f .nest)) i zero2 b) in
+            let o = one-number (space (f .nest)) (entry-is good hi .inside) (entry-is good inside .inside)
+            (r ∙ h .seen .of-lanes .entries p (h .lt)) in
+            ap (λ (i : ℕ). pipeElements (f .nest) (f .stream) (processOf (f .nest) i)) (sym j)
+            ∙ same-elements good inside hi
+            (join-pipe (entry-pipe good (processOf (f .nest) p))
+            (flip-pipe (subst (OnePipe (f .nest) (f .stream) (processOf (f .nest) i)) o (entry-pipe good (processOf (f .nest) i)))))
+
+    pub total-one : {q r : ℕ} → getD lanes (1024 + getD lanes p 0) 0 ≡ q → (q ≡ 0 → ⊥)
+        → r ≡ length (pipeElements (f .nest) (f .stream) (processOf (f .nest) (q - 1)))
+        → r ≡ length (pipeElements (f .nest) (f .stream) (processOf (f .nest) p))
+    total-one e g k = k ∙ ap length (one-elements e g)
 
   -- ---- the rank of a computing process of a stationary stream
 
-  module _ (c : T (computes (f .nest) p)) where
+  module _ (c : T (computes (f .nest) p)) (still : f .moving ≡ false) where
     running-is : getD lanes (1024 + p) 0 ≡ heldOn (f .nest) (f .stream) p (entryNumber (f .nest) (f .stream) p)
-    running-is = h .seen .of-lanes .running p (h .lt) c
+    running-is = h .seen .of-lanes .running (sym (h .seen .flows .moving-is) ∙ still) p (h .lt) c
 
     all-is : getD lanes (2048 + getD lanes p 0) 0
         ≡ heldOn (f .nest) (f .stream) (length (processes (f .nest))) (entryNumber (f .nest) (f .stream) p)
@@ -297,23 +304,21 @@ module _ {f : Flow} {spans lanes : List ℕ} {p : ℕ} (h : Near f spans lanes p
     pub running-lt : getD lanes (1024 + p) 0 < getD lanes (2048 + getD lanes p 0) 0
     running-lt = omega (arith, running-is, all-is, running-below good p (h .lt) c)
 
-    pub still-soak : T (stationary (f .nest) (f .stream)) → (b : Bool) → b ≡ f .turned
+    pub still-soak : (b : Bool) → b ≡ f .turned
         → soak (f .nest) (f .stream) (processOf (f .nest) p)
         ≡ cond b (getD lanes (2048 + getD lanes p 0) 0 - suc (getD lanes (1024 + p) 0)) (getD lanes (1024 + p) 0)
-    still-soak t b e =
-        soak-held good p (h .lt) c t
+    still-soak b e =
+        soak-held good p (h .lt) c (still-of still)
         ∙ ap (λ (x : Bool). cond x (heldOn (f .nest) (f .stream) (length (processes (f .nest))) (entryNumber (f .nest) (f .stream) p)
         - suc (heldOn (f .nest) (f .stream) p (entryNumber (f .nest) (f .stream) p)))
         (heldOn (f .nest) (f .stream) p (entryNumber (f .nest) (f .stream) p))) (sym (e ∙ h .seen .flows .turned-is))
         ∙ ap₂ (λ (u v : ℕ). cond b (u - suc v) v) (sym all-is) (sym running-is)
 
     -- and its drain
-    pub still-drain : f .moving ≡ false
-        → soak (f .nest) (f .stream) (processOf (f .nest) p) + 1 + drain (f .nest) (f .stream) (processOf (f .nest) p)
+    pub still-drain : soak (f .nest) (f .stream) (processOf (f .nest) p) + 1 + drain (f .nest) (f .stream) (processOf (f .nest) p)
         ≡ getD lanes (2048 + getD lanes p 0) 0
-    still-drain e =
-        still-total good (still-of e) (run-first (good .layout) (processOf (f .nest) p) c)
-        ∙ sym (total-still e)
+    still-drain =
+        still-total good (still-of still) (run-first (good .layout) (processOf (f .nest) p) c) ∙ sym (total-still still)
 
   -- ---- a row of the table
 

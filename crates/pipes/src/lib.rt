@@ -15,16 +15,15 @@ ghost use Rattle.integers.specs.Fill.{fillBy};
 ghost use Rattle.meaning.specs.Space.{first, last};
 ghost use Rattle.meaning.specs.Pipes.{pipeElements, soak, drain};
 ghost use Rattle.meaning.specs.Array.{rowSoak};
-ghost use Rattle.layout.specs.Spans.{processOf, spanWords};
+ghost use Rattle.layout.specs.Spans.{processOf};
 ghost use Rattle.lanes.specs.Held.{computes};
 ghost use Rattle.lanes.specs.Flow.{Flowing};
 ghost use Rattle.pipes.specs.Elements.{At, Near, rowDrain, Filling};
 ghost use Rattle.pipes.specs.Passed.{Passed};
 use integers::V2;
-use lanes::BEFORE;
 use lanes::HELD;
 use lanes::LANES;
-use lanes::ONE;
+use lanes::MARKS;
 use layout::LASTS;
 use meaning::PROCESSES;
 use survey::Flow;
@@ -92,7 +91,7 @@ pub fn entry_at(f: Flow, spans: &[u32], lanes: &[u16], p: usize) -> usize
     lanes[p] as usize
 }
 
-// How many compute on it, and the number plus one of one of them.
+// How many compute on it, and of a moving stream the number plus one of one of them.
 pub fn held_at(f: Flow, spans: &[u32], lanes: &[u16], p: usize) -> u32
     requires { ⌜ Near f (now spans) (now lanes) p ⌝ }
     ensures { λ r. ⌜ r ≡ getD (now (lanes .entry)) (2048 + getD (now (lanes .entry)) p 0) 0 ⌝ }
@@ -102,11 +101,11 @@ pub fn held_at(f: Flow, spans: &[u32], lanes: &[u16], p: usize) -> u32
 }
 
 pub fn one_at(f: Flow, spans: &[u32], lanes: &[u16], p: usize) -> u32
-    requires { ⌜ Near f (now spans) (now lanes) p ⌝ }
-    ensures { λ r. ⌜ r ≡ getD (now (lanes .entry)) (spanWords + getD (now (lanes .entry)) p 0) 0 ⌝ }
+    requires { ⌜ (Near f (now spans) (now lanes) p) × (T (f .moving)) ⌝ }
+    ensures { λ r. ⌜ r ≡ getD (now (lanes .entry)) (gaugeLimits .processes + getD (now (lanes .entry)) p 0) 0 ⌝ }
 {
     let e = entry_at(f, spans, lanes, p);
-    lanes[ONE + e] as u32
+    lanes[MARKS + e] as u32
 }
 
 // Of a stationary stream: its soak, the number of computing processes before it on its pipe.
@@ -114,7 +113,7 @@ fn rank_at(f: Flow, spans: &[u32], lanes: &[u16], p: usize) -> u32
     requires { ⌜ (Near f (now spans) (now lanes) p) × (T (computes (f .nest) p)) × (f .moving ≡ false) ⌝ }
     ensures { λ r. ⌜ r ≡ soak (f .nest) (f .stream) (processOf (f .nest) p) ⌝ }
 {
-    let running = lanes[BEFORE + p] as u32;
+    let running = lanes[MARKS + p] as u32;
     if f.turned {
         held_at(f, spans, lanes, p) - 1 - running
     } else {

@@ -43,7 +43,8 @@ use Rattle.survey.specs.declared.Flow.{Flow}
 use Rattle.survey.specs.declared.Survey.{Survey}
 use Rattle.survey.specs.Surveys.{FlowOf, Surveyed, noFlow, flow-is}
 use Rattle.layout.specs.Spans.{Spans}
-use Rattle.lanes.specs.All.{LanesIn, lanes-of}
+use Rattle.lanes.specs.Flow.{LanesIn}
+use Rattle.lanes.specs.All.{lanes-of}
 use Rattle.elements.specs.Counts.{total-most}
 use Rattle.pipe_parts.specs.Starts.{entering, startAt, start-most, enteredAt, entered-next, one-yes}
 use Rattle.figures.specs.Shares.{Described, Sharing, share-small, totals-room, stream-sharing, sharing-at, share-at}

@@ -19,7 +19,7 @@ ghost use Rattle.addresses.specs.Indices.{strideOf};
 ghost use Rattle.layout.specs.Spans.{Spans, spanWords};
 ghost use Rattle.pipe_parts.specs.Starts.{enteringOne};
 ghost use Rattle.pipe_parts.specs.Heads.{headWords, Heads};
-ghost use Rattle.lanes.specs.All.{LanesIn};
+ghost use Rattle.lanes.specs.Flow.{LanesIn};
 ghost use Rattle.figures.specs.Shares.{Described, AllLanes};
 ghost use Rattle.port_rows.specs.Strands.{Narrow};
 ghost use Rattle.port_table.specs.PortsOf.{PortsOf, portTableWords};
@@ -123,7 +123,7 @@ fn put_ends(
     lanes: &[u16],
     first: u32,
     base: u32,
-    heads: &mut [u32],
+    heads: &mut [u16],
     ports: &mut [u32],
 ) -> u32
     requires { ⌜ (EndsFillable f g processes (now spans) (now lanes) first base) × (length (now heads) ≡ headWords)
@@ -150,7 +150,7 @@ fn put_port(
     g: Strand,
     spans: &[u32],
     lanes: &[u16],
-    heads: &[u32],
+    heads: &[u16],
     i: usize,
     p: usize,
     ports: &mut [u32],
@@ -169,7 +169,7 @@ fn put_ports(
     processes: u32,
     spans: &[u32],
     lanes: &[u16],
-    heads: &[u32],
+    heads: &[u16],
     i: usize,
     ports: &mut [u32],
 )
@@ -200,7 +200,7 @@ fn fill_stream(
     ensures { λ r. ⌜ (r ≡ length (entries (f .nest) (f .stream)))
         × (now (ports .exit) ≡ streamRows (f .nest) (f .stream) g i first base (now (ports .entry))) ⌝ }
 {
-    let mut heads = [0u32; HEADS];
+    let mut heads = [0u16; HEADS];
     let pipes = put_ends(
         f,
         g,

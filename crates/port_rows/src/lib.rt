@@ -77,21 +77,28 @@ fn number_back(f: Flow, p: u32) -> u32
     (p as i32 - f.step) as u32
 }
 
+// A word of 16 bits as a number.
+fn wide(x: u16) -> u32
+    ensures { λ r. ⌜ r ≡ x ⌝ }
+{
+    x as u32
+}
+
 // The number of the pipe of process p in the stream, and how many elements it has, 0 without a pipe: both at the entry of its line.
-fn pipe_number(f: Flow, spans: &[u32], lanes: &[u16], heads: &[u32], p: usize) -> u32
+fn pipe_number(f: Flow, spans: &[u32], lanes: &[u16], heads: &[u16], p: usize) -> u32
     requires { ⌜ PortGiven f (now spans) (now lanes) (now heads) p ⌝ }
     ensures { λ r. ⌜ (r ≡ pipeOf (f .nest) (f .stream) p) × (r ≤ gaugeLimits .processes) ⌝ }
 {
     let e = pipes::entry_at(f, spans, lanes, p);
-    heads[e]
+    wide(heads[e])
 }
 
-fn pipe_total(f: Flow, spans: &[u32], lanes: &[u16], heads: &[u32], p: usize) -> u32
+fn pipe_total(f: Flow, spans: &[u32], lanes: &[u16], heads: &[u16], p: usize) -> u32
     requires { ⌜ PortGiven f (now spans) (now lanes) (now heads) p ⌝ }
     ensures { λ r. ⌜ r ≡ length (pipeElements (f .nest) (f .stream) (processOf (f .nest) p)) ⌝ }
 {
     let e = pipes::entry_at(f, spans, lanes, p);
-    heads[TOTALS + e]
+    wide(heads[TOTALS + e])
 }
 
 // The soak of process p, whose pipe has so many elements: of a null process all of them.
@@ -153,7 +160,7 @@ fn port_of(
     g: Strand,
     spans: &[u32],
     lanes: &[u16],
-    heads: &[u32],
+    heads: &[u16],
     total: u32,
     p: usize,
 ) -> Port
@@ -200,7 +207,7 @@ fn off_of(g: Strand, count: u32, p: u32) -> Port
 }
 
 // The row of process p.
-pub fn row_of(f: Flow, g: Strand, spans: &[u32], lanes: &[u16], heads: &[u32], p: usize) -> Port
+pub fn row_of(f: Flow, g: Strand, spans: &[u32], lanes: &[u16], heads: &[u16], p: usize) -> Port
     requires { ⌜ (PortGiven f (now spans) (now lanes) (now heads) p) × (Narrow g) ⌝ }
     ensures { λ r. ⌜ r ≡ rowFrom (f .nest) (f .stream) g p ⌝ }
 {

@@ -71,9 +71,9 @@ fill-stream-requires c κs =
     let p = l .before .before .before .before .pre in
     let t = c .before .before .before .before .loop-test .taken in
     let i = l .loop .i in
-    let a = 4096 * i in
+    let a = 3072 * i in
     saying-at (p .0) (p .1) i t (c .before .before .before .flow-at .ensures) (c .before .before .elements-in .ensures) (p .2) (p .3)
-    (part-lanes (p .4) i t {k = a + 4096 - a} (omega arith)) (l .loop .inv .1)
+    (part-lanes (p .4) i t {k = a + 3072 - a} (omega arith)) (l .loop .inv .1)
 
 add-i : tie.Need-add-i Inv-loop μ-loop
 add-i c =

@@ -6,21 +6,21 @@ use Rattle.element_places.proofs.put_moving.Statement.{statement}
 use Rattle.element_places.proofs.put_moving.Tie as tie
 
 one-at-requires : tie.Need-one-at-requires
-one-at-requires c κs = c .before .before .before .pre .0 .near
+one-at-requires c κs = let p = c .before .before .before .pre in (p .0 .near, p .1)
 
 cast-q : tie.Need-cast-q
 cast-q c = search needs
 
 sub-q : tie.Need-sub-q
-sub-q c = let p = c .before .before .before .before .pre in omega (arith, somebody (p .0) (p .2) (c .one-at .ensures))
+sub-q c = let p = c .before .before .before .before .pre in omega (arith, somebody (p .0) (p .2) (p .1) (c .one-at .ensures))
 
 run-of-requires : tie.Need-run-of-requires
-run-of-requires c κs = let p = c .before .before .before .before .pre in running (p .0) (p .2) (c .one-at .ensures) (p .1)
+run-of-requires c κs = let p = c .before .before .before .before .pre in running (p .0) (p .2) (p .1) (c .one-at .ensures)
 
 put-run-requires : tie.Need-put-run-requires
 put-run-requires c κs =
     let p = c .before .before .before .before .before .before .pre in
-    fitting (p .0) (run-here (p .0) (p .2) (c .before .before .one-at .ensures) (c .before .run-of .ensures))
+    fitting (p .0) (run-here (p .0) (p .2) (p .1) (c .before .before .one-at .ensures) (c .before .run-of .ensures))
 
 same-length : tie.Need-same-length
 same-length c = search needs
@@ -29,7 +29,7 @@ returns : tie.Need-returns
 returns c =
     let p = c .before .before .before .before .before .before .before .before .before .pre in
     let r = c .before .before .before .before in
-    run-said (p .0) (run-here (p .0) (p .2) (r .before .one-at .ensures) (r .run-of .ensures)) (c .before .before .put-run .ensures)
+    run-said (p .0) (run-here (p .0) (p .2) (p .1) (r .before .one-at .ensures) (r .run-of .ensures)) (c .before .before .put-run .ensures)
 
 pub put-moving-spec : {M : Type 1} → statement M
 put-moving-spec =

@@ -71,7 +71,7 @@ share-of-requires c κs =
     let l = c .before .before .before .loop in
     let t = c .before .before .loop-test .taken in
     let e = c .before .flow-at .ensures in
-    let k = 4096 * l .i + 4096 - 4096 * l .i in
+    let k = 3072 * l .i + 3072 - 3072 * l .i in
     let six : l .i < 6 = omega (arith, t, s .pre .0 .few .ranged .sized .most-streams) in (
       sharing-at (s .pre .0) (s .pre .1) (l .i) t e,
       share-at (s .pre .0) (s .pre .1) (l .i) t e (s .pre .2) (s .pre .3),
@@ -106,7 +106,7 @@ loop-again c =
     let t = c .before .before .before .before .before .before .loop-test .taken in
     let r = c .before .before .before .share-of in
     let e = c .before .before .before .before .before .flow-at .ensures in
-    let k = 4096 * l .i + 4096 - 4096 * l .i in
+    let k = 3072 * l .i + 3072 - 3072 * l .i in
     let six : l .i < 6 = omega (arith, t, s .pre .0 .few .ranged .sized .most-streams) in (
       omega (arith, t),
       c .joined .ensures ∙ share-next (s .pre .0) (s .pre .1) (l .i) t e (l .inv .1) (r .ensures .0),

@@ -1,10 +1,12 @@
 -- `lanes::fill_lanes` meets its contract: the lanes say what the first p processes do to them. Assumes nothing.
 use mathlib.Core.Path.{_≡_, ap, subst}
-use mathlib.Core.Bool.{not}
+use mathlib.Core.Bool.{Bool, not}
 use Prim.Native.Nat.{ℕ, _≤_, _-_}
 use native.Mathlib.Omega.{arith}
 use lib.Dec.{eqb}
+use lib.ListN.{length}
 use borrow.Author.Needs.{needs}
+use Rattle.meaning.specs.Space.{processes}
 use Rattle.lanes.specs.Lanes.{Lanes, lanes-start, lanes-step, held-le}
 use Rattle.lanes.specs.Held.{entryNumber, computes}
 use Rattle.lanes.proofs.fill_lanes.Statement.{statement}
@@ -12,7 +14,7 @@ use Rattle.lanes.proofs.fill_lanes.Tie as tie
 
 abbrev Inv-loop : tie.InvT-loop
 Inv-loop f processes spans lanes₀ p₀ lanes p =
-    (p ≤ processes) × (Lanes (entryNumber (f .nest) (f .stream)) (computes (f .nest)) processes p lanes)
+    (p ≤ processes) × (Lanes (entryNumber (f .nest) (f .stream)) (computes (f .nest)) (f .moving) processes p lanes)
 
 abbrev μ-loop : tie.MeasureT-loop
 μ-loop f processes spans lanes₀ p₀ lanes p = processes - p
@@ -21,8 +23,8 @@ loop-holds : tie.Need-loop-holds Inv-loop μ-loop
 loop-holds c =
     let s = c .before .before in (
       omega arith,
-      lanes-start _ _ (s .args .processes) _ (omega (arith, s .pre .flowing .counted, s .pre .flowing .flows .laid .processes)) (s .pre .words)
-          (s .pre .zeros),
+      lanes-start _ _ _ (s .args .processes) _ (omega (arith, s .pre .flowing .counted, s .pre .flowing .flows .laid .processes))
+          (s .pre .words) (s .pre .zeros),
     )
 
 entry-number-requires : tie.Need-entry-number-requires Inv-loop μ-loop
@@ -94,12 +96,14 @@ returns c =
     let e : l .p ≡ s .args .processes = omega (arith, c .loop-test .left, l .inv .0) in
     let E = entryNumber (s .args .f .nest) (s .args .f .stream) in
     let C = computes (s .args .f .nest) in
+    let P = length (processes (s .args .f .nest)) in
     record {
       flows = s .pre .flowing .flows;
       of-spans = s .pre .flowing .of-spans;
       long = s .pre .flowing .long;
-      of-lanes = subst (λ (k : ℕ). Lanes E C k k (l .lanes)) (s .pre .flowing .counted)
-          (subst (λ (k : ℕ). Lanes E C (s .args .processes) k (l .lanes)) e (l .inv .1));
+      of-lanes = subst (λ (m : Bool). Lanes E C m P P (l .lanes)) (s .pre .flowing .flows .moving-is)
+          (subst (λ (k : ℕ). Lanes E C (s .args .f .moving) k k (l .lanes)) (s .pre .flowing .counted)
+          (subst (λ (k : ℕ). Lanes E C (s .args .f .moving) (s .args .processes) k (l .lanes)) e (l .inv .1)));
     }
 
 pub fill-lanes-spec : {M : Type 1} → statement M

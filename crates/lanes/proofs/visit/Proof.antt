@@ -1,6 +1,7 @@
--- `lanes::visit` meets its contract: four stores, none of which changes the length. Assumes nothing.
-use mathlib.Core.Path.{refl}
-use Prim.Native.Nat.{_+_}
+-- `lanes::visit` meets its contract: three stores, none of which changes the length, and the mark goes where `marked_at` says.
+-- Assumes nothing.
+use mathlib.Core.Path.{refl, ap₂}
+use Prim.Native.Nat.{ℕ, _+_}
 use native.Mathlib.Omega.{arith}
 use lib.ListN.{getD, set, length-set}
 use denote.Ref.{now}
@@ -26,6 +27,12 @@ mul-lanes c = search needs
 slice-write-lanes : tie.Need-slice-write-lanes
 slice-write-lanes c = search needs
 
+marked-at-requires : tie.Need-marked-at-requires
+marked-at-requires c κs = search needs
+
+mark-of-requires : tie.Need-mark-of-requires
+mark-of-requires c κs = search needs
+
 add-lanes : tie.Need-add-lanes
 add-lanes c = search needs
 
@@ -34,8 +41,8 @@ mul-lanes-2 c = search needs
 
 slice-write-lanes-2 : tie.Need-slice-write-lanes-2
 slice-write-lanes-2 c =
-    let s = c .before .before in
-    omega (arith, length-set (now (s .args .lanes)) (s .args .p) (s .args .e), s .pre .words, s .pre .process)
+    let s = c .before .before .before .before .before in
+    omega (arith, length-set (now (s .args .lanes)) (s .args .p) (s .args .e), s .pre .words, c .before .marked-at .ensures .1)
 
 add-lanes-2 : tie.Need-add-lanes-2
 add-lanes-2 c = search needs
@@ -48,41 +55,13 @@ mul-lanes-3 c = search needs
 
 slice-write-lanes-3 : tie.Need-slice-write-lanes-3
 slice-write-lanes-3 c =
-    let s = c .before .before in
+    let s = c .before .before .before .before .before in
     let l = now (s .args .lanes) in
     let l1 = set l (s .args .p) (s .args .e) in
     omega (
       arith,
       length-set l (s .args .p) (s .args .e),
-      length-set l1 (1024 + s .args .p) (getD l (2048 + s .args .e) 0),
-      s .pre .words,
-      s .pre .entry,
-    )
-
-add-lanes-4 : tie.Need-add-lanes-4
-add-lanes-4 c = search needs
-
-cast-lanes-2 : tie.Need-cast-lanes-2
-cast-lanes-2 c = search needs
-
-add-lanes-5 : tie.Need-add-lanes-5
-add-lanes-5 c = search needs
-
-mul-lanes-4 : tie.Need-mul-lanes-4
-mul-lanes-4 c = search needs
-
-slice-write-lanes-4 : tie.Need-slice-write-lanes-4
-slice-write-lanes-4 c =
-    let s = c .before .before in
-    let l = now (s .args .lanes) in
-    let h = getD l (2048 + s .args .e) 0 in
-    let l1 = set l (s .args .p) (s .args .e) in
-    let l2 = set l1 (1024 + s .args .p) h in
-    omega (
-      arith,
-      length-set l (s .args .p) (s .args .e),
-      length-set l1 (1024 + s .args .p) h,
-      length-set l2 (2048 + s .args .e) (h + 1),
+      length-set l1 (1024 + c .before .marked-at .result) (c .mark-of .result),
       s .pre .words,
       s .pre .entry,
     )
@@ -91,7 +70,13 @@ same-length : tie.Need-same-length
 same-length c = search needs
 
 returns : tie.Need-returns
-returns c = rw (c .if1 .taken) refl
+returns c =
+    let s = c .before .before .before .before .before in
+    let l = now (s .args .lanes) in
+    let e = s .args .e in
+    rw (c .before .before .if1 .taken)
+    (ap₂ (λ (i v : ℕ). set (set (set l (s .args .p) e) (1024 + i) v) (2048 + e) (getD l (2048 + e) 0 + 1))
+    (c .before .marked-at .ensures .0) (c .mark-of .ensures))
 
 same-length-2 : tie.Need-same-length-2
 same-length-2 c = search needs
@@ -109,6 +94,8 @@ visit-spec =
     cast-lanes
     mul-lanes
     slice-write-lanes
+    marked-at-requires
+    mark-of-requires
     add-lanes
     mul-lanes-2
     slice-write-lanes-2
@@ -116,11 +103,6 @@ visit-spec =
     add-lanes-3
     mul-lanes-3
     slice-write-lanes-3
-    add-lanes-4
-    cast-lanes-2
-    add-lanes-5
-    mul-lanes-4
-    slice-write-lanes-4
     same-length
     returns
     same-length-2

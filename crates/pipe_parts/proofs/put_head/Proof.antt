@@ -1,4 +1,4 @@
--- `pipe_parts::put_head` meets its contract: the first store leaves the length. Assumes nothing.
+-- `pipe_parts::put_head` meets its contract: both numbers fit 16 bits, and the first store leaves the length. Assumes nothing.
 use mathlib.Core.Path.{refl}
 use native.Mathlib.Omega.{arith}
 use lib.ListN.{length-set}
@@ -7,11 +7,17 @@ use borrow.Author.Needs.{needs}
 use Rattle.pipe_parts.proofs.put_head.Statement.{statement}
 use Rattle.pipe_parts.proofs.put_head.Tie as tie
 
+cast-heads : tie.Need-cast-heads
+cast-heads c = search needs
+
 mul-heads : tie.Need-mul-heads
 mul-heads c = search needs
 
 slice-write-heads : tie.Need-slice-write-heads
 slice-write-heads c = search needs
+
+cast-heads-2 : tie.Need-cast-heads-2
+cast-heads-2 c = search needs
 
 add-heads : tie.Need-add-heads
 add-heads c = search needs
@@ -29,4 +35,6 @@ returns : tie.Need-returns
 returns c = refl
 
 pub put-head-spec : {M : Type 1} → statement M
-put-head-spec = tie.close (tie.spec mul-heads slice-write-heads add-heads mul-heads-2 slice-write-heads-2 same-length returns)
+put-head-spec =
+    tie.close
+    (tie.spec cast-heads mul-heads slice-write-heads cast-heads-2 add-heads mul-heads-2 slice-write-heads-2 same-length returns)

@@ -14,7 +14,7 @@ slice-aggregate-fill-lanes c = search needs
 
 fill-lanes-requires : tie.Need-fill-lanes-requires
 fill-lanes-requires c κs =
-    record { flowing = c .before .before .before .pre .0; words = refl; zeros = λ i l. replicated 0 4096 i }
+    record { flowing = c .before .before .before .pre .0; words = refl; zeros = λ i l. replicated 0 3072 i }
 
 slice-aggregate-fill-soaks : tie.Need-slice-aggregate-fill-soaks
 slice-aggregate-fill-soaks c = search needs

@@ -1,4 +1,4 @@
--- `pipes::one_at` meets its contract: an entry is below 1,024, so that its word is one of the fourth 1,024 of the lanes. Assumes nothing.
+-- `pipes::one_at` meets its contract: an entry is below 1,024, so that its word is one of the second 1,024 of the lanes. Assumes nothing.
 use borrow.Author.Needs.{needs}
 use mathlib.Core.Path.{ap}
 use Prim.Native.Nat.{ℕ, _+_}
@@ -22,10 +22,10 @@ shared-slice-read-result : tie.Need-shared-slice-read-result
 shared-slice-read-result c = search needs
 
 returns : tie.Need-returns
-returns c = ap (λ (e : ℕ). getD (now (c .before .before .before .before .args .lanes)) (3072 + e) 0) (c .before .entry-at .ensures .0)
+returns c = ap (λ (e : ℕ). getD (now (c .before .before .before .before .args .lanes)) (1024 + e) 0) (c .before .entry-at .ensures .0)
 
 cast-result : tie.Need-cast-result
-cast-result c = omega (arith, returns c, one-le (c .before .before .before .before .pre))
+cast-result c = let p = c .before .before .before .before .pre in omega (arith, returns c, one-le (p .0) (p .1))
 
 pub one-at-spec : {M : Type 1} → statement M
 one-at-spec =

@@ -8,7 +8,7 @@ use Rattle.pipes.proofs.total_at.Statement.{statement}
 use Rattle.pipes.proofs.total_at.Tie as tie
 
 one-at-requires : tie.Need-one-at-requires
-one-at-requires c κs = search needs
+one-at-requires c κs = (c .before .before .before .pre, subst T (sym (c .if1 .taken)) tt)
 
 cast-length-at : tie.Need-cast-length-at
 cast-length-at c = search needs
@@ -19,18 +19,21 @@ sub-length-at c = search needs
 length-at-requires : tie.Need-length-at-requires
 length-at-requires c κs =
     let p = c .before .before .before .before .before .pre in
-    (at-one p (sym (c .before .one-at .ensures)) (c .if2 .left), subst T (sym (c .before .before .if1 .taken)) tt)
+    let m = subst T (sym (c .before .before .if1 .taken)) tt in (at-one p m (sym (c .before .one-at .ensures)) (c .if2 .left), m)
 
 held-at-requires : tie.Need-held-at-requires
 held-at-requires c κs = search needs
 
 returns : tie.Need-returns
-returns c = (total-none (c .before .before .before .before .before .pre) (sym (c .before .one-at .ensures) ∙ c .if2 .taken), omega arith)
+returns c =
+    let m = subst T (sym (c .before .before .if1 .taken)) tt in
+    (total-none (c .before .before .before .before .before .pre) m (sym (c .before .one-at .ensures) ∙ c .if2 .taken), omega arith)
 
 returns-2 : tie.Need-returns-2
 returns-2 c =
     let p = c .before .before .before .before .before .before .pre in
-    (total-one p (sym (c .before .before .one-at .ensures)) (c .before .if2 .left) (c .length-at .ensures .0), c .length-at .ensures .1)
+    let m = subst T (sym (c .before .before .before .if1 .taken)) tt in
+    (total-one p m (sym (c .before .before .one-at .ensures)) (c .before .if2 .left) (c .length-at .ensures .0), c .length-at .ensures .1)
 
 returns-3 : tie.Need-returns-3
 returns-3 c =

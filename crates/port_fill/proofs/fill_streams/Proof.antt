@@ -88,9 +88,9 @@ fill-stream-requires c κs =
     let e = c .before .before .before .before .flow-at .ensures in
     let h = s .pre .0 in
     let u = s .pre .1 in
-    let a = 4096 * l .i in (
+    let a = 3072 * l .i in (
       stringing h u (l .i) t e (l .inv .1) (c .before .before .before .strand-of .ensures .0) (c .before .before .elements-in .ensures),
-      lanes-here h u (l .i) t e (l .inv .1) (part-lanes (s .pre .2) (l .i) t {k = a + 4096 - a} (omega arith)),
+      lanes-here h u (l .i) t e (l .inv .1) (part-lanes (s .pre .2) (l .i) t {k = a + 3072 - a} (omega arith)),
       l .inv .2 .words,
     )
 

@@ -42,9 +42,16 @@ cast-put-head c = search needs
 
 put-head-requires : tie.Need-put-head-requires Inv-loop μ-loop
 put-head-requires c κs =
-    let p = c .before .before .before .before .before .before .before .before .pre .0 in
+    let s = c .before .before .before .before .before .before .before .before in
+    let p = s .pre .0 in
+    let f = s .args .f in
     let t = c .before .before in
-    (omega (arith, t .loop-test .taken, p .counted, p .seen .flows .laid .processes), t .before .loop .inv .5 .words)
+    let l = t .before .loop in (
+      omega (arith, t .loop-test .taken, p .counted, p .seen .flows .laid .processes),
+      l .inv .5 .words,
+      omega (arith, l .inv .4, entered-le (f .nest) (f .stream) (l .p), p .seen .flows .laid .processes),
+      c .before .entering-length .ensures .1,
+    )
 
 put-end-requires : tie.Need-put-end-requires Inv-loop μ-loop
 put-end-requires c κs =

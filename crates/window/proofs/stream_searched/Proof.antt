@@ -9,7 +9,7 @@ slice-aggregate-fill-lanes : tie.Need-slice-aggregate-fill-lanes
 slice-aggregate-fill-lanes c = search needs
 
 fill-lanes-requires : tie.Need-fill-lanes-requires
-fill-lanes-requires c κs = record { flowing = c .before .before .pre .0; words = refl; zeros = λ i l. replicated 0 4096 i }
+fill-lanes-requires c κs = record { flowing = c .before .before .pre .0; words = refl; zeros = λ i l. replicated 0 3072 i }
 
 slice-aggregate-searched : tie.Need-slice-aggregate-searched
 slice-aggregate-searched c = search needs
