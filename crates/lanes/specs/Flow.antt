@@ -5,9 +5,11 @@ use mathlib.Core.List.{List}
 use Prim.Native.Nat.{ℕ, _+_, _≤_, _<_}
 use native.Mathlib.Omega.{arith}
 use lib.ListN.{length, getD}
-use lib.IntN.{ℤ, pos}
-use Rattle.integers.specs.Differences.{Abs}
+use lib.IntN.{ℤ, pos, negℤ, _+ℤ_, _-ℤ_, _*ℤ_}
+use lib.Signed.{_≤ℤ_}
+use Rattle.integers.specs.Differences.{Abs, zrules}
 use Rattle.integers.specs.Bounds.{Abs-wider, Abs-neg}
+use Rattle.integers.specs.Ring.{ring, quotes, solve}
 use Rattle.integers.specs.Vectors.{zero2, neg2, shift2}
 use Rattle.integers.specs.declared.V2.{V2}
 use Rattle.meaning.specs.declared.Nest.{Nest}
@@ -21,7 +23,7 @@ use Rattle.meaning.specs.Points.{Inside}
 use Rattle.geometry.specs.Numbers.{shift-neg, neg-not}
 use Rattle.geometry.specs.Places.{getD-in}
 use Rattle.geometry.specs.Boxes.{points-inside}
-use Rattle.geometry.specs.RowOrder.{row-lt}
+use Rattle.geometry.specs.RowOrder.{row-lt, row-number}
 use Rattle.geometry.specs.Pipes.{Accepted}
 use Rattle.geometry.specs.Elements.{entryOf, entry-is}
 use Rattle.vectors.specs.Within.{Within2}
@@ -34,6 +36,7 @@ use Rattle.layout.specs.Rays.{Going}
 use Rattle.layout.specs.Spans.{processOf, Spans}
 use Rattle.survey.specs.declared.Flow.{Flow}
 use Rattle.survey.specs.declared.Survey.{Survey}
+use Rattle.lanes.specs.Along.{row-on}
 use Rattle.lanes.specs.Lanes.{Lanes}
 use Rattle.lanes.specs.Held.{entryNumber, computes}
 
@@ -180,26 +183,46 @@ module _ {f : Flow} (h : Flows f) where
           second = between-apart (spanning .second) (inside-box .inb) .high;
         }
 
-    module _ {k : ℕ} (ek : k ≡ reach (boxed (f .space)) (f .back) y) {z : V2} (ez : z ≡ shift2 y (pos k) (f .back)) where
-      entry-eq : z ≡ entryOf (f .nest) (f .stream) (processOf (f .nest) p)
+    pub process-few : p ≤ 1024
+    process-few = omega (arith, h .laid .processes)
+
+    module _ {k : ℕ} (ek : k ≡ reach (boxed (f .space)) (f .back) y) where
+      abbrev entry : V2
+      entry = shift2 y (pos k) (f .back)
+
+      entry-eq : entry ≡ entryOf (f .nest) (f .stream) (processOf (f .nest) p)
       entry-eq =
-          ez ∙ ap₂ (λ (i : ℕ) (d : V2). shift2 y (pos i) d)
+          ap₂ (λ (i : ℕ) (d : V2). shift2 y (pos i) d)
           (ek ∙ ap₂ (λ (b : Box) (d : V2). reach b d y) (h .space-is) (h .back-is)) (h .back-is)
           ∙ shift-neg y (move (f .nest) (f .stream)) (pos _) ∙ ap (entryOf (f .nest) (f .stream)) point-is
 
-      entry-inside : Inside (space (f .nest)) z
+      entry-inside : Inside (space (f .nest)) entry
       entry-inside =
           subst (Inside (space (f .nest))) (sym entry-eq)
           (entry-is (h .laid .accepted) (subst (Inside (space (f .nest))) point-is inside-space) .inside)
 
-      pub entry-box : Inside (boxed (f .space)) z
-      entry-box = subst (λ (k : Box). Inside k z) (sym (h .space-is)) entry-inside
+      -- it lies k steps before p
+      pub entry-back : pos p -ℤ pos k *ℤ f .step ≡ pos (rowIndex (space (f .nest)) entry)
+      entry-back =
+          ap₂ (λ (a b : ℤ). a -ℤ pos k *ℤ b) (sym here) (h .step-is)
+          ∙ sym (row-on (space (f .nest)) (f .back) (pos k) inside-space entry-inside
+          ∙ ap (λ (d : V2). pos (rowIndex (space (f .nest)) y) +ℤ pos k *ℤ weigh (space (f .nest)) (d .a) (d .b)) (h .back-is)
+          ∙ turned-round (pos (rowIndex (space (f .nest)) y)) (pos k) (pos _) (move (f .nest) (f .stream) .a)
+          (move (f .nest) (f .stream) .b))
+        where
+          here : pos (rowIndex (space (f .nest)) y) ≡ pos p
+          here = ap pos (ap (rowIndex (space (f .nest))) point-is ∙ row-number (space (f .nest)) p zero2 lt)
 
-      pub entry-number : {r : ℕ} → r ≡ rowIndex (boxed (f .space)) z
+          turned-round : (r j c x z : ℤ) → r +ℤ j *ℤ (c *ℤ negℤ x +ℤ negℤ z) ≡ r -ℤ j *ℤ (c *ℤ x +ℤ z)
+          turned-round = ring 0 5 _ λ ρ. simp quotes (solve ρ _ _ tt)
+
+      pub entry-some : pos 0 ≤ℤ (pos p -ℤ pos k *ℤ f .step)
+      entry-some = subst (λ (z : ℤ). pos 0 ≤ℤ z) (sym entry-back) (omega (arith, zrules))
+
+      pub entry-number : {r : ℕ} → r ≡ rowIndex (space (f .nest)) entry
           → (r ≡ entryNumber (f .nest) (f .stream) p) × (r < length (processes (f .nest)))
       entry-number e =
-          let e' = e ∙ ap (λ (k : Box). rowIndex k z) (h .space-is) in
-          (e' ∙ ap (rowIndex (space (f .nest))) entry-eq, omega (arith, e', row-lt (space (f .nest)) z entry-inside))
+          (e ∙ ap (rowIndex (space (f .nest))) entry-eq, omega (arith, e, row-lt (space (f .nest)) entry entry-inside))
 
 -- stream i of a survey
 pub flowing-at : {v : Survey} {f : Flow} {spans : List ℕ} → Surveyed v → (i : ℕ) → i < v .description .sizes .streams

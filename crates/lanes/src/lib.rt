@@ -15,12 +15,15 @@
 //   Accepted  `laid-stream`: every stream of an accepted description is laid out as the functions ask
 ghost use mathlib.Core.Path.{_≡_};
 ghost use Prim.Native.Nat.{_<_};
-ghost use lib.ListN.{length};
+ghost use lib.ListN.{length, getD};
+ghost use Rattle.integers.specs.Vectors.{zero2};
 ghost use Rattle.meaning.specs.Limits.{gaugeLimits};
-ghost use Rattle.meaning.specs.Space.{processes};
+ghost use Rattle.meaning.specs.Space.{points, processes};
+ghost use Rattle.numbering.specs.Extents.{boxed};
 ghost use Rattle.lanes.specs.Lanes.{markedAt, markOf, visited};
 ghost use Rattle.lanes.specs.Held.{entryNumber};
 ghost use Rattle.lanes.specs.Flow.{Flows, Visitable, Fillable, Seen};
+use integers::V2;
 use meaning::PROCESSES;
 use meaning::STREAMS;
 use survey::Flow;
@@ -35,16 +38,15 @@ pub const LANES: usize = 3 * PROCESSES;
 // The words of the lanes of all streams.
 pub const ALL: usize = STREAMS * LANES;
 
-// The number of the entry of process p's line.
-fn entry_number(f: Flow, p: u32) -> u32
-    requires { ⌜ (Flows f) × (p < length (processes (f .nest))) ⌝ }
+// The number of the entry of process p's line, by the point of p: as many steps of the stream before p as the line goes back.
+fn entry_number(f: Flow, p: u32, y: V2) -> u32
+    requires { ⌜ (Flows f) × (p < length (processes (f .nest))) × (y ≡ getD (points (boxed (f .space))) p zero2) ⌝ }
     ensures { λ r. ⌜ (r ≡ entryNumber (f .nest) (f .stream) p) × (r < length (processes (f .nest))) ⌝ }
 {
     let space = f.space;
     let back = f.back;
-    let y = layout::point_at(space, p);
     let k = layout::reach_of(space, back, y);
-    numbering::row_number(space, vectors::moved(y, back, k))
+    (p as i32 - k as i32 * f.step) as u32
 }
 
 // Whose mark a computing process p makes, whose line enters at e: the entry's if the stream moves, else its own.
@@ -82,16 +84,20 @@ pub fn fill_lanes(f: Flow, processes: u32, spans: &[u32], lanes: &mut [u16])
     requires { ⌜ Fillable f processes (now spans) (now lanes) ⌝ }
     ensures { λ r. ⌜ Seen f (now (spans .entry)) (now (lanes .exit)) ⌝ }
 {
+    let space = f.space;
+    let moving = f.moving;
+    let mut y = space.lo;
     let mut p: u32 = 0;
     while p < processes {
-        let e = entry_number(f, p);
+        let e = entry_number(f, p, y);
         visit(
             lanes,
             p as usize,
             e as usize,
             spans[p as usize] != 0,
-            f.moving,
+            moving,
         );
+        y = layout::next_point(space, y);
         p += 1;
     }
 }

@@ -18,11 +18,12 @@ ghost use Rattle.meaning.specs.Loops.{instances};
 ghost use Rattle.meaning.specs.Space.{points, processes};
 ghost use Rattle.meaning.specs.Pipes.{reach};
 ghost use Rattle.geometry.specs.Processes.{Layout};
-ghost use Rattle.vectors.specs.Within.{Within};
+ghost use Rattle.vectors.specs.Within.{Within, Within2};
 ghost use Rattle.numbering.specs.Ranges.{Bounded};
 ghost use Rattle.numbering.specs.Extents.{Spanning, boxed};
 ghost use Rattle.survey.specs.Surveys.{GroundOf};
 ghost use Rattle.layout.specs.Rays.{roomOf, Along, firstRay, secondRay, Going};
+ghost use Rattle.layout.specs.Points.{nextPoint};
 ghost use Rattle.layout.specs.Codes.{codeOf, coded};
 ghost use Rattle.layout.specs.Spans.{Spans, spanWords, numbered};
 use integers::V2;
@@ -125,6 +126,23 @@ pub fn point_at(e: Extent, p: u32) -> V2
     V2 {
         a: lo.a + (p / columns) as i32,
         b: lo.b + (p % columns) as i32,
+    }
+}
+
+// The point after y in row order; after the last one it is no point of the box.
+pub fn next_point(e: Extent, y: V2) -> V2
+    requires { ⌜ (Spanning (boxed e)) × (Within2 768 y) ⌝ }
+    ensures { λ r. ⌜ r ≡ nextPoint (boxed e) y ⌝ }
+{
+    let lo = e.lo;
+    let hi = e.hi;
+    if y.b == hi.b {
+        V2 {
+            a: y.a + 1,
+            b: lo.b,
+        }
+    } else {
+        V2 { a: y.a, b: y.b + 1 }
     }
 }
 

@@ -1,37 +1,53 @@
--- `lanes::entry_number` meets its contract: the point as far back on the line as the box allows is its entry, and lies in the box.
--- Assumes nothing.
-use Rattle.lanes.specs.Flow.{spanning, point-lt, going-back, point-small, entry-box, entry-number}
+-- `lanes::entry_number` meets its contract: the point as far back on the line as the box allows is its entry, and each step back changes
+-- the number by that of the stream. Assumes nothing.
+use mathlib.Core.Path.{_∙_, ap}
+use native.Mathlib.Omega.{arith}
+use lib.IntN.{natAbs}
+use borrow.Author.Needs.{needs}
+use Rattle.integers.specs.Words.{at, bits, box, mul, sub, fits, cast-of}
+use Rattle.lanes.specs.Flow.{going-back, process-few, entry-back, entry-some, entry-number}
 use Rattle.lanes.proofs.entry_number.Statement.{statement}
 use Rattle.lanes.proofs.entry_number.Tie as tie
 
-point-at-requires : tie.Need-point-at-requires
-point-at-requires c κs = let p = c .before .before .pre in (spanning (p .0), point-lt (p .0) (p .1))
-
 reach-of-requires : tie.Need-reach-of-requires
-reach-of-requires c κs = let p = c .before .before .before .pre in going-back (p .0) (p .1) (c .point-at .ensures)
+reach-of-requires c κs = let p = c .before .before .pre in going-back (p .0) (p .1) (p .2)
 
-moved-requires : tie.Need-moved-requires
-moved-requires c κs =
-    let p = c .before .before .before .before .pre in
-    (point-small (p .0) (p .1) (c .before .point-at .ensures), p .0 .back-small, c .reach-of .ensures .1)
+cast-result : tie.Need-cast-result
+cast-result c =
+    let p = c .before .before .before .pre in record { sfits = omega (arith, process-few (p .0) (p .1) (p .2)) }
 
-row-number-requires : tie.Need-row-number-requires
-row-number-requires c κs =
-    let p = c .before .before .before .before .before .pre in
-    (spanning (p .0), entry-box (p .0) (p .1) (c .before .before .point-at .ensures) (c .before .reach-of .ensures .0) (c .moved .ensures))
+cast-result-2 : tie.Need-cast-result-2
+cast-result-2 c = record { sfits = omega (arith, c .reach-of .ensures .1) }
+
+mul-result : tie.Need-mul-result
+mul-result c =
+    let k = c .before .before in fits tt (mul (bits tt (k .reach-of .ensures .1)) (at tt (k .before .before .before .pre .0 .step-small)))
+
+sub-result : tie.Need-sub-result
+sub-result c =
+    let k = c .before .before in
+    let p = k .before .before .before .pre in
+    let far = mul (bits tt (k .reach-of .ensures .1)) (at tt (p .0 .step-small)) in
+    fits tt (sub (bits tt (process-few (p .0) (p .1) (p .2))) (box tt far))
+
+cast-result-3 : tie.Need-cast-result-3
+cast-result-3 c =
+    let k = c .before .before in
+    let p = k .before .before .before .pre in
+    let far = mul (bits tt (k .reach-of .ensures .1)) (at tt (p .0 .step-small)) in
+    cast-of tt (box tt (sub (bits tt (process-few (p .0) (p .1) (p .2))) (box tt far)))
+    (entry-some (p .0) (p .1) (p .2) (k .reach-of .ensures .0))
 
 returns : tie.Need-returns
 returns c =
-    let p = c .before .before .before .before .before .before .pre in
-    entry-number (p .0) (p .1) (c .before .before .before .point-at .ensures) (c .before .before .reach-of .ensures .0)
-    (c .before .moved .ensures) (c .row-number .ensures)
+    let k = c .before .before in
+    let p = k .before .before .before .pre in
+    let r = k .reach-of .ensures in
+    let far = mul (bits tt (r .1)) (at tt (p .0 .step-small)) in
+    entry-number (p .0) (p .1) (p .2) (r .0)
+    (ap natAbs (box tt (sub (bits tt (process-few (p .0) (p .1) (p .2))) (box tt far)) .eq ∙ entry-back (p .0) (p .1) (p .2) (r .0)))
 
 pub entry-number-spec : {M : Type 1} → statement M
 entry-number-spec =
     tie.close
-    (tie.spec
-    point-at-requires
-    reach-of-requires
-    moved-requires
-    row-number-requires
-    returns)
+    (tie.spec reach-of-requires cast-result cast-result-2 mul-result sub-result cast-result-3 returns)
