@@ -1,5 +1,5 @@
 -- What is asked of a stream, and what is known of it once and for all its processes. Assumes nothing.
-use mathlib.Core.Path.{_≡_, refl, sym, _∙_, ap, ap₂, subst, subst₂}
+use mathlib.Core.Path.{_≡_, sym, _∙_, ap, ap₂, subst, subst₂}
 use mathlib.Core.Bool.{not}
 use mathlib.Core.List.{List}
 use Prim.Native.Nat.{ℕ, _+_, _≤_, _<_}
@@ -136,9 +136,6 @@ module _ {f : Flow} (h : Flows f) where
 
   pub point-lt : {p : ℕ} → p < length (processes (f .nest)) → p < length (points (boxed (f .space)))
   point-lt {p} l = subst (λ (k : Box). p < length (points k)) (sym (h .space-is)) l
-
-  pub counted-is : {k : ℕ} → k ≡ length (points (boxed (f .space))) → k ≡ length (processes (f .nest))
-  counted-is e = e ∙ ap (λ (b : Box). length (points b)) (h .space-is)
 
   module _ {p : ℕ} (lt : p < length (processes (f .nest))) {y : V2} (ey : y ≡ getD (points (boxed (f .space))) p zero2) where
     pub point-is : y ≡ processOf (f .nest) p

@@ -3,7 +3,7 @@
 use mathlib.Core.Path.{_≡_, refl, sym, _∙_, ap, subst}
 use mathlib.Core.Logic.{_≢_}
 use mathlib.Core.Bool.{Bool, not}
-use mathlib.Core.List.{List, [], _∷_, _++_}
+use mathlib.Core.List.{List, [], _∷_}
 use Prim.Native.Nat.{ℕ, zero, suc, _+_, _-_, _≤_, _<_, _*_}
 use native.Mathlib.Omega.{arith}
 use lib.ListN.{length, getD, take}
@@ -18,12 +18,11 @@ use Rattle.integers.specs.declared.V2.{V2}
 use Rattle.meaning.specs.declared.Nest.{Nest}
 use Rattle.meaning.specs.Lists.{bestOr}
 use Rattle.meaning.specs.Loops.{instances as instancesOf, increment}
-use Rattle.meaning.specs.Space.{Box, points, space, processes, sentTo, countOf, sooner, later, firstOf, lastOf, count, first, last}
+use Rattle.meaning.specs.Space.{processes, sentTo, countOf, sooner, later, firstOf, lastOf, count, first, last}
 use Rattle.meaning.specs.Accept.{against}
 use Rattle.geometry.specs.Processes.{Layout}
 use Rattle.vectors.specs.Within.{Within}
 use Rattle.numbering.specs.Ranges.{Bounded, instance-small}
-use Rattle.counting.specs.Numbers.{numbersOf}
 use Rattle.sweeps.specs.Met.{endIn}
 use Rattle.sweeps.specs.Turns.{Swept}
 use Rattle.sweeps.specs.Tables.{Table, counts-are, firsts-are, lasts-are, ends-absent}

@@ -127,7 +127,7 @@ module _ (d : Description) (h : Described d) where
   next f i l =
       sym (ap (λ (k : ℕ). total f (take k (streamsOf d))) (add-one i) ∙ total-next f (streamsOf d) i noStream (omega (arith, h .in-use)))
 
-  pub sums-next : (i : ℕ) {s : Stream} → i < d .sizes .streams → s ≡ getD (d .streams) i noStream → {k c : ℕ} → k ≡ hop nest s
+  sums-next : (i : ℕ) {s : Stream} → i < d .sizes .streams → s ≡ getD (d .streams) i noStream → {k c : ℕ} → k ≡ hop nest s
       → c ≡ length (entries nest s) → {t : Sums} → t ≡ sumsOf d i → join t k c ≡ sumsOf d (i + 1)
   sums-next i {s} l e {k} {c} ek ec et =
       ap (λ (t : Sums). join t k c) et ∙ ap₂ (join (sumsOf d i)) ek ec
@@ -151,7 +151,7 @@ module _ (d : Description) (h : Described d) where
     omega (arith, es, sums-slack i (omega arith) .words),
   )
 
-  pub base-most : (i : ℕ) → i < d .sizes .streams → base d i ≤ 5120
+  base-most : (i : ℕ) → i < d .sizes .streams → base d i ≤ 5120
   base-most i l =
       omega (
         arith,

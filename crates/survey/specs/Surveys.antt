@@ -10,7 +10,6 @@ use lib.ListN.{length, getD, set, replicate, length-append, length-map}
 use lib.Seq.{getD-set-same, getD-set-other, length-take-le}
 use borrow.Author.Tests.{eqb-true, eqb-false}
 use Rattle.integers.specs.Vectors.{zero2, zero3, neg2}
-use Rattle.integers.specs.declared.V2.{V2}
 use Rattle.meaning.specs.declared.Nest.{Nest}
 use Rattle.meaning.specs.declared.Stream.{Stream}
 use Rattle.meaning.specs.declared.Description.{Description}

@@ -1,6 +1,5 @@
 -- `figures::share_of` meets its contract: a stream has no more pipes than processes, and at most 2,050 steps for each of at most 4,096
 -- elements. Assumes nothing.
-use borrow.Author.Needs.{needs}
 use mathlib.Core.Path.{refl, sym, _∙_, subst}
 use Rattle.lanes.specs.All.{lanes-of}
 use Rattle.figures.specs.Shares.{Small, share-is, share-small, sharing-under}

@@ -3,7 +3,6 @@
 use mathlib.Core.Path.{_∙_, ap}
 use native.Mathlib.Omega.{arith}
 use lib.IntN.{natAbs}
-use borrow.Author.Needs.{needs}
 use Rattle.integers.specs.Words.{at, bits, box, mul, sub, fits, cast-of}
 use Rattle.lanes.specs.Flow.{going-back, process-few, entry-back, entry-some, entry-number}
 use Rattle.lanes.proofs.entry_number.Statement.{statement}

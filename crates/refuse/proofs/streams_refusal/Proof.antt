@@ -2,16 +2,14 @@
 use mathlib.Core.Path.{_≡_, refl, sym, _∙_, ap₂, subst}
 use Prim.Native.Nat.{_-_}
 use native.Mathlib.Omega.{arith}
-use lib.ListN.{getD}
 use Rattle.meaning.specs.declared.Nest.{Nest}
 use Rattle.meaning.specs.declared.Stream.{Stream}
 use Rattle.meaning.specs.Tests.{refusal}
-use Rattle.meaning.specs.Description.{streamsOf, noStream, written}
+use Rattle.meaning.specs.Description.{streamsOf, written}
 use Rattle.meaning.specs.Accept.{streamTests, testsFrom}
-use Rattle.survey.specs.declared.Ground.{Ground}
 use Rattle.survey.specs.InRange.{in-range}
 use Rattle.survey.specs.Stages.{from, stream-passed, stream-refused, streams-end}
-use Rattle.survey.specs.Surveys.{GroundOf, FlowOf, charted, flow-is}
+use Rattle.survey.specs.Surveys.{GroundOf, charted, flow-is}
 use Rattle.walk.specs.Walked.{Along}
 use borrow.Author.Needs.{needs}
 use Rattle.refuse.proofs.streams_refusal.Statement.{statement}

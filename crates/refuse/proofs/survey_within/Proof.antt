@@ -1,6 +1,6 @@
 -- `refuse::survey_within` meets its contract: where 33 and 1 to 10 give 0 the streams' tests decide, and the words are in range and the
 -- processes' filled; else the number stands. Assumes nothing.
-use mathlib.Core.Path.{refl, sym, _∙_, ap, subst}
+use mathlib.Core.Path.{sym, _∙_, ap, subst}
 use denote.Ref.{now}
 use native.Mathlib.Omega.{arith}
 use Rattle.meaning.specs.declared.Description.{Description}

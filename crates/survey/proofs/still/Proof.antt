@@ -1,7 +1,7 @@
 -- `survey::still` meets its contract. Assumes nothing.
 use mathlib.Core.Path.{_∙_, ap}
 use lib.IntN.{ℤ, pos}
-use Rattle.integers.specs.Words.{eqZ, held, held-abs}
+use Rattle.integers.specs.Words.{eqZ}
 use Rattle.vectors.specs.Within.{zero-bits}
 use borrow.Author.Needs.{needs}
 use Rattle.survey.proofs.still.Statement.{statement}
