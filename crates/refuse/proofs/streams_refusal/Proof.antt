@@ -2,10 +2,11 @@
 use mathlib.Core.Path.{_≡_, refl, sym, _∙_, ap₂, subst}
 use Prim.Native.Nat.{_-_}
 use native.Mathlib.Omega.{arith}
+use lib.ListN.{getD}
 use Rattle.meaning.specs.declared.Nest.{Nest}
 use Rattle.meaning.specs.declared.Stream.{Stream}
 use Rattle.meaning.specs.Tests.{refusal}
-use Rattle.meaning.specs.Description.{streamsOf, written}
+use Rattle.meaning.specs.Description.{streamsOf, noStream, written}
 use Rattle.meaning.specs.Accept.{streamTests, testsFrom}
 use Rattle.survey.specs.InRange.{in-range}
 use Rattle.survey.specs.Stages.{from, stream-passed, stream-refused, streams-end}
@@ -44,18 +45,28 @@ stream-refusal-requires c κs =
       subst (λ (n : Nest). Along n (s .args .walk .now)) (sym (k .nest-is)) (s .pre .2),
     )
 
+-- what is answered of stream i, by its nest and itself and not by its flow
+answered : (c : tie.After-stream-refusal Inv-loop μ-loop)
+    → let s = c .before .before .before .before .before .before .before .args in
+    let i = c .before .before .before .before .loop .i in
+    c .stream-refusal .result
+    ≡ refusal (streamTests (s .limits) (s .v .description .nest) (written (s .v .description) i)
+    (getD (s .v .description .streams) i noStream))
+answered c =
+    let w = c .before in
+    let s = w .before .before .before .before .before .before in
+    let i = w .before .before .before .loop .i in
+    let k = flow-is (s .pre .1) i (w .before .before .loop-test .taken) (w .before .flow-at .ensures) in
+    rw (w .written .ensures) at (c .stream-refusal .ensures)
+    ∙ ap₂ (λ (n : Nest) (r : Stream). refusal (streamTests (s .args .limits) n (written (s .args .v .description) i) r)) (k .nest-is)
+    (k .stream-is)
+
 returns : tie.Need-returns Inv-loop μ-loop
 returns c =
-    let w = c .before .before in
-    let l = w .before .before .before .loop in
-    let s = w .before .before .before .before .before .before in
-    let t = w .before .before .loop-test .taken in
-    let d = s .args .v .description in
-    let k = flow-is (s .pre .1) (l .i) t (w .before .flow-at .ensures) in
-    let e = rw (w .written .ensures) at (c .before .stream-refusal .ensures) in
-    stream-refused (s .args .limits) d (s .pre .1 .in-use) (l .i) t refl
-    (e ∙ ap₂ (λ (n : Nest) (r : Stream). refusal (streamTests (s .args .limits) n (written d (l .i)) r)) (k .nest-is) (k .stream-is))
-    (c .if1 .taken)
+    let l = c .before .before .before .before .before .loop in
+    let s = c .before .before .before .before .before .before .before .before in
+    stream-refused (s .args .limits) (s .args .v .description) (s .pre .1 .in-use) (l .i)
+    (c .before .before .before .before .loop-test .taken) refl (answered (c .before)) (c .if1 .taken)
     ∙ l .inv
 
 add-i : tie.Need-add-i Inv-loop μ-loop
@@ -66,16 +77,10 @@ loop-less c = search needs
 
 loop-again : tie.Need-loop-again Inv-loop μ-loop
 loop-again c =
-    let w = c .before .before in
-    let l = w .before .before .before .loop in
-    let s = w .before .before .before .before .before .before in
-    let t = w .before .before .loop-test .taken in
-    let d = s .args .v .description in
-    let k = flow-is (s .pre .1) (l .i) t (w .before .flow-at .ensures) in
-    let e = rw (w .written .ensures) at (c .before .stream-refusal .ensures) in
-    stream-passed (s .args .limits) d (s .pre .1 .in-use) (l .i) t refl
-    (e ∙ ap₂ (λ (n : Nest) (r : Stream). refusal (streamTests (s .args .limits) n (written d (l .i)) r)) (k .nest-is) (k .stream-is))
-    (c .if1 .left)
+    let l = c .before .before .before .before .before .loop in
+    let s = c .before .before .before .before .before .before .before .before in
+    stream-passed (s .args .limits) (s .args .v .description) (s .pre .1 .in-use) (l .i)
+    (c .before .before .before .before .loop-test .taken) refl (answered (c .before)) (c .if1 .left)
     ∙ l .inv
 
 returns-2 : tie.Need-returns-2 Inv-loop μ-loop

@@ -2,6 +2,7 @@
 -- leaves it to those after it. Assumes nothing.
 use mathlib.Core.Path.{_≡_, _∙_, ap}
 use mathlib.Core.Bool.{Bool}
+use mathlib.Core.List.{[], _∷_}
 use Prim.Native.Nat.{ℕ}
 use lib.Dec.{eqb, ltb}
 use lib.IntN.{pos}
@@ -9,13 +10,14 @@ use Rattle.integers.specs.Words.{eqZ}
 use Rattle.integers.specs.declared.V3.{V3}
 use Rattle.meaning.specs.declared.Limits.{Limits}
 use Rattle.meaning.specs.declared.Nest.{Nest}
+use Rattle.meaning.specs.Tests.{_if_, refusal}
 use Rattle.meaning.specs.Loops.{stepOf}
 use Rattle.meaning.specs.Accept.{refused6, refused7, refused8, refused10}
 use Rattle.decode.specs.Refusals.{accepts}
 use Rattle.survey.specs.declared.Ground.{Ground}
 use Rattle.survey.specs.Small.{rank-by-divisor}
 use Rattle.survey.specs.Surveys.{GroundOf}
-use Rattle.survey.specs.Stages.{applies, skips}
+use Rattle.survey.specs.Stages.{layoutTests, applies, skips}
 use borrow.Author.Needs.{needs}
 use Rattle.refuse_nest.proofs.nest_refusal.Statement.{statement}
 use Rattle.refuse_nest.proofs.nest_refusal.Tie as tie
@@ -55,27 +57,28 @@ returns-3 c =
     (skips 7 _ (seven (s .pre .1) (b .before .low-rank .ensures)) (b .if2 .left)
     (applies 8 _ (eight (s .pre .1) (c .before .still .ensures)) (c .if3 .taken)))
 
-returns-4 : tie.Need-returns-4
-returns-4 c =
-    let t = c .before .before in
+-- none of 6, 7 and 8 applies: 10 decides
+to-ten : {r : ℕ} (c : tie.After-processes-refused)
+    → let s = c .before .before .before .before .before .before .before .before .args in
+    r ≡ refusal ((10 if refused10 (s .limits) (s .n)) ∷ []) → r ≡ refusal (layoutTests (s .limits) (s .n))
+to-ten c e =
+    let t = c .before in
     let b = t .before .before in
     let a = b .before .before in
     let s = a .before .before .before in
     skips 6 _ (six (s .pre .1) (s .args .limits) (a .before .instances-refused .ensures)) (a .if1 .left)
     (skips 7 _ (seven (s .pre .1) (b .before .low-rank .ensures)) (b .if2 .left)
-    (skips 8 _ (eight (s .pre .1) (t .before .still .ensures)) (t .if3 .left)
-    (applies 10 _ (ten (s .pre .1) (s .args .limits) (c .before .processes-refused .ensures)) (c .if4 .taken))))
+    (skips 8 _ (eight (s .pre .1) (t .before .still .ensures)) (t .if3 .left) e))
+
+returns-4 : tie.Need-returns-4
+returns-4 c =
+    let s = c .before .before .before .before .before .before .before .before .before in
+    to-ten (c .before) (applies 10 _ (ten (s .pre .1) (s .args .limits) (c .before .processes-refused .ensures)) (c .if4 .taken))
 
 returns-5 : tie.Need-returns-5
 returns-5 c =
-    let t = c .before .before in
-    let b = t .before .before in
-    let a = b .before .before in
-    let s = a .before .before .before in
-    skips 6 _ (six (s .pre .1) (s .args .limits) (a .before .instances-refused .ensures)) (a .if1 .left)
-    (skips 7 _ (seven (s .pre .1) (b .before .low-rank .ensures)) (b .if2 .left)
-    (skips 8 _ (eight (s .pre .1) (t .before .still .ensures)) (t .if3 .left)
-    (skips 10 _ (ten (s .pre .1) (s .args .limits) (c .before .processes-refused .ensures)) (c .if4 .left) accepts)))
+    let s = c .before .before .before .before .before .before .before .before .before in
+    to-ten (c .before) (skips 10 _ (ten (s .pre .1) (s .args .limits) (c .before .processes-refused .ensures)) (c .if4 .left) accepts)
 
 still-requires : tie.Need-still-requires
 still-requires c κs = let s = c .before .before .before .before .before in (s .pre .0 .step, s .pre .1 .increment-small)
