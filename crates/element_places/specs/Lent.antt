@@ -74,10 +74,10 @@ pub record Saying (f : Flow) (many from : ℕ) (spans lanes places : List ℕ) :
 
 module _ {f : Flow} (h : Flows f) where
   pub elements-spanning : Spanning (boxed (f .elements))
-  elements-spanning = subst Spanning (sym (h .elements-is)) (box-spanning (h .laid .in-range .nest) (h .laid .in-range .map))
+  elements-spanning = subst Spanning (sym (h .flow .elements-is)) (box-spanning (h .laid .in-range .nest) (h .laid .in-range .map))
 
   pub stride-is : weigh (boxed (f .elements)) (f .pass .a) (f .pass .b) ≡ strideOf (f .nest) (f .stream)
-  stride-is = ap₂ (λ (k : Box) (v : V2). weigh k (v .a) (v .b)) (h .elements-is) (h .pass-is)
+  stride-is = ap₂ (λ (k : Box) (v : V2). weigh k (v .a) (v .b)) (h .flow .elements-is) (h .flow .pass-is)
 
 -- ---- the first element of a computing process
 
@@ -90,17 +90,17 @@ module _ {f : Flow} {spans : List ℕ} {q : ℕ} (a : At f spans q) {e : V2}
       (run-first (a .flows .laid .accepted .layout) (processOf (f .nest) q) (a .computing) .within))
 
   pub inside-elements : Inside (boxed (f .elements)) e
-  inside-elements = subst (λ (k : Box). Inside k e) (sym (a .flows .elements-is)) inside-box
+  inside-elements = subst (λ (k : Box). Inside k e) (sym (a .flows .flow .elements-is)) inside-box
 
   pub number-is : {i : ℕ} → i ≡ rowIndex (boxed (f .elements)) e
       → i ≡ rowIndex (boxOf (f .nest) (f .stream .map)) (image (f .stream .map) (first (f .nest) (processOf (f .nest) q)))
-  number-is k = k ∙ ap₂ rowIndex (a .flows .elements-is) is
+  number-is k = k ∙ ap₂ rowIndex (a .flows .flow .elements-is) is
 
   pub number-fits : (from : ℕ) → from + length (elements (f .nest) (f .stream)) ≤ 24576 → {i : ℕ} → i ≡ rowIndex (boxed (f .elements)) e
       → from + i < 24576
   number-fits from fits k = omega (
     arith,
-    k ∙ ap (λ (b : Box). rowIndex b e) (a .flows .elements-is),
+    k ∙ ap (λ (b : Box). rowIndex b e) (a .flows .flow .elements-is),
     row-lt (boxOf (f .nest) (f .stream .map)) e inside-box,
     fits,
   )
@@ -127,7 +127,7 @@ module _ {f : Flow} {from : ℕ} {spans : List ℕ} {q : ℕ} (h : Running f fro
   accepted = h .at .flows .laid .accepted
 
   moving : T (not (stationary n s))
-  moving = subst T (h .at .flows .moving-is) (h .moves)
+  moving = subst T (h .at .flows .flow .moving-is) (h .moves)
 
   run : RunAt n y x
   run = run-first (accepted .layout) y (h .at .computing)

@@ -58,12 +58,12 @@ pub record Walking (f : Flow) (from start : ℕ) (spans : List ℕ) (p : ℕ) (p
 -- ---- process k of a line
 
 pub way-small : {f : Flow} → Flows f → Within2 1 (f .way)
-way-small h = subst (Within2 1) (sym (h .way-is)) (h .laid .small)
+way-small h = subst (Within2 1) (sym (h .flow .way-is)) (h .laid .small)
 
 module _ {f : Flow} {y : V2} {k : ℕ} (h : Lined f y k) {z : V2} (e : z ≡ shift2 y (pos k) (f .way)) where
   at-is : z ≡ processAt (f .nest) (f .stream) y k
   at-is =
-      e ∙ ap (shift2 y (pos k)) (h .flows .way-is)
+      e ∙ ap (shift2 y (pos k)) (h .flows .flow .way-is)
       ∙ sym (pipe-at (h .flows .laid .accepted) y k zero2 (h .lt)
       ∙ ap (λ (b : ℕ). shift2 y (pos k -ℤ pos b) (move (f .nest) (f .stream))) (h .zero)
       ∙ ap (λ (i : ℤ). shift2 y i (move (f .nest) (f .stream))) none)
@@ -75,12 +75,12 @@ module _ {f : Flow} {y : V2} {k : ℕ} (h : Lined f y k) {z : V2} (e : z ≡ shi
   at-in = subst (Inside (space (f .nest))) (sym at-is) (at-inside (h .flows .laid .accepted) (h .inside) k zero2 (h .lt))
 
   pub at-box : Inside (boxed (f .space)) z
-  at-box = subst (λ (b : Box). Inside b z) (sym (h .flows .space-is)) at-in
+  at-box = subst (λ (b : Box). Inside b z) (sym (h .flows .flow .space-is)) at-in
 
   pub at-number : {r : ℕ} → r ≡ rowIndex (boxed (f .space)) z
       → (r < length (processes (f .nest))) × (processOf (f .nest) r ≡ processAt (f .nest) (f .stream) y k)
   at-number er =
-      let e' = er ∙ ap (λ (b : Box). rowIndex b z) (h .flows .space-is) in (
+      let e' = er ∙ ap (λ (b : Box). rowIndex b z) (h .flows .flow .space-is) in (
         omega (arith, e', row-lt (space (f .nest)) z at-in),
         ap (processOf (f .nest)) e' ∙ row-at (space (f .nest)) z zero2 at-in ∙ at-is,
       )

@@ -15,9 +15,9 @@ use Rattle.integers.specs.declared.V2.{V2}
 use Rattle.meaning.specs.declared.Nest.{Nest}
 use Rattle.meaning.specs.declared.Stream.{Stream}
 use Rattle.meaning.specs.Loops.{instances}
-use Rattle.meaning.specs.Space.{Box, points, rowIndex, boxOf, space, processes}
-use Rattle.meaning.specs.Streams.{stationary, hop, move, pass}
-use Rattle.meaning.specs.Pipes.{reach, backward}
+use Rattle.meaning.specs.Space.{Box, points, rowIndex, space, processes}
+use Rattle.meaning.specs.Streams.{stationary, move}
+use Rattle.meaning.specs.Pipes.{reach}
 use Rattle.meaning.specs.Description.{noStream}
 use Rattle.meaning.specs.Points.{Inside}
 use Rattle.geometry.specs.Numbers.{shift-neg, neg-not}
@@ -57,47 +57,24 @@ pub record Laid (n : Nest) (s : Stream) : Type 0 where
 
 pub record Flows (f : Flow) : Type 0 where
   pub laid : Laid (f .nest) (f .stream)
-  pub hop-is : f .hop ≡ hop (f .nest) (f .stream)
-  pub space-is : boxed (f .space) ≡ space (f .nest)
-  pub elements-is : boxed (f .elements) ≡ boxOf (f .nest) (f .stream .map)
-  pub way-is : f .way ≡ move (f .nest) (f .stream)
-  pub back-is : f .back ≡ neg2 (move (f .nest) (f .stream))
-  pub back-small : Within2 1 (f .back)
-  pub pass-is : f .pass ≡ pass (f .nest) (f .stream)
-  pub pass-small : Within2 4800 (f .pass)
-  pub against-is : f .against ≡ neg2 (pass (f .nest) (f .stream))
-  pub against-small : Within2 4800 (f .against)
-  pub step-is : f .step ≡ weigh (space (f .nest)) (move (f .nest) (f .stream) .a) (move (f .nest) (f .stream) .b)
-  pub step-small : Abs (f .step) 1538
-  pub moving-is : f .moving ≡ not (stationary (f .nest) (f .stream))
-  pub turned-is : f .turned ≡ backward (move (f .nest) (f .stream))
+  pub flow : FlowOf (f .nest) (f .stream) f
 
--- the flow of a stream that is laid out: the components of its move are at most 1 either way, and stay so as it is turned round
+-- the flow of a stream that is laid out
 pub flows : {n : Nest} {s : Stream} {f : Flow} → Laid n s → FlowOf n s f → Flows f
-flows {f = f} l k =
-    own (subst₂ Laid (sym (k .nest-is)) (sym (k .stream-is)) l)
-    (subst₂ (λ (n : Nest) (s : Stream). FlowOf n s f) (sym (k .nest-is)) (sym (k .stream-is)) k)
-  where
-    own : Laid (f .nest) (f .stream) → FlowOf (f .nest) (f .stream) f → Flows f
-    own l h =
-        record {
-          laid = l;
-          hop-is = h .hop-is;
-          space-is = h .space-is;
-          elements-is = h .elements-is;
-          way-is = h .way-is;
-          back-is = h .back-is;
-          back-small = subst (Within2 1) (sym (h .back-is)) (neg-small (l .small));
-          pass-is = h .pass-is;
-          pass-small = h .pass-small;
-          against-is = h .against-is;
-          against-small = h .against-small;
-          step-is = h .step-is;
-          step-small = subst (λ (k : ℤ). Abs k 1538) (sym (h .step-is))
-              (stride-small (box-spanning (l .in-range .nest) (l .in-range .nest .place)) (l .small));
-          moving-is = h .moving-is;
-          turned-is = h .turned-is;
-        }
+flows {f = f} l h =
+    record {
+      laid = subst₂ Laid (sym (h .nest-is)) (sym (h .stream-is)) l;
+      flow = subst₂ (λ (n : Nest) (s : Stream). FlowOf n s f) (sym (h .nest-is)) (sym (h .stream-is)) h;
+    }
+
+-- the components of its move are at most 1 either way, and stay so as it is turned round
+back-small : {f : Flow} → Flows f → Within2 1 (f .back)
+back-small h = subst (Within2 1) (sym (h .flow .back-is)) (neg-small (h .laid .small))
+
+pub step-small : {f : Flow} → Flows f → Abs (f .step) 1538
+step-small h =
+    subst (λ (k : ℤ). Abs k 1538) (sym (h .flow .step-is))
+    (stride-small (box-spanning (h .laid .in-range .nest) (h .laid .in-range .nest .place)) (h .laid .small))
 
 -- room for a process and an entry in the lanes
 pub record Visitable (l : List ℕ) (p e : ℕ) : Type 0 where
@@ -132,29 +109,29 @@ pub record Fillable (f : Flow) (count : ℕ) (spans lanes : List ℕ) : Type 0 w
 
 module _ {f : Flow} (h : Flows f) where
   pub spanning : Spanning (boxed (f .space))
-  spanning = subst Spanning (sym (h .space-is)) (box-spanning (h .laid .in-range .nest) (h .laid .in-range .nest .place))
+  spanning = subst Spanning (sym (h .flow .space-is)) (box-spanning (h .laid .in-range .nest) (h .laid .in-range .nest .place))
 
   pub point-lt : {p : ℕ} → p < length (processes (f .nest)) → p < length (points (boxed (f .space)))
-  point-lt {p} l = subst (λ (k : Box). p < length (points k)) (sym (h .space-is)) l
+  point-lt {p} l = subst (λ (k : Box). p < length (points k)) (sym (h .flow .space-is)) l
 
   module _ {p : ℕ} (lt : p < length (processes (f .nest))) {y : V2} (ey : y ≡ getD (points (boxed (f .space))) p zero2) where
     pub point-is : y ≡ processOf (f .nest) p
-    point-is = ey ∙ ap (λ (k : Box). getD (points k) p zero2) (h .space-is)
+    point-is = ey ∙ ap (λ (k : Box). getD (points k) p zero2) (h .flow .space-is)
 
     pub inside-space : Inside (space (f .nest)) y
     inside-space = subst (Inside (space (f .nest))) (sym point-is)
         (points-inside (space (f .nest)) (processOf (f .nest) p) (getD-in (processes (f .nest)) p zero2 lt))
 
     inside-box : Inside (boxed (f .space)) y
-    inside-box = subst (λ (k : Box). Inside k y) (sym (h .space-is)) inside-space
+    inside-box = subst (λ (k : Box). Inside k y) (sym (h .flow .space-is)) inside-space
 
     pub going-back : Going (boxed (f .space)) (f .back) y
     going-back =
         record {
           box = spanning;
           inside = inside-box;
-          by = wider2 (h .back-small);
-          on = subst (λ (d : V2). d ≡ zero2 → ⊥) (sym (h .back-is)) (neg-not (h .laid .accepted .goes));
+          by = wider2 (back-small h);
+          on = subst (λ (d : V2). d ≡ zero2 → ⊥) (sym (h .flow .back-is)) (neg-not (h .laid .accepted .goes));
         }
 
     pub going-on : Going (boxed (f .space)) (f .way) y
@@ -162,15 +139,15 @@ module _ {f : Flow} (h : Flows f) where
         record {
           box = spanning;
           inside = inside-box;
-          by = subst (Within2 4800) (sym (h .way-is)) (wider2 (h .laid .small));
-          on = subst (λ (d : V2). d ≡ zero2 → ⊥) (sym (h .way-is)) (h .laid .accepted .goes);
+          by = subst (Within2 4800) (sym (h .flow .way-is)) (wider2 (h .laid .small));
+          on = subst (λ (d : V2). d ≡ zero2 → ⊥) (sym (h .flow .way-is)) (h .laid .accepted .goes);
         }
 
     -- how far the line goes on from it
     pub reach-on : {k : ℕ} → k ≡ reach (boxed (f .space)) (f .way) y
         → k ≡ reach (space (f .nest)) (move (f .nest) (f .stream)) (processOf (f .nest) p)
     reach-on e =
-        e ∙ ap₂ (λ (b : Box) (d : V2). reach b d y) (h .space-is) (h .way-is)
+        e ∙ ap₂ (λ (b : Box) (d : V2). reach b d y) (h .flow .space-is) (h .flow .way-is)
         ∙ ap (reach (space (f .nest)) (move (f .nest) (f .stream))) point-is
 
     pub point-small : Within2 768 y
@@ -190,7 +167,7 @@ module _ {f : Flow} (h : Flows f) where
       entry-eq : entry ≡ entryOf (f .nest) (f .stream) (processOf (f .nest) p)
       entry-eq =
           ap₂ (λ (i : ℕ) (d : V2). shift2 y (pos i) d)
-          (ek ∙ ap₂ (λ (b : Box) (d : V2). reach b d y) (h .space-is) (h .back-is)) (h .back-is)
+          (ek ∙ ap₂ (λ (b : Box) (d : V2). reach b d y) (h .flow .space-is) (h .flow .back-is)) (h .flow .back-is)
           ∙ shift-neg y (move (f .nest) (f .stream)) (pos _) ∙ ap (entryOf (f .nest) (f .stream)) point-is
 
       entry-inside : Inside (space (f .nest)) entry
@@ -201,9 +178,9 @@ module _ {f : Flow} (h : Flows f) where
       -- it lies k steps before p
       pub entry-back : pos p -ℤ pos k *ℤ f .step ≡ pos (rowIndex (space (f .nest)) entry)
       entry-back =
-          ap₂ (λ (a b : ℤ). a -ℤ pos k *ℤ b) (sym here) (h .step-is)
+          ap₂ (λ (a b : ℤ). a -ℤ pos k *ℤ b) (sym here) (h .flow .step-is)
           ∙ sym (row-on (space (f .nest)) (f .back) (pos k) inside-space entry-inside
-          ∙ ap (λ (d : V2). pos (rowIndex (space (f .nest)) y) +ℤ pos k *ℤ weigh (space (f .nest)) (d .a) (d .b)) (h .back-is)
+          ∙ ap (λ (d : V2). pos (rowIndex (space (f .nest)) y) +ℤ pos k *ℤ weigh (space (f .nest)) (d .a) (d .b)) (h .flow .back-is)
           ∙ turned-round (pos (rowIndex (space (f .nest)) y)) (pos k) (pos _) (move (f .nest) (f .stream) .a)
           (move (f .nest) (f .stream) .b))
         where

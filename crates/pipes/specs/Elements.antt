@@ -91,14 +91,15 @@ module _ {f : Flow} {spans : List ℕ} {p : ℕ} (a : At f spans p) where
 
   module _ (moves : T (f .moving)) where
     on-way : T (not (stationary n s))
-    on-way = subst T (a .flows .moving-is) moves
+    on-way = subst T (a .flows .flow .moving-is) moves
 
     box-spans : Spanning (boxed (f .elements))
-    box-spans = subst Spanning (sym (a .flows .elements-is)) (box-spanning (a .flows .laid .in-range .nest) (a .flows .laid .in-range .map))
+    box-spans =
+        subst Spanning (sym (a .flows .flow .elements-is)) (box-spanning (a .flows .laid .in-range .nest) (a .flows .laid .in-range .map))
 
     within : {x : V3} → RunAt n y x → {e : V2} → e ≡ image (s .map) x → Inside (boxed (f .elements)) e
     within {x} r e = subst (Inside (boxed (f .elements))) (sym e)
-        (subst (λ (k : Box). Inside k (image (s .map) x)) (sym (a .flows .elements-is))
+        (subst (λ (k : Box). Inside k (image (s .map) x)) (sym (a .flows .flow .elements-is))
         (box-has (accepted .layout .dirs) (s .map) (r .within)))
 
     going-back : {x : V3} → RunAt n y x → {e : V2} → e ≡ image (s .map) x → Going (boxed (f .elements)) (f .against) e
@@ -106,8 +107,8 @@ module _ {f : Flow} {spans : List ℕ} {p : ℕ} (a : At f spans p) where
         record {
           box = box-spans;
           inside = within r e;
-          by = a .flows .against-small;
-          on = subst (λ (d : V2). d ≡ zero2 → ⊥) (sym (a .flows .against-is)) (neg-not (passes accepted on-way));
+          by = a .flows .flow .against-small;
+          on = subst (λ (d : V2). d ≡ zero2 → ⊥) (sym (a .flows .flow .against-is)) (neg-not (passes accepted on-way));
         }
 
     pub going-against : {e : V2} → e ≡ image (s .map) (first n y) → Going (boxed (f .elements)) (f .against) e
@@ -118,8 +119,8 @@ module _ {f : Flow} {spans : List ℕ} {p : ℕ} (a : At f spans p) where
         record {
           box = box-spans;
           inside = within r e;
-          by = a .flows .pass-small;
-          on = subst (λ (d : V2). d ≡ zero2 → ⊥) (sym (a .flows .pass-is)) (passes accepted on-way);
+          by = a .flows .flow .pass-small;
+          on = subst (λ (d : V2). d ≡ zero2 → ⊥) (sym (a .flows .flow .pass-is)) (passes accepted on-way);
         }
 
     pub going-first : {e : V2} → e ≡ image (s .map) (first n y) → Going (boxed (f .elements)) (f .pass) e
@@ -131,12 +132,13 @@ module _ {f : Flow} {spans : List ℕ} {p : ℕ} (a : At f spans p) where
     reach-against : {e : V2} {r : ℕ} (x : V3) → e ≡ image (s .map) x → r ≡ reach (boxed (f .elements)) (f .against) e
         → r ≡ reach box (neg2 (pass n s)) (image (s .map) x)
     reach-against {e} x h k =
-        k ∙ ap₂ (λ (b : Box) (d : V2). reach b d e) (a .flows .elements-is) (a .flows .against-is) ∙ ap (reach box (neg2 (pass n s))) h
+        k ∙ ap₂ (λ (b : Box) (d : V2). reach b d e) (a .flows .flow .elements-is) (a .flows .flow .against-is)
+        ∙ ap (reach box (neg2 (pass n s))) h
 
     reach-on : {e : V2} {r : ℕ} (x : V3) → e ≡ image (s .map) x → r ≡ reach (boxed (f .elements)) (f .pass) e
         → r ≡ reach box (pass n s) (image (s .map) x)
     reach-on {e} x h k =
-        k ∙ ap₂ (λ (b : Box) (d : V2). reach b d e) (a .flows .elements-is) (a .flows .pass-is) ∙ ap (reach box (pass n s)) h
+        k ∙ ap₂ (λ (b : Box) (d : V2). reach b d e) (a .flows .flow .elements-is) (a .flows .flow .pass-is) ∙ ap (reach box (pass n s)) h
 
     -- the index of the element that an instance touches; the first one's is the soak
     pub index-moving : {x : V3} → RunAt n y x → {e : V2} {r : ℕ} → e ≡ image (s .map) x → r ≡ reach (boxed (f .elements)) (f .against) e
@@ -206,7 +208,7 @@ module _ {f : Flow} {spans lanes : List ℕ} {p : ℕ} (h : Near f spans lanes p
 
   -- of a stationary stream
   pub still-of : f .moving ≡ false → T (stationary (f .nest) (f .stream))
-  still-of e = subst T (sym (not-false (stationary (f .nest) (f .stream)) (sym (h .seen .flows .moving-is) ∙ e))) tt
+  still-of e = subst T (sym (not-false (stationary (f .nest) (f .stream)) (sym (h .seen .flows .flow .moving-is) ∙ e))) tt
 
   pub total-still : f .moving ≡ false
       → getD lanes (2048 + getD lanes p 0) 0 ≡ length (pipeElements (f .nest) (f .stream) (processOf (f .nest) p))
@@ -233,7 +235,7 @@ module _ {f : Flow} {spans lanes : List ℕ} {p : ℕ} (h : Near f spans lanes p
     one-there : One (entryNumber (f .nest) (f .stream)) (computes (f .nest)) (length (processes (f .nest))) (getD lanes p 0)
         (getD lanes (1024 + getD lanes p 0) 0)
     one-there =
-        h .seen .of-lanes .one (sym (h .seen .flows .moving-is) ∙ is-true (f .moving) moves) (getD lanes p 0) entry-lt
+        h .seen .of-lanes .one (sym (h .seen .flows .flow .moving-is) ∙ is-true (f .moving) moves) (getD lanes p 0) entry-lt
 
     pub one-le : getD lanes (1024 + getD lanes p 0) 0 ≤ 1024
     one-le = go one-there
@@ -293,7 +295,7 @@ module _ {f : Flow} {spans lanes : List ℕ} {p : ℕ} (h : Near f spans lanes p
 
   module _ (c : T (computes (f .nest) p)) (still : f .moving ≡ false) where
     running-is : getD lanes (1024 + p) 0 ≡ heldOn (f .nest) (f .stream) p (entryNumber (f .nest) (f .stream) p)
-    running-is = h .seen .of-lanes .running (sym (h .seen .flows .moving-is) ∙ still) p (h .lt) c
+    running-is = h .seen .of-lanes .running (sym (h .seen .flows .flow .moving-is) ∙ still) p (h .lt) c
 
     all-is : getD lanes (2048 + getD lanes p 0) 0
         ≡ heldOn (f .nest) (f .stream) (length (processes (f .nest))) (entryNumber (f .nest) (f .stream) p)
@@ -311,7 +313,7 @@ module _ {f : Flow} {spans lanes : List ℕ} {p : ℕ} (h : Near f spans lanes p
         soak-held good p (h .lt) c (still-of still)
         ∙ ap (λ (x : Bool). cond x (heldOn (f .nest) (f .stream) (length (processes (f .nest))) (entryNumber (f .nest) (f .stream) p)
         - suc (heldOn (f .nest) (f .stream) p (entryNumber (f .nest) (f .stream) p)))
-        (heldOn (f .nest) (f .stream) p (entryNumber (f .nest) (f .stream) p))) (sym (e ∙ h .seen .flows .turned-is))
+        (heldOn (f .nest) (f .stream) p (entryNumber (f .nest) (f .stream) p))) (sym (e ∙ h .seen .flows .flow .turned-is))
         ∙ ap₂ (λ (u v : ℕ). cond b (u - suc v) v) (sym all-is) (sym running-is)
 
     -- and its drain

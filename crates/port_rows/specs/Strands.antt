@@ -72,7 +72,7 @@ module _ {f : Flow} (h : Flows f) {p : ℕ} (lt : p < length (processes (f .nest
 
     pub on-number : pos p +ℤ pos k *ℤ f .step ≡ pos (rowIndex (space (f .nest)) there)
     on-number =
-        ap₂ (λ (a b : ℤ). a +ℤ pos k *ℤ b) (sym here-is) (h .step-is)
+        ap₂ (λ (a b : ℤ). a +ℤ pos k *ℤ b) (sym here-is) (h .flow .step-is)
         ∙ sym (row-on (space (f .nest)) (move (f .nest) (f .stream)) (pos k) here-in on-in)
 
     pub on-some : pos 0 ≤ℤ (pos p +ℤ pos k *ℤ f .step)
@@ -90,7 +90,7 @@ module _ {f : Flow} (h : Flows f) {p : ℕ} (lt : p < length (processes (f .nest
 
     pub back-number : pos p -ℤ f .step ≡ pos (rowIndex (space (f .nest)) behind)
     back-number =
-        ap₂ _-ℤ_ (sym here-is) (h .step-is) ∙ sym (row-back (space (f .nest)) (move (f .nest) (f .stream)) here-in back-in)
+        ap₂ _-ℤ_ (sym here-is) (h .flow .step-is) ∙ sym (row-back (space (f .nest)) (move (f .nest) (f .stream)) here-in back-in)
 
     pub back-some : pos 0 ≤ℤ (pos p -ℤ f .step)
     back-some = subst (λ (z : ℤ). pos 0 ≤ℤ z) (sym back-number) (omega (arith, zrules))
@@ -214,7 +214,7 @@ count-fits {f} {p} h =
 keeps-is : {f : Flow} {spans lanes : List ℕ} {p : ℕ} → Near f spans lanes p
     → (not (f .moving) && not (eqb (getD spans p 0) 0)) ≡ (stationary (f .nest) (f .stream) && computing (f .nest) (processOf (f .nest) p))
 keeps-is {f} {p} h =
-    ap₂ _&&_ (ap not (h .seen .flows .moving-is) ∙ twice (stationary (f .nest) (f .stream))) (sym (computes-is h))
+    ap₂ _&&_ (ap not (h .seen .flows .flow .moving-is) ∙ twice (stationary (f .nest) (f .stream))) (sym (computes-is h))
   where
     twice : (b : Bool) → not (not b) ≡ b
     twice true = refl

@@ -19,7 +19,8 @@ reach-of-requires c κs =
     going-against (p .at) (p .moves) (c .first-element .ensures)
 
 stride-of-requires : tie.Need-stride-of-requires
-stride-of-requires c κs = let h = c .before .before .before .before .before .before .pre .at .flows in (elements-spanning h, h .pass-small)
+stride-of-requires c κs =
+    let h = c .before .before .before .before .before .before .pre .at .flows in (elements-spanning h, h .flow .pass-small)
 
 row-number-requires : tie.Need-row-number-requires
 row-number-requires c κs =

@@ -26,7 +26,7 @@ returns c =
     let s = k .before .before .before .before in
     let p = s .pre in
     let f = s .args .f in
-    let e = share-is (f .nest) (f .stream) (c .sums-of .ensures) (p .1 .flows .hop-is) refl refl in
+    let e = share-is (f .nest) (f .stream) (c .sums-of .ensures) (p .1 .flows .flow .hop-is) refl refl in
     (e, subst Small (sym e) (share-small (p .0)), lanes-of refl refl (k .fill-lanes .ensures .of-lanes))
 
 pub share-of-spec : {M : Type 1} → statement M

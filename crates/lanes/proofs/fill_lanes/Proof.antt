@@ -124,7 +124,7 @@ returns c =
       flows = f .flows;
       of-spans = f .of-spans;
       long = f .long;
-      of-lanes = subst (λ (m : Bool). Lanes E C m P P (l .lanes)) (f .flows .moving-is)
+      of-lanes = subst (λ (m : Bool). Lanes E C m P P (l .lanes)) (f .flows .flow .moving-is)
           (subst (λ (k : ℕ). Lanes E C (s .args .f .moving) k k (l .lanes)) (f .counted)
           (subst (λ (k : ℕ). Lanes E C (s .args .f .moving) (s .args .processes) k (l .lanes)) e (l .inv .1)));
     }
