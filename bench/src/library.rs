@@ -102,6 +102,16 @@ extern "C" {
         state: *const u32,
         state_length: usize,
     ) -> u32;
+    fn beqlanosh_fill(seed: u32, n: usize, list: *mut u32, list_length: usize) -> u32;
+    fn beqlanosh_make(
+        seed: u32,
+        loops: u32,
+        streams: u32,
+        lines: u32,
+        output: *mut u8,
+        output_length: usize,
+        answer: *mut u32,
+    ) -> u32;
 }
 
 pub fn accept(board: u32, bytes: &[u8], figures: &mut [u32; FIGURES]) -> u32 {
@@ -270,6 +280,31 @@ pub fn result(
             received.len(),
             state.as_ptr(),
             state.len(),
+        )
+    }
+}
+
+pub fn fill(seed: u32, n: usize, list: &mut [u32]) -> u32 {
+    // SAFETY: as above.
+    unsafe { beqlanosh_fill(seed, n, list.as_mut_ptr(), list.len()) }
+}
+
+pub fn make(
+    seed: u32,
+    [loops, streams, lines]: [u32; 3],
+    output: &mut [u8],
+    answer: &mut [u32; 1],
+) -> u32 {
+    // SAFETY: as above.
+    unsafe {
+        beqlanosh_make(
+            seed,
+            loops,
+            streams,
+            lines,
+            output.as_mut_ptr(),
+            output.len(),
+            answer.as_mut_ptr(),
         )
     }
 }

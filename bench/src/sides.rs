@@ -23,7 +23,11 @@ pub type Written<'a> = [&'a mut [u32]; 3];
 /// Two words that a call answers besides its number.
 pub type Answer = [u32; 2];
 
-/// The nine calls of a program. Each is told a board word and lent a description, and answers 0 or the number by which it declines.
+/// The number of bytes that Make answers besides its number.
+pub type Bytes = [u32; 1];
+
+/// The calls of a program. Each answers 0 or the number by which it declines; all but the last two are told a board word and lent a
+/// description.
 pub struct Side {
     pub name: &'static str,
     pub accept: fn(u32, &[u8], &mut [u32; FIGURES]) -> u32,
@@ -42,6 +46,10 @@ pub struct Side {
     pub window: fn(u32, &[u8], [u32; 2], Lists, &mut Answer) -> u32,
     /// Output and the lists.
     pub result: fn(u32, &[u8], &mut [u32], Memory) -> u32,
+    /// Seed, number of values and list.
+    pub fill: fn(u32, usize, &mut [u32]) -> u32,
+    /// Seed, sizes, output and the answer.
+    pub make: fn(u32, [u32; 3], &mut [u8], &mut Bytes) -> u32,
 }
 
 pub static LIBRARY: Side = Side {
@@ -55,6 +63,8 @@ pub static LIBRARY: Side = Side {
     ready: library::ready,
     window: library::window,
     result: library::result,
+    fill: library::fill,
+    make: library::make,
 };
 
 pub static QUICK: Side = Side {
@@ -68,6 +78,8 @@ pub static QUICK: Side = Side {
     ready: quick::ready,
     window: quick::window,
     result: quick::result,
+    fill: quick::fill,
+    make: quick::make,
 };
 
 pub static SIDES: [&Side; 2] = [&LIBRARY, &QUICK];

@@ -8,7 +8,10 @@ use crate::calls::{Calls, Row};
 use crate::description::{bytes_of, Description, LINE_WORDS};
 use crate::designs;
 use crate::divisor_cases::divisor_cases;
+use crate::generator;
 use crate::guard_words::{guard_words, older_lengths};
+use crate::made_cases::made_cases;
+use crate::number_of;
 use crate::random::Random;
 use crate::random_board::{self, OTHERS};
 use crate::random_description::{self, given};
@@ -154,17 +157,16 @@ fn plain_text(calls: &Calls, number: u32, elements: usize, small: bool) -> Strin
 
 /// A call's number and the sum of its list.
 fn call_text(answer: Result<(), Refusal>, words: &[u32]) -> String {
-    let number = answer.map_or_else(|refusal| refusal.0, |()| 0);
-    format!(" {number} {}", sum(words))
+    format!(" {} {}", number_of(answer), sum(words))
 }
 
 /// A name and numbers.
-fn line<T: Display>(name: &str, numbers: &[T]) -> String {
+pub fn line<T: Display>(name: &str, numbers: &[T]) -> String {
     let numbers: String = numbers.iter().map(|number| format!(" {number}")).collect();
     format!("{name}{numbers}\n")
 }
 
-/// The one rule behind values and sums, modulo 2^32. It tells words apart that differ in one place.
+/// The rule behind sums, modulo 2^32. It tells words apart that differ in one place.
 pub fn mix(sum: u32, word: u32) -> u32 {
     sum.wrapping_mul(1_664_525)
         .wrapping_add(word)
@@ -176,14 +178,9 @@ pub fn sum(words: &[u32]) -> u32 {
     words.iter().fold(0, |sum, &word| mix(sum, word))
 }
 
-/// The values for the description of a number.
+/// The values for the description of a number: those of Fill for the seed that is one above it.
 pub fn values(number: u32, count: usize) -> Vec<u32> {
-    let mut value = number;
-    let mut next = |place| {
-        value = mix(value, place);
-        value
-    };
-    (0..count as u32).map(&mut next).collect()
+    generator::values(number + 1, count)
 }
 
 /// A row before a call.
@@ -220,8 +217,8 @@ fn row_words(row: &Row) -> Vec<u32> {
     numbers.into_iter().map(|number| number as u32).collect()
 }
 
-/// Some 4,400 descriptions: designs and cases on the gauge, random ones, of which three in ten are told the bench and a few no board, and
-/// such that show the boards, on both and on none.
+/// Some 4,600 descriptions: designs and cases on the gauge, random ones, of which three in ten are told the bench and a few no board, such
+/// that show the boards, on both and on none, and made ones on the gauge.
 pub fn records() -> Vec<Record> {
     let mut records = on(GAUGE, fixed_descriptions());
     records.extend(random_records(&mut Random::new(3)));
@@ -233,6 +230,7 @@ pub fn records() -> Vec<Record> {
     for board in OTHERS {
         records.extend(on(board, without_board()));
     }
+    records.extend(on(GAUGE, made_cases()));
     records
 }
 

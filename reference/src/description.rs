@@ -49,9 +49,9 @@ impl Description {
     /// Reads a description; declines by 1 to 5.
     pub fn read(bytes: &[u8]) -> Result<Description, Refusal> {
         demand(bytes.len() >= 12, 1)?;
-        let sizes = Sizes::read(bytes)?;
+        let words = words_of(bytes);
+        let sizes = Sizes::of([words[0], words[1], words[2]])?;
         demand(bytes.len() == 4 * sizes.words(), 3)?;
-        let words: Vec<i32> = bytes.chunks_exact(4).map(word_of).collect();
         let description = read_words(&sizes, &words[3..])?;
         let bounds = description.left.iter().zip(&description.right);
         demand(bounds.into_iter().all(|(left, right)| left <= right), 5)?;
@@ -99,29 +99,29 @@ pub fn bytes_of(words: &[i32]) -> Vec<u8> {
     words.iter().flat_map(|word| word.to_le_bytes()).collect()
 }
 
-/// A word from four bytes, least byte first.
-fn word_of(bytes: &[u8]) -> i32 {
-    i32::from_le_bytes([bytes[0], bytes[1], bytes[2], bytes[3]])
+/// The whole words of bytes, least byte first.
+pub fn words_of(bytes: &[u8]) -> Vec<i32> {
+    let word = |bytes: &[u8]| i32::from_le_bytes([bytes[0], bytes[1], bytes[2], bytes[3]]);
+    bytes.chunks_exact(4).map(word).collect()
 }
 
 /// The first three words.
-struct Sizes {
-    loops: usize,
-    streams: usize,
-    lines: usize,
+pub struct Sizes {
+    pub loops: usize,
+    pub streams: usize,
+    pub lines: usize,
 }
 
 impl Sizes {
-    /// Reads the sizes from 12 bytes or more; declines by 2.
-    fn read(bytes: &[u8]) -> Result<Sizes, Refusal> {
-        let size = |place: usize, least: i32, greatest: i32| {
-            let word = word_of(&bytes[4 * place..4 * place + 4]);
+    /// The sizes that the three words name; declines by 2.
+    pub fn of([loops, streams, lines]: [i32; 3]) -> Result<Sizes, Refusal> {
+        let size = |word: i32, least: i32, greatest: i32| {
             demand(least <= word && word <= greatest, 2).map(|()| word as usize)
         };
         Ok(Sizes {
-            loops: size(0, 2, 3)?,
-            streams: size(1, 1, 6)?,
-            lines: size(2, 1, 8)?,
+            loops: size(loops, 2, 3)?,
+            streams: size(streams, 1, 6)?,
+            lines: size(lines, 1, 8)?,
         })
     }
 

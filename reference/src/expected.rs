@@ -11,17 +11,26 @@ use crate::description::{bytes_of, Description};
 use crate::designs;
 use crate::divisor::shorten;
 use crate::examples::{example_scripts, examples};
+use crate::fill_text::fill_text;
+use crate::generator;
+use crate::loads;
 use crate::random::Random;
 use crate::random_script::scripts;
 use crate::replay::{bundle, replay, step_call, Call, Script};
 use crate::table::table_text;
 use crate::walk_text::walk_text;
 
-/// A program's standard input and the output that it should print.
+/// What a program is given, and the output that it should print.
 struct Case {
     name: &'static str,
-    stdin: Vec<u8>,
+    given: Given,
     stdout: Vec<u8>,
+}
+
+/// A program's standard input, or the words of its command line.
+enum Given {
+    Stdin(Vec<u8>),
+    Args(&'static [&'static str]),
 }
 
 /// Every case that this implementation is responsible for.
@@ -32,6 +41,9 @@ fn cases() -> Vec<Case> {
         print_walk_case(),
         compare_case(),
         replay_case(),
+        loads_case(),
+        print_fill_case(),
+        print_make_case(),
     ]
 }
 
@@ -57,15 +69,23 @@ fn write_examples(directory: &Path) -> io::Result<()> {
     Ok(())
 }
 
-/// Each case as crates/NAME/stdin and crates/NAME/stdout.
+/// Each case as crates/NAME/stdin, or crates/NAME/args with a word to a line, and crates/NAME/stdout.
 fn write_cases(directory: &Path) -> io::Result<()> {
     for case in cases() {
         let folder = directory.join("crates").join(case.name);
         fs::create_dir_all(&folder)?;
-        fs::write(folder.join("stdin"), case.stdin)?;
+        match case.given {
+            Given::Stdin(bytes) => fs::write(folder.join("stdin"), bytes)?,
+            Given::Args(words) => fs::write(folder.join("args"), lines(words))?,
+        }
         fs::write(folder.join("stdout"), case.stdout)?;
     }
     Ok(())
+}
+
+/// A word to a line.
+fn lines(words: &[&str]) -> String {
+    words.iter().map(|word| format!("{word}\n")).collect()
 }
 
 /// The vectors in, and a line for each out: the divisor and the vector divided by it.
@@ -83,7 +103,7 @@ fn shorten_case() -> Case {
     }
     Case {
         name: "shorten",
-        stdin,
+        given: Given::Stdin(stdin),
         stdout: stdout.into_bytes(),
     }
 }
@@ -166,7 +186,7 @@ fn print_table_case() -> Case {
     Case {
         name: "print_table",
         stdout: table_text(GAUGE, &stdin).into_bytes(),
-        stdin,
+        given: Given::Stdin(stdin),
     }
 }
 
@@ -176,7 +196,7 @@ fn print_walk_case() -> Case {
     Case {
         name: "print_walk",
         stdout: walk_text(GAUGE, &stdin).into_bytes(),
-        stdin,
+        given: Given::Stdin(stdin),
     }
 }
 
@@ -185,7 +205,7 @@ fn compare_case() -> Case {
     let records = compare::records();
     Case {
         name: "compare",
-        stdin: compare::input(&records),
+        given: Given::Stdin(compare::input(&records)),
         stdout: compare::text(&records).into_bytes(),
     }
 }
@@ -200,7 +220,35 @@ fn replay_case() -> Case {
     Case {
         name: "replay",
         stdout: replay(&stdin).into_bytes(),
-        stdin,
+        given: Given::Stdin(stdin),
+    }
+}
+
+/// The comparison of Fill and Make.
+fn loads_case() -> Case {
+    let records = loads::records();
+    Case {
+        name: "loads",
+        given: Given::Stdin(loads::input(&records)),
+        stdout: loads::text(&records).into_bytes(),
+    }
+}
+
+/// Request 2.3's five values of seed 1.
+fn print_fill_case() -> Case {
+    Case {
+        name: "print_fill",
+        given: Given::Args(&["1", "5"]),
+        stdout: fill_text(1, 5).into_bytes(),
+    }
+}
+
+/// The description of two loops, three streams and two lines that is made from seed 1.
+fn print_make_case() -> Case {
+    Case {
+        name: "print_make",
+        given: Given::Args(&["1", "2", "3", "2"]),
+        stdout: generator::made(1, [2, 3, 2]).unwrap_or_default(),
     }
 }
 
@@ -259,7 +307,7 @@ fn run_to_the_end(board: u32, description: &Description) -> Vec<u8> {
 }
 
 /// A script that comes to a description's end on a board by some calls and asks for all that came out. Its values are as many as the gauge
-/// takes.
+/// takes, Fill's for that number as seed.
 fn to_the_end_by(board: u32, description: &Description, mut calls: Vec<Call>) -> Vec<u8> {
     let description = description.bytes();
     let elements = Calls::on(GAUGE, &description)
@@ -269,7 +317,7 @@ fn to_the_end_by(board: u32, description: &Description, mut calls: Vec<Call>) ->
     Script {
         description,
         board,
-        values: Random::new(elements as u64).values(elements),
+        values: generator::values(elements.max(1) as u32, elements),
         calls,
     }
     .bytes()

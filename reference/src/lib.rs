@@ -11,8 +11,12 @@ pub mod divisor;
 pub mod divisor_cases;
 pub mod examples;
 pub mod expected;
+pub mod fill_text;
+pub mod generator;
 pub mod geometry;
 pub mod guard_words;
+pub mod loads;
+pub mod made_cases;
 pub mod network;
 pub mod pipes;
 pub mod random;
@@ -49,4 +53,9 @@ pub fn demand(condition: bool, number: u32) -> Result<(), Refusal> {
     } else {
         Err(Refusal(number))
     }
+}
+
+/// The number by which an answer declines, 0 if it does not.
+pub fn number_of<T>(answer: Result<T, Refusal>) -> u32 {
+    answer.map_or_else(|refusal| refusal.0, |_| 0)
 }

@@ -1,4 +1,4 @@
-//! The command line: table, walk, replay, random, expected.
+//! The command line: table, walk, replay, fill, make, random, expected.
 
 use std::ffi::OsString;
 use std::fs;
@@ -8,13 +8,15 @@ use std::process::ExitCode;
 
 use reference::board::GAUGE;
 use reference::expected::write_files;
+use reference::fill_text::fill_text;
+use reference::generator::made;
 use reference::random_script::scripts;
 use reference::replay::{bundle, replay};
 use reference::table::table_text;
 use reference::walk_text::walk_text;
 
-const USAGE: &str =
-    "usage: reference table [--board N] | walk [--board N] | replay | random SEED N [DIR] | expected DIR";
+const USAGE: &str = "usage: reference table [--board N] | walk [--board N] | replay \
+    | fill SEED N | make SEED R M B | random SEED N [DIR] | expected DIR";
 
 fn main() -> ExitCode {
     let arguments: Vec<OsString> = std::env::args_os().skip(1).collect();
@@ -41,6 +43,19 @@ fn command(arguments: &[OsString]) -> Result<(), String> {
             print_text(walk_text, number("N", board)?)
         }
         (Some("replay"), []) => print(replay(&input()?).as_bytes()),
+        (Some("fill"), [seed, n]) => {
+            let text = fill_text(number("SEED", seed)?, number("N", n)?);
+            print(text.as_bytes())
+        }
+        (Some("make"), [seed, loops, streams, lines]) => {
+            let seed = number("SEED", seed)?;
+            let sizes = [
+                number("R", loops)?,
+                number("M", streams)?,
+                number("B", lines)?,
+            ];
+            print_made(seed, sizes)
+        }
         (Some("random"), [seed, count]) => {
             let scripts: Vec<Vec<u8>> =
                 scripts(number("SEED", seed)?, number("N", count)?).collect();
@@ -53,7 +68,7 @@ fn command(arguments: &[OsString]) -> Result<(), String> {
         ),
         (Some("expected"), [directory]) => write_files(Path::new(directory))
             .map_err(|error| format!("cannot write {directory:?}: {error}")),
-        (Some("table" | "walk" | "replay" | "random" | "expected"), _) => {
+        (Some("table" | "walk" | "replay" | "fill" | "make" | "random" | "expected"), _) => {
             Err(format!("wrong arguments for {name:?}"))
         }
         _ => Err(format!("unknown command {name:?}")),
@@ -63,6 +78,15 @@ fn command(arguments: &[OsString]) -> Result<(), String> {
 /// Prints the text of the description on standard input for a board.
 fn print_text(text: impl Fn(u32, &[u8]) -> String, board: u32) -> Result<(), String> {
     print(text(board, &input()?).as_bytes())
+}
+
+/// Prints the bytes of a made description; a refusal is a line on standard error.
+fn print_made(seed: u32, sizes: [u32; 3]) -> Result<(), String> {
+    match made(seed, sizes) {
+        Ok(bytes) => print(&bytes),
+        Err(refusal) => writeln!(io::stderr(), "{refusal}")
+            .map_err(|error| format!("cannot write standard error: {error}")),
+    }
 }
 
 /// A number in decimal.

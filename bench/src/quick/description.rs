@@ -66,9 +66,7 @@ impl Description {
         if !words.in_range {
             return Err(2);
         }
-        let matrix = (loops - 1) * loops;
-        let count = 3 + 4 * loops + matrix + streams * (matrix + loops - 1) + LINE_WORDS * lines;
-        if bytes.len() != 4 * count {
+        if bytes.len() != 4 * words_of(loops, streams, lines) {
             return Err(3);
         }
         let description = words.description(loops, streams, lines);
@@ -81,6 +79,12 @@ impl Description {
         }
         Ok(description)
     }
+}
+
+/// The number of words that the sizes give, the sizes included.
+pub fn words_of(loops: usize, streams: usize, lines: usize) -> usize {
+    let matrix = (loops - 1) * loops;
+    3 + 4 * loops + matrix + streams * (matrix + loops - 1) + LINE_WORDS * lines
 }
 
 /// Hands out the words in file order, and remembers whether all were in their ranges.

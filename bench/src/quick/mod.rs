@@ -1,11 +1,12 @@
-//! The nine calls as a plain Rust program that is written for speed, with nothing proved: what the library's times are held against. Every
-//! call answers 0 or the number by which it declines, and then changes no lent word.
+//! The calls as a plain Rust program that is written for speed, with nothing proved: what the library's times are held against. Every call
+//! answers 0 or the number by which it declines, and then changes no lent word.
 
 #![forbid(unsafe_code)]
 
 mod body;
 mod boxes;
 mod description;
+mod generator;
 mod lanes;
 mod nest;
 mod network;
@@ -225,6 +226,20 @@ fn try_result(
         });
     }
     Ok(())
+}
+
+pub fn fill(seed: u32, n: usize, list: &mut [u32]) -> u32 {
+    number(generator::fill(seed, n, list))
+}
+
+pub fn make(seed: u32, sizes: [u32; 3], output: &mut [u8], answer: &mut [u32; 1]) -> u32 {
+    match generator::make(seed, sizes, output) {
+        Ok(bytes) => {
+            *answer = [bytes as u32];
+            0
+        }
+        Err(number) => number,
+    }
 }
 
 /// The network of a sound state; declines by 33, 1 to 17, 20, 26, 21 and 22.

@@ -15,6 +15,7 @@ use Rattle.meaning.specs.declared.Sizes.{Sizes}
 use Rattle.meaning.specs.Operations.{lastOperation}
 use Rattle.meaning.specs.Guards.{lastComparison}
 use Rattle.meaning.specs.Description.{directionAt, stepAt, placeAt, loadingAt, lineWords, lineAt, between, inRange}
+use Rattle.meaning.specs.Ranges.{line-parts, range-parts}
 use Rattle.decode.specs.Offsets.{Sized}
 
 -- word j of a line, of magnitude n and bits u
@@ -71,7 +72,9 @@ module _ (z : Sizes) (k u : ℕ) where
       → leb u (z .loops - 1) ≡ between (pos 0) (pos (z .loops - 1)) w → leb u lastComparison ≡ between (pos 0) (pos lastComparison) w
       → rangeTest z k (natAbs w) u ≡ inRange z k w
   unfolding rangeTest lineTest
-  by-parts w e g i j = rw (magnitude-is 63 w, direction-is w, magnitude-is 7 w, magnitude-is 3 w, magnitude-is 0 w, e, g, i, j)
+  by-parts w e g i j =
+      rw (range-parts z k w, line-parts z ((k - lineAt z 0) % lineWords) w, magnitude-is 63 w, direction-is w, magnitude-is 7 w,
+      magnitude-is 3 w, magnitude-is 0 w, e, g, i, j)
 
   -- the test on magnitude and bits is document 01's
   pub range-is : Sized z → rangeTest z k (natAbs (toZ w32 u)) u ≡ inRange z k (toZ w32 u)

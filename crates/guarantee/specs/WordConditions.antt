@@ -18,7 +18,7 @@ use Rattle.meaning.specs.Lists.{every, numbersFrom}
 use Rattle.meaning.specs.Points.{Direction, Direction.onward, Direction.back, Between, Directed}
 use Rattle.meaning.specs.Operations.{lastOperation}
 use Rattle.meaning.specs.Description.{matrixWords, leftAt, rightAt, directionAt, stepAt, placeAt, mapAt, loadingAt, lineWords, lineAt}
-use Rattle.meaning.specs.Description.{wordsOf, lineRange, inRange, nestOf, refused2, refused3, refused4}
+use Rattle.meaning.specs.Description.{wordsOf, within, lineRange, inRange, nestOf, refused2, refused3, refused4}
 use Rattle.meaning.specs.Conditions.{SizesFit, wordTotal, WordsFit}
 use Rattle.lists.specs.Rows.{every-numbers, numbers-every}
 use Rattle.abstract_network.specs.Cases.{Order, less, atLeast, order}
@@ -93,7 +93,7 @@ module _ (z : Sizes) (k : ℕ) (w : ℤ) where
           let b : stepAt z ≤ k = omega arith in
           rw (le-ltb _ _ a, le-ltb _ _ b, le-ltb _ _ c, le-ltb _ _ d, lt-ltb _ _ e) (says-between (negsuc 0) (pos 1) w)
 
-      in-lines : lineAt z 0 ≤ k → inRange z k w ≡ lineRange z ((k - lineAt z 0) % lineWords) w
+      in-lines : lineAt z 0 ≤ k → inRange z k w ≡ within (lineRange z ((k - lineAt z 0) % lineWords)) w
       in-lines e =
           let a : directionAt z ≤ k = omega arith in
           let b : stepAt z ≤ k = omega arith in rw (le-ltb _ _ a, le-ltb _ _ b, le-ltb _ _ c, le-ltb _ _ d, le-ltb _ _ e)
@@ -130,12 +130,13 @@ module _ (s : List ℕ) (z : Sizes) where
   loading-word i j g h = in-loading z (loadingAt z i + j) _ (omega arith) (omega arith) (omega (arith, part g (z .loops - 1)))
 
   -- word j of line i
-  line-word : {A : Type 0} (i j : ℕ) → j < lineWords → Says A (lineRange z j (wordAt s (lineAt z i + j))) → Says A (ok (lineAt z i + j))
+  line-word : {A : Type 0} (i j : ℕ) → j < lineWords → Says A (within (lineRange z j) (wordAt s (lineAt z i + j)))
+      → Says A (ok (lineAt z i + j))
   line-word {A} i j h r =
       let k : ℕ = lineAt z i + j in
       let e : (k - lineAt z 0) % lineWords ≡ j = omega arith in
       subst (Says A)
-      (sym (in-lines z k (wordAt s k) (omega arith) (omega arith) (omega arith) ∙ ap (λ (n : ℕ). lineRange z n (wordAt s k)) e)) r
+      (sym (in-lines z k (wordAt s k) (omega arith) (omega arith) (omega arith) ∙ ap (λ (n : ℕ). within (lineRange z n) (wordAt s k)) e)) r
 
   pub operation-word : (i : ℕ) → Says (Between (pos 0) (pos lastOperation) (wordAt s (lineAt z i))) (ok (lineAt z i))
   operation-word i =

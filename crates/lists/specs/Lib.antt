@@ -5,3 +5,4 @@ pub mod Rows
 pub mod Sums
 pub mod Loops
 pub mod Stores
+pub mod Fills

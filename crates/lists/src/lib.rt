@@ -6,6 +6,7 @@
 //   Sums      sums over lists: of their first members, joined, mapped, and over numbers in a row
 //   Loops     tests of numbers and of members, as a loop makes them that stops at the first answer
 //   Stores    a list of one value, and the values that `scatter` puts
+//   Fills     the first places of a list, stored by a loop
 pub fn one() -> usize {
     1
 }

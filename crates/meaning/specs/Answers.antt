@@ -6,6 +6,7 @@ use Rattle.meaning.specs.declared.Acceptance as Acceptance
 use Rattle.meaning.specs.declared.Answer as Answer
 use Rattle.meaning.specs.declared.Ran as Ran
 use Rattle.meaning.specs.declared.Readiness as Readiness
+use Rattle.meaning.specs.declared.Made as Made
 
 -- Accept: "P, instances, E, pipes, state words and total steps", and the divisors of place and of each stream (request 2.7)
 abbrev pub acceptNumber : Acceptance.Acceptance → ℕ
@@ -18,7 +19,7 @@ acceptValues (Acceptance.the-variants.Accepted f g) =
     ∷ g .place ∷ g .stream0 ∷ g .stream1 ∷ g .stream2 ∷ g .stream3 ∷ g .stream4 ∷ g .stream5 ∷ []
 acceptValues (Acceptance.the-variants.Refused n) = []
 
--- Table, Start, Step, Result, Plain run: no values
+-- Table, Start, Step, Result, Plain run, Fill: no values
 abbrev pub answerNumber : Answer.Answer → ℕ
 answerNumber Answer.the-variants.Done = 0
 answerNumber (Answer.the-variants.Refused n) = n
@@ -40,3 +41,12 @@ readyNumber (Readiness.the-variants.Refused n) = n
 abbrev pub readyValues : Readiness.Readiness → List ℕ
 readyValues (Readiness.the-variants.Ready n k) = n ∷ k ∷ []
 readyValues (Readiness.the-variants.Refused n) = []
+
+-- Make: the number of bytes
+abbrev pub madeNumber : Made.Made → ℕ
+madeNumber (Made.the-variants.Made n) = 0
+madeNumber (Made.the-variants.Refused n) = n
+
+abbrev pub madeValues : Made.Made → List ℕ
+madeValues (Made.the-variants.Made n) = n ∷ []
+madeValues (Made.the-variants.Refused n) = []

@@ -3,21 +3,25 @@
 use mathlib.Core.Path.{_≡_}
 use mathlib.Core.Bool.{cond}
 use mathlib.Core.List.{List, [], _∷_}
-use Prim.Native.Nat.{ℕ}
+use Prim.Native.Nat.{ℕ, _*_}
 use lib.ListN.{length, drop}
 use Rattle.meaning.specs.declared.Limits.{Limits}
+use Rattle.meaning.specs.declared.Sizes.{Sizes}
 use Rattle.meaning.specs.declared.Row.{Row}
 use Rattle.meaning.specs.Lists.{filter, position, numbers}
 use Rattle.meaning.specs.Loops.{instances, divisor}
 use Rattle.meaning.specs.Space.{processes}
-use Rattle.meaning.specs.Description.{descriptionOf, streamsOf}
+use Rattle.meaning.specs.Tests.{refusal}
+use Rattle.meaning.specs.Description.{wordsOf, descriptionOf, streamsOf}
 use Rattle.meaning.specs.Accept.{refusalOf, accept, Accepts, pipeCount, totalSteps, streamDivisor}
 use Rattle.meaning.specs.Array.{arrayOf, processCount}
 use Rattle.meaning.specs.Rules.{Memory, anyReady, runSteps}
 use Rattle.meaning.specs.Answers.{acceptNumber, acceptValues, answerNumber, ranNumber, ranValues, readyNumber, readyValues}
+use Rattle.meaning.specs.Answers.{madeNumber, madeValues}
 use Rattle.meaning.specs.Calls.{lengthOf, stateLength, refusedBy, memoryTests, tableTests, startTests, stepTests, readyTests}
 use Rattle.meaning.specs.Calls.{windowTests, resultTests, plainTests, stepOf, canMove, table, start, step, run, readyCall, window}
 use Rattle.meaning.specs.Calls.{result, plainRun}
+use Rattle.meaning.specs.Generator.{fillTests, fill, makeTests, make}
 
 -- ---- "a declined call answers its number": that of the first test that applies, 0 if none does; "where several apply, the first in the
 -- order listed"
@@ -34,6 +38,8 @@ pub record Numbers (l : Limits) (s : List ℕ) : Type 0 where
       → window l s pipe side waiting received .refusal ≡ refusedBy l s (windowTests l s pipe side waiting received)
   pub result : (output : List ℕ) (M : Memory) → answerNumber (result l s output M .answer) ≡ refusedBy l s (resultTests l s output M)
   pub plain : (values output : List ℕ) → answerNumber (plainRun l s values output .answer) ≡ refusedBy l s (plainTests l s values output)
+  pub fill : (seed n : ℕ) (list : List ℕ) → answerNumber (fill seed n list .answer) ≡ refusal (fillTests seed n list)
+  pub make : (seed : ℕ) (z : Sizes) (out : List ℕ) → madeNumber (make seed z out .answer) ≡ refusal (makeTests seed z out)
 
 -- ---- the values of an answer that is no refusal
 
@@ -54,6 +60,9 @@ pub record Values (l : Limits) (s : List ℕ) : Type 0 where
   pub ready : (words : List ℕ) (M : Memory) → readyNumber (readyCall l s words M .answer) ≡ 0
       → let ps = numbers (processCount (arrayOf (descriptionOf s))) in
       readyValues (readyCall l s words M .answer) ≡ length (filter (canMove l s (M .state)) ps) ∷ position (canMove l s (M .state)) ps ∷ []
+  -- the number of bytes
+  pub make : (seed : ℕ) (z : Sizes) (out : List ℕ) → madeNumber (make seed z out .answer) ≡ 0
+      → madeValues (make seed z out .answer) ≡ 4 * wordsOf z ∷ []
 
 -- ---- "a declined call changes no lent word", and Window's part is empty
 
@@ -72,9 +81,11 @@ pub record NothingChanged (l : Limits) (s : List ℕ) : Type 0 where
   pub result : (output : List ℕ) (M : Memory) → Declined (answerNumber (result l s output M .answer)) → result l s output M .output ≡ output
   pub plain : (values output : List ℕ) → Declined (answerNumber (plainRun l s values output .answer))
       → plainRun l s values output .output ≡ output
+  pub fill : (seed n : ℕ) (list : List ℕ) → Declined (answerNumber (fill seed n list .answer)) → fill seed n list .list ≡ list
+  pub make : (seed : ℕ) (z : Sizes) (out : List ℕ) → Declined (madeNumber (make seed z out .answer)) → make seed z out .output ≡ out
 
--- ---- "words beyond the named length never change": rows past P, words past those that Accept counts, ready words past the 16th. All other
--- lists are lent as long as they are used, or the call is declined
+-- ---- "words beyond the named length never change": rows past P, words past those that Accept counts, ready words past the 16th, places
+-- past the n-th, bytes past a description. All other lists are lent as long as they are used, or the call is declined
 
 pub record BeyondKept (l : Limits) (s : List ℕ) : Type 0 where
   pub table : (rows : List Row)
@@ -87,6 +98,8 @@ pub record BeyondKept (l : Limits) (s : List ℕ) : Type 0 where
   pub run : (n : ℕ) (M : Memory)
       → drop (stateLength (descriptionOf s)) (run l s n M .memory .state) ≡ drop (stateLength (descriptionOf s)) (M .state)
   pub ready : (words : List ℕ) (M : Memory) → drop 16 (readyCall l s words M .words) ≡ drop 16 words
+  pub fill : (seed n : ℕ) (list : List ℕ) → drop n (fill seed n list .list) ≡ drop n list
+  pub make : (seed : ℕ) (z : Sizes) (out : List ℕ) → drop (4 * wordsOf z) (make seed z out .output) ≡ drop (4 * wordsOf z) out
 
 -- DEMAND 1, for every description, refused ones too
 pub record Demand1 (l : Limits) (s : List ℕ) : Type 0 where

@@ -13,6 +13,7 @@ use Rattle.integers.specs.Vectors.{zero2, zero3}
 use Rattle.integers.specs.declared.V3.{V3}
 use Rattle.integers.specs.declared.V2.{V2}
 use Rattle.integers.specs.declared.Matrix.{Matrix}
+use Rattle.meaning.specs.declared.Range.{Range}
 use Rattle.meaning.specs.declared.Sizes.{Sizes}
 use Rattle.meaning.specs.declared.Nest.{Nest}
 use Rattle.meaning.specs.declared.Stream.{Stream}
@@ -67,28 +68,41 @@ wordsOf z = lineAt z (z .lines)
 
 -- ---- ranges
 
+infix 20 _to_
+abbrev pub _to_ : ℤ → ℤ → Range
+lo to hi = record { least = lo; greatest = hi }
+
 abbrev pub between : ℤ → ℤ → ℤ → Bool
 between lo hi w = leZ lo w && leZ w hi
 
+abbrev pub within : Range → ℤ → Bool
+within r w = between (r .least) (r .greatest) w
+
 -- the range of word j of a line: operations 0 to 6 (5 before request 2.1), targets and operands 0 to m+1; of its guard (request 2.5) the
 -- loop number 0 to r−1, the comparison 0 to 3, the bound −64 to 64
-abbrev pub lineRange : Sizes → ℕ → ℤ → Bool
-lineRange z j w =
-    cond (eqb j 0) (between (pos 0) (pos lastOperation) w)
-    (cond (ltb j 4) (between (pos 0) (pos (suc (z .streams))) w)
-    (cond (eqb j 4) (between (pos 0) (pos (z .loops - 1)) w)
-    (cond (eqb j 5) (between (pos 0) (pos lastComparison) w)
-    (between (negsuc 63) (pos 64) w))))
+abbrev pub lineRange : Sizes → ℕ → Range
+lineRange z j =
+    cond (eqb j 0) (pos 0 to pos lastOperation)
+    (cond (ltb j 4) (pos 0 to pos (suc (z .streams)))
+    (cond (eqb j 4) (pos 0 to pos (z .loops - 1))
+    (cond (eqb j 5) (pos 0 to pos lastComparison)
+    (negsuc 63 to pos 64))))
 
--- the range of word k: bounds −64 to 64, directions 1 or −1, steps −8 to 8, matrix words −4 to 4, loading −1 to 1, then lines
+-- the range of word k, if it is no direction: bounds −64 to 64, steps −8 to 8, matrix words −4 to 4, loading −1 to 1, then lines
+abbrev pub rangeAt : Sizes → ℕ → Range
+rangeAt z k =
+    cond (ltb k (directionAt z)) (negsuc 63 to pos 64)
+    (cond (ltb k (placeAt z)) (negsuc 7 to pos 8)
+    (cond (ltb k (loadingAt z 0)) (negsuc 3 to pos 4)
+    (cond (ltb k (lineAt z 0)) (negsuc 0 to pos 1)
+    (lineRange z ((k - lineAt z 0) % lineWords)))))
+
+abbrev pub isDirection : Sizes → ℕ → Bool
+isDirection z k = not (ltb k (directionAt z)) && ltb k (stepAt z)
+
+-- word k is in its range; "directions (1 or −1)"
 abbrev pub inRange : Sizes → ℕ → ℤ → Bool
-inRange z k w =
-    cond (ltb k (directionAt z)) (between (negsuc 63) (pos 64) w)
-    (cond (ltb k (stepAt z)) (eqZ w (pos 1) || eqZ w (negsuc 0))
-    (cond (ltb k (placeAt z)) (between (negsuc 7) (pos 8) w)
-    (cond (ltb k (loadingAt z 0)) (between (negsuc 3) (pos 4) w)
-    (cond (ltb k (lineAt z 0)) (between (negsuc 0) (pos 1) w)
-    (lineRange z ((k - lineAt z 0) % lineWords) w)))))
+inRange z k w = cond (isDirection z k) (eqZ w (pos 1) || eqZ w (negsuc 0)) (within (rangeAt z k) w)
 
 -- ---- decoding: two loops become three
 

@@ -11,6 +11,7 @@ pub mod Pipes
 pub mod Operations
 pub mod Guards
 pub mod Description
+pub mod Ranges
 pub mod Body
 pub mod Lines
 pub mod Accept
@@ -20,6 +21,7 @@ pub mod State
 pub mod Rules
 pub mod Answers
 pub mod Calls
+pub mod Generator
 pub mod Demand1
 pub mod Alike
 pub mod Demand2
@@ -32,6 +34,7 @@ pub mod GuardedLines
 pub mod CommonDivisors
 pub mod Walk
 pub mod BenchBoard
+pub mod GeneratedLoad
 pub mod Designs
 pub mod Comparison
 pub mod Singles

@@ -11,12 +11,13 @@
 //   Guards            whether a body line runs at an instance
 //   Description       bytes to words, lengths, ranges, decoding
 //   Body              lines, one instance on a store, the plain run
-//   Lines             laws of lines that mathematics and code share
+//   Ranges, Lines     laws of ranges and of lines that mathematics and code share
 //   Accept            the refusals 33 and 1 to 17 without 9, named one by one and chained; the figures and the divisors
 //   Points, Sorted    points, lines, boxes and lists in order as propositions
 //   Array, State      what the rules look at; the words of the state and where they stand
 //   Rules             send, take, fire, give, receive: ready and apply; sound; the lowest ready step
 //   Answers, Calls    the numbers and values of answers; the nine calls: the answer and every lent list afterwards
+//   Generator         request 2.3: rounds of the generator, and the calls Fill and Make
 //   Conditions        the conditions of acceptance said a second time, as propositions; demand 2: accepted and refused exactly by them
 //   Demand1           what all calls have in common: numbers and values of answers, nothing changed, nothing written beyond
 //   Alike             one description under two limits, call by call: answered alike, or declined
@@ -31,6 +32,7 @@
 //                     lie
 //   Walk              request 2.4: the walk by process, what a whole walk comes to, and Accept with the check along it
 //   BenchBoard        request 2.9: what a board word changes, and what it leaves
+//   GeneratedLoad     request 2.3: what Fill and Make leave, by places and words, and that states and seeds are told apart
 //   Designs           the documents' designs as bytes
 //   Singles           cases that hold the rules, computed as one table (Comparison): tables, single steps and declined calls; `cases` has
 //                     document 01's cases marked P, and `whole_runs` whole runs
@@ -78,6 +80,12 @@ pub struct Sizes {
     pub loops: u32,
     pub streams: u32,
     pub lines: u32,
+}
+
+// A range of words, from the least to the greatest.
+pub struct Range {
+    pub least: i32,
+    pub greatest: i32,
 }
 
 // The loops with their layout: left and right bounds, directions, step coefficients, place.
@@ -159,7 +167,7 @@ pub enum Acceptance {
     Refused(u32),
 }
 
-// Of Table, Start, Step, Result and Plain run.
+// Of Table, Start, Step, Result, Plain run and Fill.
 pub enum Answer {
     Done,
     Refused(u32),
@@ -174,5 +182,11 @@ pub enum Ran {
 // Of Ready: how many processes can take, fire or give, and the lowest (the number of processes when none).
 pub enum Readiness {
     Ready { count: u32, lowest: u32 },
+    Refused(u32),
+}
+
+// Of Make: the number of bytes.
+pub enum Made {
+    Made { bytes: u32 },
     Refused(u32),
 }

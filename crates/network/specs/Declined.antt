@@ -16,10 +16,11 @@ use Rattle.meaning.specs.Description.{descriptionOf, streamsOf}
 use Rattle.meaning.specs.Accept.{testsFrom, refusalOf, answerOf, accept}
 use Rattle.meaning.specs.Array.{arrayOf, pipeNumber}
 use Rattle.meaning.specs.Rules.{sound, Memory}
-use Rattle.meaning.specs.Answers.{acceptNumber, answerNumber, ranNumber, readyNumber}
+use Rattle.meaning.specs.Answers.{acceptNumber, answerNumber, ranNumber, readyNumber, madeNumber}
 use Rattle.meaning.specs.Calls.{lengthOf, stateLength, orElse, memoryTests, refusedBy, tableTests, table, startTests, start, stepOf}
 use Rattle.meaning.specs.Calls.{isNothing, readyAt, stepTests, step, run, readyTests, readyCall, window, allOut, resultTests, result}
 use Rattle.meaning.specs.Calls.{plainTests, plainRun}
+use Rattle.meaning.specs.Generator.{fillTests, fill, makeTests, make}
 use Rattle.meaning.specs.Demand1.{Numbers}
 use Rattle.meaning.specs.Alike.{DeclinedBy}
 use Rattle.meaning.specs.Demand3.{Call, CallStep, CallRun, CallReady, CallWindow, CallResult, declinedBy, NotByMemory}
@@ -36,7 +37,7 @@ chosen {B} number n {a} {r} za zr = go (eqb n 0) (eqb-true n 0)
     go false h = zr
 
 pub numbers-are : (l : Limits) (s : List ℕ) → Numbers l s
-unfolding accept table start step run readyCall window result plainRun
+unfolding accept table start step run readyCall window result plainRun fill make
 numbers-are l s =
     record {
       accept = chosen acceptNumber (refusalOf l s) refl refl;
@@ -48,6 +49,8 @@ numbers-are l s =
       window = λ pipe side waiting received. refl;
       result = λ output M. chosen answerNumber (refusedBy l s (resultTests l s output M)) refl refl;
       plain = λ values output. chosen answerNumber (refusedBy l s (plainTests l s values output)) refl refl;
+      fill = λ seed n list. chosen answerNumber (refusal (fillTests seed n list)) refl refl;
+      make = λ seed z out. chosen madeNumber (refusal (makeTests seed z out)) refl refl;
     }
 
 -- what is refused is declined by every call

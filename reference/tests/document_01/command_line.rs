@@ -9,6 +9,7 @@ use reference::board::GAUGE;
 use reference::designs::{grid, polynomial_one, polynomial_two};
 use reference::examples::{example_scripts, examples};
 use reference::expected::vectors;
+use reference::generator::{made, values};
 use reference::random_script::scripts;
 use reference::replay::replay;
 use reference::table::table_text;
@@ -87,6 +88,54 @@ fn boards() {
     }
 }
 
+/// Request 2.3: a value to a line, or the refusal.
+#[test]
+fn fill() {
+    let fill = |seed: &str, n: &str| {
+        let output = run(&["fill", seed, n], &[]);
+        assert!(output.status.success() && output.stderr.is_empty());
+        String::from_utf8(output.stdout).expect("plain text")
+    };
+    let five = "270369\n67634689\n2647435461\n307599695\n2398689233\n";
+    assert_eq!(fill("1", "5"), five);
+    assert_eq!(fill("1", "0"), "");
+    let most: Vec<u32> = fill("4294967295", "65536")
+        .lines()
+        .map(|line| line.parse().expect("a number"))
+        .collect();
+    assert_eq!(most, values(u32::MAX, 65_536));
+    assert_eq!(fill("1", "65537"), "refused 31\n");
+    assert_eq!(fill("0", "5"), "refused 29\n");
+    assert_eq!(fill("0", "65537"), "refused 29\n");
+}
+
+/// Request 2.3: the bytes of the description, or the refusal on standard error.
+#[test]
+fn make() {
+    let make = |arguments: [&str; 4]| {
+        let output = run(&[&["make"], arguments.as_slice()].concat(), &[]);
+        assert!(output.status.success());
+        (output.stdout, output.stderr)
+    };
+    for (arguments, seed, sizes) in [
+        (["1", "2", "3", "2"], 1, [2, 3, 2]),
+        (["77", "2", "1", "1"], 77, [2, 1, 1]),
+        (["4294967295", "3", "6", "8"], u32::MAX, [3, 6, 8]),
+    ] {
+        let bytes = made(seed, sizes).expect("sizes in range");
+        assert_eq!(make(arguments), (bytes, Vec::new()));
+    }
+    for (arguments, refusal) in [
+        (["0", "2", "1", "1"], "refused 29\n"),
+        (["0", "4", "1", "1"], "refused 29\n"),
+        (["1", "4", "1", "1"], "refused 30\n"),
+        (["1", "2", "7", "1"], "refused 30\n"),
+        (["1", "2", "1", "4294967295"], "refused 30\n"),
+    ] {
+        assert_eq!(make(arguments), (Vec::new(), refusal.into()));
+    }
+}
+
 #[test]
 fn random_bundle_and_files() {
     let bundle = run(&["random", "9", "55"], &[]).stdout;
@@ -133,9 +182,25 @@ fn expected_files() {
         assert!(!(2..1000).any(|d| left(&d)), "{line}");
     }
     assert!(output.contains("2147483648 -1 0 0\n"));
-    for program in ["print_table", "print_walk", "compare", "replay"] {
+    for program in ["print_table", "print_walk", "compare", "replay", "loads"] {
         let folder = place.join("crates").join(program);
-        assert!(["stdin", "stdout"].iter().all(|name| folder.join(name).is_file()));
+        assert!(["stdin", "stdout"]
+            .iter()
+            .all(|name| folder.join(name).is_file()));
+        assert!(!folder.join("args").exists());
+    }
+    // These two are given arguments and no input.
+    for (program, command, args) in [
+        ("print_fill", "fill", "1\n5\n"),
+        ("print_make", "make", "1\n2\n3\n2\n"),
+    ] {
+        let folder = place.join("crates").join(program);
+        let words = fs::read_to_string(folder.join("args")).expect("the arguments");
+        assert_eq!(words, args);
+        let arguments: Vec<&str> = [command].into_iter().chain(words.lines()).collect();
+        let output = fs::read(folder.join("stdout")).expect("an output file");
+        assert_eq!(output, run(&arguments, &[]).stdout);
+        assert!(!folder.join("stdin").exists());
     }
     for example in examples() {
         let file = place.join("examples").join(format!("{}.bin", example.name));
@@ -151,7 +216,7 @@ fn expected_files() {
 
 #[test]
 fn bad_arguments() {
-    let bad: [&[&str]; 23] = [
+    let bad: [&[&str]; 37] = [
         &[],
         &["tables"],
         &[""],
@@ -165,6 +230,20 @@ fn bad_arguments() {
         &["walk", "--board", "1", "more"],
         &["replay", "--board", "1"],
         &["replay", "more"],
+        &["fill"],
+        &["fill", "1"],
+        &["fill", "1", "2", "3"],
+        &["fill", "one", "2"],
+        &["fill", "-1", "2"],
+        &["fill", "4294967296", "2"],
+        &["fill", "1", "-2"],
+        &["make"],
+        &["make", "1", "2", "3"],
+        &["make", "1", "2", "3", "2", "1"],
+        &["make", "4294967296", "2", "3", "2"],
+        &["make", "1", "two", "3", "2"],
+        &["make", "1", "2", "-3", "2"],
+        &["make", "1", "2", "3", "4294967296"],
         &["random"],
         &["random", "1"],
         &["random", "one", "2"],

@@ -4,6 +4,7 @@ mod bench_board;
 mod divisors;
 mod five_places;
 mod fixed_point;
+mod generated_load;
 mod guards;
 mod longer_strides;
 mod walk;

@@ -1,0 +1,2 @@
+-- What Fill answers and leaves.
+pub mod Call
