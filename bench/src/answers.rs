@@ -3,6 +3,9 @@
 use reference::board::{BENCH, GAUGE};
 use reference::calls::{Accepted, Calls, Row};
 use reference::compare;
+use reference::generator;
+use reference::loads::all_sizes;
+use reference::number_of;
 use reference::random::Random;
 use reference::random_board::{self, OTHERS};
 use reference::random_description;
@@ -47,6 +50,11 @@ pub fn descriptions(seed: u64) -> Vec<Vec<u8>> {
         descriptions.push(random_description::word_changed(&mut random, &description));
         descriptions.push(description.bytes());
         descriptions.push(random_divisor::dependent(&mut random).bytes());
+    }
+    for sizes in all_sizes() {
+        for _ in 0..5 {
+            descriptions.extend(generator::made(random.bits() as u32, sizes));
+        }
     }
     for board in [GAUGE, BENCH] {
         for _ in 0..10 {
@@ -173,11 +181,6 @@ impl Told<'_> {
             assert!(output == left, "{}", side.name);
         }
     }
-}
-
-/// The number by which a call declines, 0 if it does not.
-pub fn number_of<T>(answer: Result<T, Refusal>) -> u32 {
-    answer.map_or_else(|refusal| refusal.0, |_| 0)
 }
 
 fn figures_of(accepted: &Accepted) -> [u32; FIGURES] {

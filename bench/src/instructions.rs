@@ -4,6 +4,8 @@ use std::env;
 use std::process::{Command, Stdio};
 
 use crate::arrays;
+use crate::load::Load;
+use crate::named;
 use crate::sides::SIDES;
 use crate::work::{Call, Work};
 
@@ -30,9 +32,13 @@ pub fn print() {
         println!("instructions: valgrind is missing");
         return;
     }
-    println!("instructions: array, call, library, quick, ratio");
+    println!("instructions: array or load, call, library, quick, ratio");
     for array in ARRAYS {
         print_array(array);
+    }
+    for load in Load::all() {
+        let counts = SIDES.map(|side| count(side.name, load.name, load.call));
+        print_counts(load.name, load.call, counts);
     }
 }
 
@@ -51,19 +57,22 @@ fn print_array(name: &str) {
             }
             _ => {}
         }
-        let [library, quick] = counts;
-        let ratio = library as f64 / quick as f64;
-        println!("{name:24} {call_name:12} {library:>10} {quick:>10} {ratio:8.2}");
+        print_counts(name, call_name, counts);
     }
 }
 
+fn print_counts(name: &str, call: &str, [library, quick]: [u64; 2]) {
+    let ratio = library as f64 / quick as f64;
+    println!("{name:24} {call:12} {library:>10} {quick:>10} {ratio:8.2}");
+}
+
 /// The instructions of one call, as callgrind says on its last lines.
-fn count(side: &str, array: &str, call: &str) -> u64 {
+fn count(side: &str, name: &str, call: &str) -> u64 {
     let program = env::current_exe().expect("the program has a path");
     let mut child = Command::new("valgrind");
     child.args(["--tool=callgrind", "--callgrind-out-file=/dev/null"]);
     child.arg("--toggle-collect=*instructions*counted*");
-    child.arg(program).args([CHILD, side, array, call]);
+    child.arg(program).args([CHILD, side, name, call]);
     let output = child.output().expect("valgrind can be run");
     let text = String::from_utf8_lossy(&output.stderr);
     let collected = text.lines().find_map(|line| line.split_once("Collected :"));
@@ -72,14 +81,11 @@ fn count(side: &str, array: &str, call: &str) -> u64 {
 }
 
 /// Does a call of one program once.
-pub fn child(side: &str, array: &str, call: &str) {
+pub fn child(side: &str, name: &str, call: &str) {
     let side = SIDES.into_iter().find(|other| other.name == side);
     let side = side.expect("the program has a name");
-    let array = arrays::named(array).expect("the array has a name");
-    let call = Call::named(call).expect("the call has a name");
-    let mut work = Work::new(&array);
-    work.prepare(call);
-    assert_eq!(counted(&mut || work.call(side, call)), 0);
+    let mut call = named::call(side, name, call);
+    assert_eq!(counted(&mut call), 0);
 }
 
 /// What is done in here is counted.

@@ -1,13 +1,16 @@
 //! Holds the proved library and a quick plain Rust program against the second implementation, then prints how long each call takes, how
 //! that grows, and how much stack it takes. A word on the command line asks for one of these alone, or is the seed of the random
-//! descriptions and scripts.
+//! descriptions, scripts and loads.
 
 mod answers;
 mod arrays;
 mod growth;
 mod instructions;
 mod library;
+mod load;
+mod loads;
 mod measure;
+mod named;
 mod quick;
 mod scripts;
 mod sides;
@@ -29,8 +32,8 @@ fn main() {
         ["growth"] => growth::print(),
         ["stack"] => stack::print(),
         ["instructions"] => instructions::print(),
-        [stack::CHILD, array, call, bytes] => stack::child(array, call, bytes),
-        [instructions::CHILD, side, array, call] => instructions::child(side, array, call),
+        [stack::CHILD, name, call, bytes] => stack::child(name, call, bytes),
+        [instructions::CHILD, side, name, call] => instructions::child(side, name, call),
         [seed] => all(number(seed)),
         _ => panic!("the words are a section, a seed, or answers and a seed"),
     }
@@ -59,4 +62,5 @@ fn answers(seed: u64) {
     );
     let (scripts, calls) = scripts::check(seed);
     println!("{scripts} scripts, {calls} calls: same answers");
+    println!("{} generated loads: same answers", loads::check(seed));
 }

@@ -3,12 +3,13 @@
 
 use reference::board::{BENCH, GAUGE};
 use reference::calls::{Lent, READY_WORDS};
+use reference::number_of;
 use reference::random::Random;
 use reference::random_board::OTHERS;
 use reference::random_script;
 use reference::replay::{Call, Script};
 
-use crate::answers::{number_of, Told, MARK};
+use crate::answers::{Told, MARK};
 use crate::sides::{Side, SIDES};
 
 /// How many scripts are played.

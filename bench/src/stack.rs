@@ -7,8 +7,10 @@ use std::process::{Command, Stdio};
 use std::thread;
 
 use crate::arrays;
+use crate::load::Load;
+use crate::named;
 use crate::sides::LIBRARY;
-use crate::work::{Call, Work};
+use crate::work::Call;
 
 /// The first word of the command line of a child.
 pub const CHILD: &str = "in-thread";
@@ -26,22 +28,30 @@ const MOST: usize = 4096;
 const PAD: usize = 1 << 16;
 
 pub fn print() {
-    println!("stack: array, call, KiB of the library");
+    println!("stack: array or load, call, KiB of the library");
     for array in [arrays::TWICE, arrays::MOVING] {
-        let nothing = least(array, NOTHING);
-        for (_, call) in Call::ALL {
-            let kib = (least(array, call) - nothing) * STEP / 1024;
-            println!("{array:24} {call:12} {kib:6}");
-        }
+        print_calls(array, &Call::ALL.map(|(_, call)| call));
+    }
+    for load in Load::all() {
+        print_calls(load.name, &[load.call]);
+    }
+}
+
+/// A line for each call on an array or load.
+fn print_calls(name: &str, calls: &[&str]) {
+    let nothing = least(name, NOTHING);
+    for call in calls {
+        let kib = (least(name, call) - nothing) * STEP / 1024;
+        println!("{name:24} {call:12} {kib:6}");
     }
 }
 
 /// The least stack, in steps, with which a child comes to its end.
-fn least(array: &str, call: &str) -> usize {
+fn least(name: &str, call: &str) -> usize {
     let (mut short, mut enough) = (0, MOST);
     while enough - short > 1 {
         let middle = (short + enough) / 2;
-        if ends(array, call, middle * STEP) {
+        if ends(name, call, middle * STEP) {
             enough = middle;
         } else {
             short = middle;
@@ -51,29 +61,23 @@ fn least(array: &str, call: &str) -> usize {
 }
 
 /// Whether a child that does the call in a thread with so much stack comes to its end; without enough it dies by a signal.
-fn ends(array: &str, call: &str, bytes: usize) -> bool {
+fn ends(name: &str, call: &str, bytes: usize) -> bool {
     let program = env::current_exe().expect("the program has a path");
     let mut child = Command::new(program);
-    child.args([CHILD, array, call, &bytes.to_string()]);
+    child.args([CHILD, name, call, &bytes.to_string()]);
     let child = child.stderr(Stdio::null()).status();
     child.expect("the program can be run again").success()
 }
 
 /// Does a call of the library, or nothing, in a thread with so much stack.
-pub fn child(array: &str, call: &str, bytes: &str) {
-    let array = arrays::named(array).expect("the array has a name");
+pub fn child(name: &str, call: &str, bytes: &str) {
     let bytes = bytes.parse().expect("the stack is a number");
-    assert!(call == NOTHING || Call::named(call).is_some());
-    let call = Call::named(call);
-    let mut work = Work::new(&array);
+    let mut call = match call {
+        NOTHING => Box::new(|| 0),
+        _ => named::call(&LIBRARY, name, call),
+    };
     let thread = thread::Builder::new().stack_size(bytes);
-    let done = thread.spawn(move || {
-        padded(&mut || {
-            if let Some(call) = call {
-                assert_eq!(work.call(&LIBRARY, call), 0);
-            }
-        })
-    });
+    let done = thread.spawn(move || padded(&mut || assert_eq!(call(), 0)));
     done.expect("the thread starts")
         .join()
         .expect("the thread ends");

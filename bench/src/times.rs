@@ -1,4 +1,5 @@
-//! The time of each call on the largest arrays: library, quick program, their ratio, and the second implementation.
+//! The time of each call on the largest arrays and of the generated loads: library, quick program, their ratio, and the second
+//! implementation.
 
 use std::hint::black_box;
 use std::time::{Duration, Instant};
@@ -7,14 +8,15 @@ use reference::board::{BENCH, GAUGE};
 use reference::calls::{Calls, Row};
 
 use crate::arrays::{self, Array};
-use crate::measure::{least, shown, time};
+use crate::load::Load;
+use crate::measure::{least, least_of_load, shown, time, time_load};
 use crate::sides::{LIBRARY, SIDES};
 use crate::work::{Call, Work};
 
 /// How long a call of the second implementation is repeated; it is done once at least.
 const LONG: Duration = Duration::from_millis(50);
 
-/// The greatest ratio of a call so far, and its array.
+/// The greatest ratio of a call so far, and its array or load.
 struct Worst {
     call: &'static str,
     ratio: f64,
@@ -30,7 +32,11 @@ pub fn print() {
             print_beside_the_gauge(&array);
         }
     }
-    println!("greatest ratios: call, ratio, array");
+    println!("generated loads: load, call, library, quick, ratio, reference");
+    for load in Load::all() {
+        print_load(load, &mut worst);
+    }
+    println!("greatest ratios: call, ratio, array or load");
     for Worst { call, ratio, array } in worst {
         println!("{call:12} {ratio:8.2}  {array}");
     }
@@ -53,11 +59,29 @@ fn print_array(array: &Array, worst: &mut Vec<Worst>) {
             }
             _ => {}
         }
-        let ratio = times[0] / times[1];
-        let others = format!("{ratio:8.2} {:>10}", shown(slow));
-        print_line(&array.name, name, times, &others);
-        keep_worst(worst, name, ratio, &array.name);
+        print_times(&array.name, name, times, slow, worst);
     }
+}
+
+/// The line of a generated load.
+fn print_load(mut load: Load, worst: &mut Vec<Worst>) {
+    let times = least_of_load(&mut load, SIDES);
+    let slow = repeated(|| time_load(&mut load, Load::reference_call));
+    print_times(load.name, load.call, times, slow, worst);
+}
+
+/// The line of a call, whose ratio may be the greatest so far.
+fn print_times(
+    array: &str,
+    call: &'static str,
+    times: [f64; 2],
+    slow: f64,
+    worst: &mut Vec<Worst>,
+) {
+    let ratio = times[0] / times[1];
+    let others = format!("{ratio:8.2} {:>10}", shown(slow));
+    print_line(array, call, times, &others);
+    keep_worst(worst, call, ratio, array);
 }
 
 fn print_line(array: &str, call: &str, times: [f64; 2], others: &str) {
@@ -89,14 +113,22 @@ fn print_beside_the_gauge(array: &Array) {
     }
 }
 
+/// The least of some times of the second implementation.
+fn repeated(mut time: impl FnMut() -> f64) -> f64 {
+    let start = Instant::now();
+    let mut least = time();
+    while start.elapsed() < LONG {
+        least = least.min(time());
+    }
+    least
+}
+
 /// The least time of the second implementation: of reading the description and of the call.
 fn reference_time(work: &mut Work, call: Call) -> f64 {
-    let start = Instant::now();
-    let mut least = f64::MAX;
-    while least == f64::MAX || start.elapsed() < LONG {
+    let least = repeated(|| {
         work.prepare(call);
-        least = least.min(time(|| reference_call(work, call)));
-    }
+        time(|| reference_call(work, call))
+    });
     if call == Call::RunAll {
         assert!(work.stage == work.ended);
     }

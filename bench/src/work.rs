@@ -3,7 +3,6 @@
 use std::hint::black_box;
 
 use reference::calls::{Lent, READY_WORDS};
-use reference::compare;
 
 use crate::arrays::Array;
 use crate::sides::{Side, FIGURES, QUICK, ROW_WORDS};
@@ -91,7 +90,7 @@ pub struct Work {
 }
 
 impl Work {
-    /// The stages are made by the quick program.
+    /// The values are Fill's for seed 1; they and the stages are made by the quick program.
     pub fn new(array: &Array) -> Work {
         let (board, bytes) = (array.board, array.description.bytes());
         let mut figures = [0; FIGURES];
@@ -105,7 +104,7 @@ impl Work {
             board,
             bytes,
             figures,
-            values: compare::values(1, elements),
+            values: vec![0; elements],
             waiting: vec![0; elements],
             started: empty.clone(),
             halfway: empty.clone(),
@@ -118,6 +117,7 @@ impl Work {
             new_waiting: vec![0; elements],
             stage: empty,
         };
+        assert_eq!((QUICK.fill)(1, elements, &mut work.values), 0);
         assert_eq!(work.call(&QUICK, Call::Start), 0);
         work.waiting.clone_from(&work.new_waiting);
         work.halfway = work.after(steps as u32 / 2);

@@ -34,7 +34,7 @@ pub fn make(seed: u32, sizes: [u32; 3], output: &mut [u8]) -> Result<usize, u32>
     let bytes = 4 * words_of(loops as usize, streams as usize, lines as usize);
     let output = output.get_mut(..bytes).ok_or(31_u32)?;
     let mut places = output.chunks_exact_mut(4);
-    for (place, size) in places.by_ref().zip(sizes) {
+    for (size, place) in sizes.into_iter().zip(places.by_ref()) {
         place.copy_from_slice(&size.to_le_bytes());
     }
     let mut drawer = Drawer {

@@ -6,7 +6,6 @@ use Prim.Native.Nat.{ℕ, zero, suc, _+_, _*_, _-_, _/_, _%_, _^_, _≤_, _<_}
 use native.Mathlib.Nat.{div-add-mod'}
 use native.Mathlib.Omega.{arith}
 use lib.ListN.{length, getD, length-append}
-use lib.Seq.{getD-append-add}
 use lib.Pow.{shr-shr, shr-mod}
 use lib.IntN.{ℤ, pos, negsuc, natAbs, _+ℤ_, _-ℤ_}
 use lib.Signed.{mag, _≤ℤ_}
@@ -19,15 +18,16 @@ use Rattle.meaning.specs.Lists.{each, numbersFrom}
 use Rattle.meaning.specs.Description.{sizesOf, leftAt, wordsOf, isDirection, rangeAt, inRange}
 use Rattle.meaning.specs.Conditions.{SizesFit}
 use Rattle.meaning.specs.Generator.{after, bytesOf, drawn, madeWords, made}
+use Rattle.lists.specs.Members.{each-at}
 use Rattle.lists.specs.Rows.{length-numbers, getD-numbers}
 use Rattle.generated.specs.Drawn.{drawn-near}
 
 -- ---- bytes of words
 
-abbrev bytes : List ℤ → List ℕ
+abbrev pub bytes : List ℤ → List ℕ
 bytes ws = each (λ w. bytesOf (ofZ w32 w)) ws
 
-bytes-length : (ws : List ℤ) → length (bytes ws) ≡ 4 * length ws
+pub bytes-length : (ws : List ℤ) → length (bytes ws) ≡ 4 * length ws
 unfolding each
 bytes-length [] = refl
 bytes-length (w ∷ ws) =
@@ -41,19 +41,17 @@ put-together u h =
     let c : u / 16777216 % 256 ≡ u / 16777216 = shr-mod 8 24 h in
     omega (arith, div-add-mod' u 256, div-add-mod' (u / 256) 256, div-add-mod' (u / 65536) 256)
 
-bytes-bits : (ws : List ℤ) (k : ℕ) → k < length ws → ofZ w32 (getD ws k (pos 0)) < 2 ^ 32 → bitsAt (bytes ws) k ≡ ofZ w32 (getD ws k (pos 0))
-unfolding each bitsAt
-bytes-bits [] k h l = absurd (omega arith)
-bytes-bits (w ∷ ws) zero h l = put-together (ofZ w32 w) l
-bytes-bits (w ∷ ws) (suc k) h l = behind ∙ bytes-bits ws k (omega arith) l
+bytes-bits : (ws : List ℤ) (k : ℕ) → k < length ws → ofZ w32 (getD ws k (pos 0)) < 2 ^ 32
+    → bitsAt (bytes ws) k ≡ ofZ w32 (getD ws k (pos 0))
+unfolding bitsAt
+bytes-bits ws k h l =
+    rw (byte (4 * k) 0 (omega arith) (omega arith), byte (4 * k + 1) 1 (omega arith) (omega arith),
+    byte (4 * k + 2) 2 (omega arith) (omega arith), byte (4 * k + 3) 3 (omega arith) (omega arith))
+    (put-together (ofZ w32 (getD ws k (pos 0))) l)
   where
-    byte : (i j : ℕ) → i ≡ 4 + j → getD (bytes (w ∷ ws)) i 0 ≡ getD (bytes ws) j 0
-    byte i j e = ap (λ (n : ℕ). getD (bytes (w ∷ ws)) n 0) e ∙ getD-append-add (bytesOf (ofZ w32 w)) (bytes ws) j 0
-
-    behind : bitsAt (bytes (w ∷ ws)) (suc k) ≡ bitsAt (bytes ws) k
-    behind =
-        rw (byte (4 * suc k) (4 * k) (omega arith), byte (4 * suc k + 1) (4 * k + 1) (omega arith),
-        byte (4 * suc k + 2) (4 * k + 2) (omega arith), byte (4 * suc k + 3) (4 * k + 3) (omega arith))
+    byte : (i j : ℕ) → i ≡ k * 4 + j → j < 4 → getD (bytes ws) i 0 ≡ getD (bytesOf (ofZ w32 (getD ws k (pos 0)))) j 0
+    byte i j e m =
+        ap (λ (n : ℕ). getD (bytes ws) n 0) e ∙ each-at (λ w. bytesOf (ofZ w32 w)) 4 (λ w. refl) ws k j (pos 0) 0 h m
 
 -- the bits of a word that fits
 bits-fit : (w : ℤ) → mag w < 2 ^ 31 → ofZ w32 w < 2 ^ 32
@@ -67,7 +65,7 @@ bytes-word ws k h l = ap (toZ w32) (bytes-bits ws k h (bits-fit (getD ws k (pos 
 -- ---- a made description
 
 module _ (z : Sizes) (seed : ℕ) where
-  words-length : length (madeWords z seed) ≡ wordsOf z
+  pub words-length : length (madeWords z seed) ≡ wordsOf z
   words-length =
       ap (λ (n : ℕ). suc (suc (suc n))) (length-numbers (λ k. drawn z k (after (k - 2) seed)) 3 (wordsOf z - 3)) ∙ omega arith
 

@@ -2,7 +2,7 @@
 -- description that is not refused.
 use mathlib.Core.Path.{_≡_, refl, sym, _∙_, ap, subst}
 use mathlib.Core.Logic.{_⊎_, inl, inr}
-use mathlib.Core.List.{List, [], _∷_, _++_, append-assoc, map, List·Memᴰ as In, Memᴰ·cast, Memᴰ·map as in-map, map-append, Memᴰ·append-left}
+use mathlib.Core.List.{List, [], _∷_, _++_, map, List·Memᴰ as In, Memᴰ·cast, Memᴰ·map as in-map, map-append, Memᴰ·append-left}
 use mathlib.Core.List.{Memᴰ·append-right, List·Memᴰ·append-cases}
 use Prim.Native.Nat.{ℕ, suc, _+_, _-_, _≤_, _<_}
 use native.Mathlib.Nat.{add-left-cancel}
@@ -23,7 +23,7 @@ use Rattle.meaning.specs.Array.{pipeOf, pipesFrom, arrayOf, pipeOrder, listLeng
 use Rattle.meaning.specs.Body.{elementCount}
 use Rattle.meaning.specs.Points.{Inside}
 use Rattle.meaning.specs.Sorted.{Sorted.none, Distinct}
-use Rattle.lists.specs.Members.{map-in, numbers-in, in-numbers, numbers-length}
+use Rattle.lists.specs.Members.{each-append, map-in, numbers-in, in-numbers, numbers-length}
 use Rattle.geometry.specs.Sorting.{sorted-map, sorted-append, distinct-map, numbers-sorted, fewer}
 use Rattle.geometry.specs.Places.{getD-in}
 use Rattle.geometry.specs.Boxes.{points-inside}
@@ -32,12 +32,6 @@ use Rattle.geometry.specs.Pipes.{Accepted}
 use Rattle.geometry.specs.Elements.{byPipe, elements-in, in-elements, pipes-distinct}
 use Rattle.geometry.specs.Descriptions.{Laid}
 use Rattle.geometry.specs.Arrays.{one-number}
-
-module _ {A B : Type 0} where
-  each-append : (f : A → List B) (l l' : List A) → each f (l ++ l') ≡ each f l ++ each f l'
-  unfolding each
-  each-append f [] l' = refl
-  each-append f (x ∷ l) l' = ap (λ (r : List B). f x ++ r) (each-append f l l') ∙ sym (append-assoc (f x) (each f l) (each f l'))
 
 -- ---- one stream, whose first element has number e
 

@@ -3,7 +3,7 @@ use mathlib.Core.Path.{_≡_, refl, sym, _∙_, ap, subst}
 use mathlib.Core.Logic.{_⊎_, inl, inr}
 use mathlib.Core.Bool.{Bool, true, false, cond}
 use mathlib.Core.List.{List, [], _∷_, _++_, map, reverse, reverseAux, List·Memᴰ as In, List·Memᴰ·head as here, List·Memᴰ·tail as there}
-use mathlib.Core.List.{Memᴰ·append-left, Memᴰ·append-right, List·Memᴰ·append-cases}
+use mathlib.Core.List.{append-assoc, Memᴰ·append-left, Memᴰ·append-right, List·Memᴰ·append-cases}
 use Prim.Native.Nat.{ℕ, zero, suc, _+_, _*_, _≤_, _<_}
 use native.Mathlib.Nat.{eq-or-lt-of-le, zero-add, add-assoc}
 use native.Mathlib.Omega.{arith}
@@ -155,6 +155,11 @@ module _ {A B : Type 0} where
       go : In y (f x) ⊎ In y (each f l) → (In y (each f l) → Reached f y l) → Reached f y (x ∷ l)
       go (inl k) ih = record { from = x; mem = here refl; is = k }
       go (inr k) ih = let r = ih k in record { from = r .from; mem = there (r .mem); is = r .is }
+
+  pub each-append : (f : A → List B) (l l' : List A) → each f (l ++ l') ≡ each f l ++ each f l'
+  unfolding each
+  each-append f [] l' = refl
+  each-append f (x ∷ l) l' = ap (λ (r : List B). f x ++ r) (each-append f l l') ∙ sym (append-assoc (f x) (each f l) (each f l'))
 
   pub each-length : (f : A → List B) (l : List A) → length (each f l) ≡ total (λ x. length (f x)) l
   unfolding each total

@@ -4,19 +4,21 @@
 //
 //   Words     the words of a description written one after another into a list of bytes, as the loop leaves it: all of them are the made
 //             description
+//   Ranges    the ranges that a word can be drawn from
+//   Call      what it answers and leaves, by its refusal
 ghost use mathlib.Core.Path.{_≡_};
 ghost use Prim.Native.Nat.{_+_, _*_, _-_, _≤_, _<_};
 ghost use lib.ListN.{length};
-ghost use lib.Signed.{_≤ℤ_};
+ghost use lib.IntN.{pos};
 ghost use mir.Syntax.{w32};
 ghost use mir.Val.{ofZ};
-ghost use Rattle.integers.specs.Differences.{Abs};
 ghost use Rattle.meaning.specs.Tests.{refusal};
-ghost use Rattle.meaning.specs.Description.{wordsOf, lineRange, rangeAt, isDirection};
-ghost use Rattle.meaning.specs.Generator.{bytesOf, drawnFrom, drawnDirection, drawn, makeTests, make};
+ghost use Rattle.meaning.specs.Description.{wordsOf, _to_, lineRange, rangeAt, isDirection};
+ghost use Rattle.meaning.specs.Generator.{bytesOf, sizeOf, drawnFrom, drawnDirection, drawn, madeWords, makeTests, make};
 ghost use Rattle.words.specs.Stored.{stored};
 ghost use Rattle.decode.specs.Offsets.{Sized};
 ghost use Rattle.make.specs.Words.{wordsTo};
+ghost use Rattle.make.specs.Ranges.{Drawable};
 use meaning::LAST_OPERATION;
 use meaning::LINE_WORDS;
 use meaning::Made;
@@ -25,6 +27,200 @@ use meaning::Sizes;
 
 // ---- ranges
 
-fn range(least: i32, greatest: i32) -> Range
+// Numbers from 0 on.
+fn up_to(last: u32) -> Range
+    requires { ⌜ last ≤ 64 ⌝ }
+    ensures { λ r. ⌜ r ≡ (pos 0 to pos last) ⌝ }
 {
-    Range { least: least, greatest: greatest }
+    Range {
+        least: 0,
+        greatest: last as i32,
+    }
+}
+
+// The range of word j of a line.
+fn line_range(z: Sizes, j: u32) -> Range
+    requires { ⌜ Sized z ⌝ }
+    ensures { λ r. ⌜ r ≡ lineRange z j ⌝ }
+{
+    if j == 0 {
+        return up_to(LAST_OPERATION);
+    }
+    if j < 4 {
+        return up_to(z.streams + 1);
+    }
+    if j == 4 {
+        return up_to(z.loops - 1);
+    }
+    if j == 5 {
+        return up_to(3);
+    }
+    Range {
+        least: -64,
+        greatest: 64,
+    }
+}
+
+// The range of word k, if it is no direction.
+fn range_at(z: Sizes, k: u32) -> Range
+    requires { ⌜ Sized z ⌝ }
+    ensures { λ r. ⌜ r ≡ rangeAt z k ⌝ }
+{
+    let r = z.loops;
+    if k < 3 + r + r {
+        return Range {
+            least: -64,
+            greatest: 64,
+        };
+    }
+    if k < 3 + r + r + r + r {
+        return Range {
+            least: -8,
+            greatest: 8,
+        };
+    }
+    if k < decode::loading_at(z, 0) {
+        return Range {
+            least: -4,
+            greatest: 4,
+        };
+    }
+    let body = decode::line_at(z, 0);
+    if k < body {
+        return Range {
+            least: -1,
+            greatest: 1,
+        };
+    }
+    line_range(z, (k - body) % LINE_WORDS)
+}
+
+fn is_direction(z: Sizes, k: u32) -> bool
+    requires { ⌜ Sized z ⌝ }
+    ensures { λ r. ⌜ r ≡ isDirection z k ⌝ }
+{
+    let direction = 3 + z.loops + z.loops;
+    if k < direction {
+        false
+    } else {
+        k < direction + z.loops
+    }
+}
+
+// ---- words drawn
+
+// How many words a range has.
+fn size_of(r: Range) -> u32
+    requires { ⌜ Drawable r ⌝ }
+    ensures { λ n. ⌜ (n ≡ sizeOf r) × (n ≤ 129) ⌝ }
+{
+    (r.greatest - r.least) as u32 + 1
+}
+
+// The least of a range plus the remainder by its size.
+fn drawn_from(r: Range, x: u32) -> i32
+    requires { ⌜ Drawable r ⌝ }
+    ensures { λ w. ⌜ w ≡ drawnFrom r x ⌝ }
+{
+    let size = size_of(r);
+    r.least + (x % size) as i32
+}
+
+// By the lowest bit, 0 meaning −1.
+fn drawn_direction(x: u32) -> i32
+    ensures { λ w. ⌜ w ≡ drawnDirection x ⌝ }
+{
+    if x % 2 == 0 { -1 } else { 1 }
+}
+
+// Word k, drawn by a state.
+fn drawn(z: Sizes, k: u32, x: u32) -> i32
+    requires { ⌜ Sized z ⌝ }
+    ensures { λ w. ⌜ w ≡ drawn z k x ⌝ }
+{
+    if is_direction(z, k) {
+        drawn_direction(x)
+    } else {
+        drawn_from(range_at(z, k), x)
+    }
+}
+
+// Its bits.
+fn bits_drawn(z: Sizes, k: u32, x: u32) -> u32
+    requires { ⌜ Sized z ⌝ }
+    ensures { λ r. ⌜ r ≡ ofZ w32 (drawn z k x) ⌝ }
+{
+    integers::bits_of(drawn(z, k, x))
+}
+
+// ---- words written
+
+// Word k of a list of bytes, least byte first.
+fn put_word(out: &mut [u8], k: u32, u: u32)
+    requires { ⌜ 4 * k + 4 ≤ length (now out) ⌝ }
+    ensures { λ r. ⌜ now (out .exit) ≡ stored (bytesOf u) (4 * k) 4 (now (out .entry)) ⌝ }
+{
+    let i = 4 * k as usize;
+    out[i] = (u % 256) as u8;
+    out[i + 1] = (u / 256 % 256) as u8;
+    out[i + 2] = (u / 65536 % 256) as u8;
+    out[i + 3] = (u / 16777216 % 256) as u8;
+}
+
+// The three sizes.
+fn put_sizes(z: Sizes, out: &mut [u8])
+    requires { ⌜ 12 ≤ length (now out) ⌝ }
+    ensures { λ r. ⌜ now (out .exit)
+        ≡ stored (bytesOf (z .lines)) 8 4 (stored (bytesOf (z .streams)) 4 4 (stored (bytesOf (z .loops)) 0 4 (now (out .entry)))) ⌝ }
+{
+    put_word(out, 0, z.loops);
+    put_word(out, 1, z.streams);
+    put_word(out, 2, z.lines);
+}
+
+// The sizes, and then a word for each round.
+fn put_words(seed: u32, z: Sizes, out: &mut [u8])
+    requires { ⌜ (Sized z) × (4 * wordsOf z ≤ length (now out)) ⌝ }
+    ensures { λ r. ⌜ now (out .exit) ≡ wordsTo (madeWords z seed) (wordsOf z) (now (out .entry)) ⌝ }
+{
+    put_sizes(z, out);
+    let words = decode::line_at(z, z.lines);
+    let mut state = seed;
+    let mut k: u32 = 3;
+    while k < words {
+        state = generator::next(state);
+        put_word(out, k, bits_drawn(z, k, state));
+        k += 1;
+    }
+}
+
+// ---- the call
+
+// 29 for seed zero, then 30 for the sizes, then 31 for an output that is short; 0 if none applies.
+fn refusal(seed: u32, z: Sizes, out: &[u8]) -> u32
+    ensures { λ r. ⌜ r ≡ refusal (makeTests seed z (now (out .entry))) ⌝ }
+{
+    if seed == 0 {
+        return 29;
+    }
+    if word_ranges::size_refused(z) {
+        return 30;
+    }
+    let words = decode::line_at(z, z.lines);
+    if out.len() < 4 * words as usize { 31 } else { 0 }
+}
+
+// Make: a description of these sizes; what stands behind it stays.
+pub fn make(seed: u32, z: Sizes, out: &mut [u8]) -> Made
+    ensures { λ r. ⌜ (r ≡ make seed z (now (out .entry)) .answer) × (now (out .exit) ≡ make seed z (now (out .entry)) .output) ⌝ }
+{
+    let r = refusal(seed, z, out);
+    if r == 0 {
+        put_words(seed, z, out);
+        Made::Made {
+            bytes: 4 * decode::line_at(z, z.lines),
+        }
+    } else {
+        Made::Refused(r)
+    }
+}
