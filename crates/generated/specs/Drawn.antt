@@ -14,7 +14,7 @@ use Rattle.meaning.specs.declared.Range.{Range}
 use Rattle.meaning.specs.declared.Sizes.{Sizes}
 use Rattle.meaning.specs.Operations.{lastOperation}
 use Rattle.meaning.specs.Guards.{lastComparison}
-use Rattle.meaning.specs.Description.{directionAt, placeAt, loadingAt, lineWords, lineAt, _to_, within, lineRange, rangeAt, isDirection, inRange}
+use Rattle.meaning.specs.Description.{directionAt, placeAt, loadingAt, lineWords, lineAt, _to_, within, rangeAt, isDirection, inRange}
 use Rattle.meaning.specs.Conditions.{SizesFit}
 use Rattle.meaning.specs.Generator.{sizeOf, drawnFrom, drawnDirection, drawn}
 use Rattle.meaning.specs.GeneratedLoad.{Seed}
@@ -104,9 +104,11 @@ module _ (r : Range) where
       let l : r .least ≤ℤ w = record { le = subst T (sym (b .0)) tt } in
       let g : w ≤ℤ r .greatest = record { le = subst T (sym (b .1)) tt } in
       let d : ℕ = natAbs (w -ℤ r .least) in
-      let n = nearer (r .least) (r .greatest) w l g in
-      (sizeOf r + d, record { word = omega arith; not-zero = λ z. omega arith },
-      ap (λ (n : ℕ). r .least +ℤ pos n) (add-mod-left (sizeOf r) d ∙ mod-eq-of-lt n) ∙ there (r .least) w l)
+      let n = nearer (r .least) (r .greatest) w l g in (
+        sizeOf r + d,
+        record { word = omega arith; not-zero = λ z. omega arith },
+        ap (λ (n : ℕ). r .least +ℤ pos n) (add-mod-left (sizeOf r) d ∙ mod-eq-of-lt n) ∙ there (r .least) w l,
+      )
 
 -- ---- directions
 

@@ -45,8 +45,12 @@ bytes-bits : (ws : List ℤ) (k : ℕ) → k < length ws → ofZ w32 (getD ws k 
     → bitsAt (bytes ws) k ≡ ofZ w32 (getD ws k (pos 0))
 unfolding bitsAt
 bytes-bits ws k h l =
-    rw (byte (4 * k) 0 (omega arith) (omega arith), byte (4 * k + 1) 1 (omega arith) (omega arith),
-    byte (4 * k + 2) 2 (omega arith) (omega arith), byte (4 * k + 3) 3 (omega arith) (omega arith))
+    rw (
+      byte (4 * k) 0 (omega arith) (omega arith),
+      byte (4 * k + 1) 1 (omega arith) (omega arith),
+      byte (4 * k + 2) 2 (omega arith) (omega arith),
+      byte (4 * k + 3) 3 (omega arith) (omega arith),
+    )
     (put-together (ofZ w32 (getD ws k (pos 0))) l)
   where
     byte : (i j : ℕ) → i ≡ k * 4 + j → j < 4 → getD (bytes ws) i 0 ≡ getD (bytesOf (ofZ w32 (getD ws k (pos 0)))) j 0

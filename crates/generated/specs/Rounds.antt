@@ -92,7 +92,7 @@ never-meet (suc n) x y h k e =
     never-meet n x y h k (sym (undone (after n x) (after-word n x h)) ∙ ap previous e ∙ undone (after n y) (after-word n y k))
 
 -- 0 stays 0, and so nothing else comes to it
-zero-stays : (n : ℕ) → after n 0 ≡ 0
+pub zero-stays : (n : ℕ) → after n 0 ≡ 0
 unfolding after
 zero-stays zero = refl
 zero-stays (suc n) = ap round (zero-stays n)

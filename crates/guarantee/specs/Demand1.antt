@@ -108,7 +108,7 @@ module _ (l : Limits) (s : List ℕ) where
       go true = refl
       go false = refl
 
-fill-beyond : (seed n : ℕ) (list : List ℕ) → drop n (fill seed n list .list) ≡ drop n list
+pub fill-beyond : (seed n : ℕ) (list : List ℕ) → drop n (fill seed n list .list) ≡ drop n list
 unfolding fill
 fill-beyond seed n list = go (eqb (refusal (fillTests seed n list)) 0)
   where
@@ -119,7 +119,7 @@ fill-beyond seed n list = go (eqb (refusal (fillTests seed n list)) 0)
     go true = past values (drop n list) (length-numbers (λ i. after (suc i) seed) 0 n)
     go false = refl
 
-make-beyond : (seed : ℕ) (z : Sizes) (out : List ℕ) → drop (4 * wordsOf z) (make seed z out .output) ≡ drop (4 * wordsOf z) out
+pub make-beyond : (seed : ℕ) (z : Sizes) (out : List ℕ) → drop (4 * wordsOf z) (make seed z out .output) ≡ drop (4 * wordsOf z) out
 unfolding make
 make-beyond seed z out = go (eqb (refusal (makeTests seed z out)) 0)
   where

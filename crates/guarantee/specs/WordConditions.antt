@@ -161,7 +161,7 @@ module _ (s : List ℕ) (z : Sizes) where
   bound-word i = line-word i 6 (omega arith) (says-between (negsuc 63) (pos 64) _)
 
   -- all words are in range exactly if those of each part are
-  parts-fit : ((k : ℕ) → 3 ≤ k → k < wordsOf z → ok k ≡ true) → WordsFit s z
+  pub parts-fit : ((k : ℕ) → 3 ≤ k → k < wordsOf z → ok k ≡ true) → WordsFit s z
   parts-fit f =
       record {
         left = λ j h. said (left-word j h) (f (leftAt z + j) (omega arith) (omega (arith, parts)));

@@ -55,13 +55,12 @@ module _ (ws : List ℤ) (out : List ℕ) where
       → stored b (4 * n) 4 (bytes (take n ws) ++ drop (4 * n) out) ≡ bytes (take n ws) ++ take 4 b ++ drop (4 * n + 4) out
   behind n b h l e =
       let front = bytes (take n ws) in
+      let back = drop (4 * n) out in
       let m : length front ≡ 4 * n = bytes-length (take n ws) ∙ ap (λ (k : ℕ). 4 * k) (length-take-le n ws h) in
-      let k : length (drop (4 * n) out) ≡ length out - 4 * n = length-drop (4 * n) out in
-      stored-paste b (4 * n) (front ++ drop (4 * n) out) 4 (omega (arith, length-append front (drop (4 * n) out))) (omega arith)
+      stored-paste b (4 * n) (front ++ back) 4 (omega (arith, length-append front back, length-drop (4 * n) out)) (omega arith)
       ∙ ap₂ (λ (x y : List ℕ). x ++ take 4 b ++ y)
-      (subst (λ (j : ℕ). take j (front ++ drop (4 * n) out) ≡ front) m (take-append-seam front (drop (4 * n) out)))
-      (subst (λ (j : ℕ). drop (j + 4) (front ++ drop (4 * n) out) ≡ drop 4 (drop (4 * n) out)) m (drop-append-add front (drop (4 * n) out) 4)
-      ∙ drop-drop 4 (4 * n) out)
+      (subst (λ (j : ℕ). take j (front ++ back) ≡ front) m (take-append-seam front back))
+      (subst (λ (j : ℕ). drop (j + 4) (front ++ back) ≡ drop 4 back) m (drop-append-add front back 4) ∙ drop-drop 4 (4 * n) out)
 
   pub words-are : (n : ℕ) → n ≤ length ws → 4 * n ≤ length out → wordsTo ws n out ≡ bytes (take n ws) ++ drop (4 * n) out
   unfolding wordsTo each

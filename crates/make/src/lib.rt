@@ -207,7 +207,11 @@ fn refusal(seed: u32, z: Sizes, out: &[u8]) -> u32
         return 30;
     }
     let words = decode::line_at(z, z.lines);
-    if out.len() < 4 * words as usize { 31 } else { 0 }
+    if out.len() < 4 * words as usize {
+        31
+    } else {
+        0
+    }
 }
 
 // Make: a description of these sizes; what stands behind it stays.

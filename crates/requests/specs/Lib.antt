@@ -17,3 +17,6 @@ pub mod GuardedLines
 pub mod CommonDivisors
 pub mod WalkByProcess
 pub mod BenchBoard
+pub mod Fills
+pub mod Makes
+pub mod GeneratedLoad

@@ -28,7 +28,8 @@ mul-list : tie.Need-mul-list Inv-loop μ-loop
 mul-list c = search needs
 
 slice-write-list : tie.Need-slice-write-list Inv-loop μ-loop
-slice-write-list c = let v = c .before .before .loop .inv in omega (arith, c .before .loop-test .taken, v .1, c .before .before .before .before .pre)
+slice-write-list c =
+    let l = c .before .before in omega (arith, c .before .loop-test .taken, l .loop .inv .1, l .before .before .pre)
 
 add-i : tie.Need-add-i Inv-loop μ-loop
 add-i c = search needs

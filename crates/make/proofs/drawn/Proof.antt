@@ -24,7 +24,8 @@ drawn-from-requires c κs =
 
 returns : tie.Need-returns
 returns c =
-    rw (sym (c .before .before .is-direction .ensures) ∙ c .before .if1 .taken) (held (c .drawn-direction .ok) (c .drawn-direction .ensures))
+    rw (sym (c .before .before .is-direction .ensures) ∙ c .before .if1 .taken)
+    (held (c .drawn-direction .ok) (c .drawn-direction .ensures))
 
 returns-2 : tie.Need-returns-2
 returns-2 c =

@@ -1,6 +1,6 @@
 -- `make::drawn_from` meets its contract: a remainder by at most 129 added to a number from −64 to 64 fits. Assumes nothing.
 use mathlib.Core.Path.{_≡_, _∙_, ap}
-use Prim.Native.Nat.{ℕ, _%_, _≤_, _<_}
+use Prim.Native.Nat.{ℕ, suc, _%_, _≤_, _<_}
 use native.Mathlib.Nat.{mod-lt}
 use native.Mathlib.Omega.{arith}
 use lib.IntN.{pos, _+ℤ_}
@@ -16,25 +16,25 @@ rem-result : tie.Need-rem-result
 rem-result c = search needs
 
 -- a remainder by a size that is not 0
-small : (x n : ℕ) → 0 < n → n ≤ 129 → x % n ≤ 128
-small x n h k = omega (arith, mod-lt x h)
+small : (x n : ℕ) {m : ℕ} → n ≡ suc m → n ≤ 129 → x % n ≤ 128
+small x n e k = let h : 0 < n = omega arith in omega (arith, mod-lt x h)
 
 cast-result : tie.Need-cast-result
 cast-result c =
-    let h = c .size-of .ensures in
-    record { sfits = omega (arith, small (c .before .args .x) (c .size-of .result) (omega (arith, h .0)) (h .1)) }
+    let h = c .size-of .ensures in record { sfits = omega (arith, small (c .before .args .x) (c .size-of .result) (h .0) (h .1)) }
 
 add-result : tie.Need-add-result
 add-result c =
     let s = c .before .before in
-    fits tt (add (at tt (s .before .pre .least)) (bits {n = 128} tt (small _ _ (omega (arith, s .size-of .ensures .0)) (s .size-of .ensures .1))))
+    let h = s .size-of .ensures in fits tt (add (at tt (s .before .pre .least)) (bits {n = 128} tt (small _ _ (h .0) (h .1))))
 
 returns : tie.Need-returns
 returns c =
     let s = c .before .before in
     let a = s .before .args in
-    box tt (add (at tt (s .before .pre .least)) (bits {n = 128} tt (small _ _ (omega (arith, s .size-of .ensures .0)) (s .size-of .ensures .1)))) .eq
-    ∙ ap (λ (n : ℕ). a .r .least +ℤ pos (a .x % n)) (s .size-of .ensures .0)
+    let h = s .size-of .ensures in
+    box tt (add (at tt (s .before .pre .least)) (bits {n = 128} tt (small _ _ (h .0) (h .1)))) .eq
+    ∙ ap (λ (n : ℕ). a .r .least +ℤ pos (a .x % n)) (h .0)
 
 pub drawn-from-spec : {M : Type 1} → statement M
 drawn-from-spec = tie.close (tie.spec size-of-requires rem-result cast-result add-result returns)

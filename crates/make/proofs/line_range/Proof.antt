@@ -45,13 +45,21 @@ up-to-requires-4 c κs = search needs
 returns-4 : tie.Need-returns-4
 returns-4 c =
     let b = c .before in
-    rw (ne-eqb _ _ (b .before .before .before .if1 .left), le-ltb _ _ (b .before .before .if2 .left), ne-eqb _ _ (b .before .if3 .left),
-    eq-eqb _ _ (b .if4 .taken)) (c .up-to4 .ensures)
+    rw (
+      ne-eqb _ _ (b .before .before .before .if1 .left),
+      le-ltb _ _ (b .before .before .if2 .left),
+      ne-eqb _ _ (b .before .if3 .left),
+      eq-eqb _ _ (b .if4 .taken),
+    ) (c .up-to4 .ensures)
 
 returns-5 : tie.Need-returns-5
 returns-5 c =
-    rw (ne-eqb _ _ (c .before .before .before .if1 .left), le-ltb _ _ (c .before .before .if2 .left), ne-eqb _ _ (c .before .if3 .left),
-    ne-eqb _ _ (c .if4 .left)) refl
+    rw (
+      ne-eqb _ _ (c .before .before .before .if1 .left),
+      le-ltb _ _ (c .before .before .if2 .left),
+      ne-eqb _ _ (c .before .if3 .left),
+      ne-eqb _ _ (c .if4 .left),
+    ) refl
 
 pub line-range-spec : {M : Type 1} → statement M
 line-range-spec =

@@ -42,8 +42,8 @@ put-word-requires : tie.Need-put-word-requires Inv-loop μ-loop
 put-word-requires c κs =
     let l = c .before .before .before .before in
     let s = l .before .before .before .before in
-    omega (arith, l .loop .inv .2 ∙ s .put-sizes .kept .1 .0, s .before .before .before .pre .1, c .before .before .before .loop-test .taken,
-    l .before .line-at .ensures .0)
+    let t = c .before .before .before .loop-test .taken in
+    omega (arith, l .loop .inv .2 ∙ s .put-sizes .kept .1 .0, s .before .before .before .pre .1, t, l .before .line-at .ensures .0)
 
 add-k : tie.Need-add-k Inv-loop μ-loop
 add-k c = search needs
@@ -65,9 +65,13 @@ loop-again c =
     let state = n .next .ensures ∙ ap round (v .3) ∙ sym (after-more _ _) ∙ ap (λ (m : ℕ). after m (a .seed)) e in
     let bits = w .before .bits-drawn .ensures
     ∙ ap (λ (x : ℕ). ofZ w32 (drawn (a .z) k x)) (state ∙ ap (λ (m : ℕ). after m (a .seed)) f) in
-    let inside : suc k ≤ wordsOf (a .z) = omega (arith, t, l .before .line-at .ensures .0) in
-    (omega (arith, v .0), omega (arith, t), w .put-word .kept .0 ∙ v .2, state,
-    λ first g. w .put-word .ensures ∙ drawn-more (a .z) (a .seed) first k (v .0) inside (v .4 first g) bits)
+    let inside : suc k ≤ wordsOf (a .z) = omega (arith, t, l .before .line-at .ensures .0) in (
+      omega (arith, v .0),
+      omega (arith, t),
+      w .put-word .kept .0 ∙ v .2,
+      state,
+      λ first g. w .put-word .ensures ∙ drawn-more (a .z) (a .seed) first k (v .0) inside (v .4 first g) bits,
+    )
 
 same-length : tie.Need-same-length Inv-loop μ-loop
 same-length c = search needs

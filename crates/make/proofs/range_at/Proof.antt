@@ -48,8 +48,12 @@ returns-4 : tie.Need-returns-4
 returns-4 c =
     let b = c .before .before .before .before in
     let a = b .before .before .args in
-    rw (le-ltb _ _ (b .before .if1 .left), le-ltb _ _ (b .if2 .left), le-ltb (a .k) (loadingAt (a .z) 0) (omega arith),
-    lt-ltb (a .k) (lineAt (a .z) 0) (omega arith)) refl
+    rw (
+      le-ltb _ _ (b .before .if1 .left),
+      le-ltb _ _ (b .if2 .left),
+      le-ltb (a .k) (loadingAt (a .z) 0) (omega arith),
+      lt-ltb (a .k) (lineAt (a .z) 0) (omega arith),
+    ) refl
 
 line-range-requires : tie.Need-line-range-requires
 line-range-requires c κs = search needs
@@ -58,8 +62,12 @@ returns-5 : tie.Need-returns-5
 returns-5 c =
     let b = c .before .before .before .before .before in
     let a = b .before .before .args in
-    rw (le-ltb _ _ (b .before .if1 .left), le-ltb _ _ (b .if2 .left), le-ltb (a .k) (loadingAt (a .z) 0) (omega arith),
-    le-ltb (a .k) (lineAt (a .z) 0) (omega arith)) (rw (c .before .before .line-at .ensures .0) at (c .line-range .ensures))
+    rw (
+      le-ltb _ _ (b .before .if1 .left),
+      le-ltb _ _ (b .if2 .left),
+      le-ltb (a .k) (loadingAt (a .z) 0) (omega arith),
+      le-ltb (a .k) (lineAt (a .z) 0) (omega arith),
+    ) (rw (c .before .before .line-at .ensures .0) at (c .line-range .ensures))
 
 pub range-at-spec : {M : Type 1} → statement M
 range-at-spec =
