@@ -1,7 +1,8 @@
-/* Beqlanosh: the calls of document 01 as C functions, from target/staticlib/libbeqlanosh.a (`rt staticlib beqlanosh`, x86-64 Linux).
+/* Beqlanosh: the calls of documents 01 and 02 as C functions, from target/staticlib/libbeqlanosh.a (`rt staticlib beqlanosh`, x86-64
+ * Linux).
  *
- * Every call is told the board that it serves, and is lent a description. It declines by 33 if there is no such board, before all else,
- * then by 1 to 17 if the description is not accepted on it, and then by the numbers that its comment names.
+ * Every call but Fill and Make, at the end, is told the board that it serves, and is lent a description. It declines by 33 if there is no
+ * such board, before all else, then by 1 to 17 if the description is not accepted on it, and then by the numbers that its comment names.
  *
  * Every call answers 0, or the documents' number by which it declines, and then changes no lent word; 9 is never given (request 2.2).
  * Words beyond those that a comment names never change. A call keeps nothing between calls and allocates nothing. It takes up to 447 KB of
@@ -79,6 +80,18 @@ uint32_t beqlanosh_result(uint32_t board, const uint8_t *bytes, size_t length, u
  * as the elements, and by 28 if the places for the output are not. */
 uint32_t beqlanosh_plain_run(uint32_t board, const uint8_t *bytes, size_t length, const uint32_t *values, size_t values_length,
                              uint32_t *output, size_t output_length);
+
+/* Fill (request 2.3): the first n places of the list get the states after rounds 1 to n of Marsaglia's generator from the seed: shift left
+ * 13, right 17, left 5, each shifted word combined by exclusive or with the unshifted one. Declines by 29 for seed 0, before anything else,
+ * and by 31 if the list has fewer than n places. */
+uint32_t beqlanosh_fill(uint32_t seed, size_t n, uint32_t *list, size_t list_length);
+
+/* Make (request 2.3): a whole description of these sizes goes into the output, its words after the sizes drawn in file order, a round each:
+ * the least of the word's range plus the state modulo the range's size; a direction is 1 for an odd state and -1 for an even one. The
+ * number of its bytes, at most 500, goes into the answer. It is never refused by 1 to 4. Declines by 29 for seed 0, before anything else,
+ * by 30 for sizes that Accept would decline by 2, and by 31 if the output is too short for it. */
+uint32_t beqlanosh_make(uint32_t seed, uint32_t loops, uint32_t streams, uint32_t lines, uint8_t *output, size_t output_length,
+                        uint32_t answer[1]);
 
 #ifdef __cplusplus
 }

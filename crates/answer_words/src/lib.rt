@@ -9,12 +9,14 @@ ghost use mathlib.Core.Path.{_≡_};
 ghost use mathlib.Core.List.{[], _∷_};
 ghost use lib.ListN.{set};
 ghost use Rattle.meaning.specs.Answers.{acceptNumber, acceptValues, answerNumber, ranNumber, ranValues, readyNumber, readyValues};
+ghost use Rattle.meaning.specs.Answers.{madeNumber, madeValues};
 ghost use Rattle.answer_words.specs.Words.{ofAnswer, ofRan, ofReadiness, noted};
 ghost use Rattle.answer_words.specs.Kept.{orKept};
 use meaning::Acceptance;
 use meaning::Answer;
 use meaning::Divisors;
 use meaning::Figures;
+use meaning::Made;
 use meaning::Ran;
 use meaning::Readiness;
 
@@ -35,7 +37,7 @@ pub fn number_of(answer: Answer) -> u32
     }
 }
 
-// Of Table, Start, Step, Result and Plain run.
+// Of Table, Start, Step, Result, Plain run and Fill.
 pub fn of_answer(answer: Answer) -> Words
     ensures { λ r. ⌜ r ≡ ofAnswer answer ⌝ }
 {
@@ -161,5 +163,18 @@ pub fn put_readiness(answer: Readiness, words: &mut [u32; 2]) -> u32
             0
         }
         Readiness::Refused(number) => number,
+    }
+}
+
+// Of Make: the number of bytes.
+pub fn put_made(answer: Made, words: &mut [u32; 1]) -> u32
+    ensures { λ r. ⌜ (r ≡ madeNumber answer) × (now (words .exit) ≡ orKept (madeValues answer) (now (words .entry))) ⌝ }
+{
+    match answer {
+        Made::Made { bytes } => {
+            *words = [bytes];
+            0
+        }
+        Made::Refused(number) => number,
     }
 }

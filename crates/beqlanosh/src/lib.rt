@@ -1,6 +1,6 @@
 // The library that programs in C or Rust link (include/beqlanosh.h): the calls over numbers and slices alone, each answering the number by
-// which it declines, or 0. It decides nothing of its own but how values lie in words. The first argument of each call is the board that it
-// serves.
+// which it declines, or 0. It decides nothing of its own but how values lie in words. The first argument of each call on a description is
+// the board that it serves.
 //
 // specs/, by file:
 //
@@ -11,11 +11,14 @@ ghost use Rattle.meaning.specs.Limits.{limitsOf};
 ghost use Rattle.meaning.specs.Accept.{accept};
 ghost use Rattle.meaning.specs.Rules.{memoryOf};
 ghost use Rattle.meaning.specs.Answers.{acceptNumber, acceptValues, answerNumber, ranNumber, ranValues, readyNumber, readyValues};
+ghost use Rattle.meaning.specs.Answers.{madeNumber, madeValues};
 ghost use Rattle.meaning.specs.Calls.{start, step, run, readyCall, window, result, plainRun};
+ghost use Rattle.meaning.specs.Generator.{fill, make};
 ghost use Rattle.table_words.specs.Words.{laid};
 ghost use Rattle.table_words.specs.Lent.{tableNumber, tableWords};
 ghost use Rattle.answer_words.specs.Kept.{orKept};
 ghost use Rattle.beqlanosh.specs.Kept.{windowValues};
+use meaning::Sizes;
 
 // ---- accept
 
@@ -189,4 +192,41 @@ pub extern "C" fn beqlanosh_result(
 {
     let answer = result::result(board, bytes, output, waiting, received, state);
     answer_words::number_of(answer)
+}
+
+// ---- the generated load
+
+// FILL: the first n places get the states after rounds 1 to n from the seed.
+#[no_mangle]
+pub extern "C" fn beqlanosh_fill(seed: u32, n: usize, list: &mut [u32]) -> u32
+    ensures { λ r. ⌜ (r ≡ answerNumber (fill seed n (now (list .entry)) .answer))
+        × (now (list .exit) ≡ fill seed n (now (list .entry)) .list) ⌝ }
+{
+    let answer = fill::fill(seed, n, list);
+    answer_words::number_of(answer)
+}
+
+// MAKE: a whole description of these sizes, its words drawn from the seed; how many bytes it has.
+#[no_mangle]
+pub extern "C" fn beqlanosh_make(
+    seed: u32,
+    loops: u32,
+    streams: u32,
+    lines: u32,
+    output: &mut [u8],
+    answer: &mut [u32; 1],
+) -> u32
+    ensures { λ r. ⌜ (r ≡ madeNumber (make seed (record { loops = loops; streams = streams; lines = lines }) (now (output .entry)) .answer))
+        × (now (output .exit) ≡ make seed (record { loops = loops; streams = streams; lines = lines }) (now (output .entry)) .output)
+        × (now (answer .exit)
+        ≡ orKept (madeValues (make seed (record { loops = loops; streams = streams; lines = lines }) (now (output .entry)) .answer))
+        (now (answer .entry))) ⌝ }
+{
+    let sizes = Sizes {
+        loops: loops,
+        streams: streams,
+        lines: lines,
+    };
+    let made = make::make(seed, sizes, output);
+    answer_words::put_made(made, answer)
 }

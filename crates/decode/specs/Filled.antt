@@ -7,32 +7,24 @@ use Prim.Native.Nat.{ℕ, zero, suc, _+_, _-_, _≤_, _<_}
 use native.Mathlib.Omega.{arith}
 use lib.Dec.{ltb}
 use borrow.Author.Tests.{ltb-true, ltb-false}
-use lib.ListN.{getD, set, replicate, length-replicate, getD-replicate, List·getD-eq-default}
-use lib.Seq.{set-at, append-snoc}
+use lib.ListN.{getD, drop, replicate, length-replicate, getD-replicate, List·getD-eq-default}
 use Rattle.integers.specs.Fill.{fillBy, fill-at, fill-past}
-use Rattle.meaning.specs.Lists.{numbers, numbersFrom}
-use Rattle.lists.specs.Rows.{length-numbers}
+use Rattle.meaning.specs.Lists.{numbers}
+use Rattle.lists.specs.Fills.{fill-front}
 
 module _ {A : Type 0} (f : ℕ → A) where
   abbrev pub filled : ℕ → ℕ → A → List A
   filled n k d = map f (numbers n) ++ replicate (k - n) d
 
-  map-more : (i n : ℕ) {j : ℕ} → i + n ≡ j → map f (numbersFrom i (suc n)) ≡ map f (numbersFrom i n) ++ (f j ∷ [])
-  unfolding numbersFrom
-  map-more i zero {j} e = let g : i ≡ j = omega arith in ap (λ (j : ℕ). f j ∷ []) g
-  map-more i (suc n) e = ap (λ (l : List A). f i ∷ l) (map-more (suc i) n (omega arith))
-
   -- the loop that stores leaves it
   pub fill-is : (n k : ℕ) (d : A) → n ≤ k → fillBy f n (replicate k d) ≡ filled n k d
-  unfolding fillBy numbersFrom
-  fill-is zero k d h = let e : k ≡ k - 0 = omega arith in ap (λ (j : ℕ). replicate j d) e
-  fill-is (suc n) k d h =
-      let e : k - n ≡ suc (k - suc n) = omega arith in
-      let rest = replicate (k - suc n) d in
-      ap (λ (l : List A). set l n (f n)) (fill-is n k d (omega arith) ∙ ap (λ (j : ℕ). map f (numbers n) ++ replicate j d) e)
-      ∙ set-at (map f (numbers n)) d rest (f n) n (length-numbers f 0 n)
-      ∙ sym (append-snoc (map f (numbers n)) (f n) rest)
-      ∙ ap (λ (l : List A). l ++ rest) (sym (map-more 0 n (omega arith)))
+  fill-is n k d h =
+      fill-front f n (replicate k d) (omega (arith, length-replicate k d)) ∙ ap (λ (l : List A). map f (numbers n) ++ l) (rest n k d)
+    where
+      rest : (n k : ℕ) (d : A) → drop n (replicate k d) ≡ replicate (k - n) d
+      rest zero k d = let e : k ≡ k - 0 = omega arith in ap (λ (j : ℕ). replicate j d) e
+      rest (suc n) zero d = let e : 0 ≡ 0 - suc n = omega arith in ap (λ (j : ℕ). replicate j d) e
+      rest (suc n) (suc k) d = let e : k - n ≡ suc k - suc n = omega arith in rest n k d ∙ ap (λ (j : ℕ). replicate j d) e
 
   -- what holds of the one value and of all that are made holds of every member
   pub filled-each : (P : A → Type 0) (n k : ℕ) (d : A) → n ≤ k → P d → ((i : ℕ) → i < n → P (f i)) → (i : ℕ) → P (getD (filled n k d) i d)

@@ -73,8 +73,19 @@ module _ (z : Sizes) (k u : ℕ) where
       → rangeTest z k (natAbs w) u ≡ inRange z k w
   unfolding rangeTest lineTest
   by-parts w e g i j =
-      rw (range-parts z k w, line-parts z ((k - lineAt z 0) % lineWords) w, magnitude-is 63 w, direction-is w, magnitude-is 7 w,
-      magnitude-is 3 w, magnitude-is 0 w, e, g, i, j)
+      rw (
+        range-parts z k w,
+        line-parts z ((k - lineAt z 0) % lineWords) w,
+        magnitude-is 63 w,
+        direction-is w,
+        magnitude-is 7 w,
+        magnitude-is 3 w,
+        magnitude-is 0 w,
+        e,
+        g,
+        i,
+        j,
+      )
 
   -- the test on magnitude and bits is document 01's
   pub range-is : Sized z → rangeTest z k (natAbs (toZ w32 u)) u ≡ inRange z k (toZ w32 u)

@@ -29,8 +29,9 @@ fn fill_places(seed: u32, n: usize, list: &mut [u32])
     let mut state = seed;
     let mut i: usize = 0;
     while i < n {
-        state = generator::next(state);
-        list[i] = state;
+        let next = generator::next(state);
+        list[i] = next;
+        state = next;
         i += 1;
     }
 }

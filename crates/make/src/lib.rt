@@ -188,8 +188,9 @@ fn put_words(seed: u32, z: Sizes, out: &mut [u8])
     let mut state = seed;
     let mut k: u32 = 3;
     while k < words {
-        state = generator::next(state);
-        put_word(out, k, bits_drawn(z, k, state));
+        let next = generator::next(state);
+        put_word(out, k, bits_drawn(z, k, next));
+        state = next;
         k += 1;
     }
 }

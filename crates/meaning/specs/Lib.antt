@@ -38,3 +38,4 @@ pub mod GeneratedLoad
 pub mod Designs
 pub mod Comparison
 pub mod Singles
+pub mod Loads

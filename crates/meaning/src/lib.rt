@@ -36,6 +36,7 @@
 //   Designs           the documents' designs as bytes
 //   Singles           cases that hold the rules, computed as one table (Comparison): tables, single steps and declined calls; `cases` has
 //                     document 01's cases marked P, and `whole_runs` whole runs
+//   Loads             cases of request 2.3, computed as one table
 //
 // Two loops are three, the third running from 0 to 0: its direction is 1, its step coefficient 0; place and every index map get a second
 // row (0, 0, 1), and a loading vector a second component 0. Then one set of definitions serves both.

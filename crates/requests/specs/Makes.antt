@@ -14,6 +14,7 @@ use Rattle.integers.specs.Bytes.{wordAt}
 use Rattle.meaning.specs.declared.Limits.{Limits}
 use Rattle.meaning.specs.declared.Sizes.{Sizes}
 use Rattle.meaning.specs.declared.Acceptance as Acceptance
+use Rattle.meaning.specs.declared.Made.{Made as MadeAnswer}
 use Rattle.meaning.specs.declared.Made.the-variants.{Made, Refused}
 use Rattle.meaning.specs.Tests.{refusal}
 use Rattle.meaning.specs.Answers.{madeNumber}
@@ -78,7 +79,8 @@ two (Loading i) e = absurd (omega arith)
 two (Touched i) e = absurd (omega arith)
 
 -- Accept declines by 2 exactly the sizes that do not fit
-by-sizes : (l : Limits) (s : List ℕ) → Known l → 12 ≤ length s → (accept l s ≡ Acceptance.the-variants.Refused 2) ↔ (SizesFit (sizesOf s) → ⊥)
+by-sizes : (l : Limits) (s : List ℕ) → Known l → 12 ≤ length s
+    → (accept l s ≡ Acceptance.the-variants.Refused 2) ↔ (SizesFit (sizesOf s) → ⊥)
 by-sizes l s known long = (
   λ e. let f = refused-exactly l s 2 .0 e in subst (λ (c : Condition). Asks l s c → ⊥) (two (f .failed) (f .number)) (f .fails),
   λ n. refused-exactly l s 2 .1
@@ -111,13 +113,18 @@ module _ (seed : ℕ) (z : Sizes) (out : List ℕ) where
   unfolding make refusal
   outcome = go (ℕ-discrete seed 0) (refuses2 z) refl (ltb (length out) (4 * wordsOf z)) refl
     where
-      go : Dec (seed ≡ 0) → {b : Bool} → Refuses (SizesFit z) b → refused2 z ≡ b → (c : Bool) → ltb (length out) (4 * wordsOf z) ≡ c → Outcome
+      go : Dec (seed ≡ 0) → {b : Bool} → Refuses (SizesFit z) b → refused2 z ≡ b → (c : Bool) → ltb (length out) (4 * wordsOf z) ≡ c
+          → Outcome
       go (yes e) r f c g = zero-seed e (rw (eq-eqb seed 0 e) refl) (rw (eq-eqb seed 0 e) refl)
       go (no n) (broken m) f c g = unfit n m (rw (ne-eqb seed 0 n, f) refl) (rw (ne-eqb seed 0 n, f) refl)
       go (no n) (met m) f true g = short n m (rw (ne-eqb seed 0 n, f, g) refl) (rw (ne-eqb seed 0 n, f, g) refl)
       go (no n) (met m) f false g =
-          whole n m (omega (arith, ltb-false (length out) (4 * wordsOf z) g, total-is z)) (rw (ne-eqb seed 0 n, f, g) (ap (λ (k : ℕ). Made (4 * k)) (total-is z)))
-          (rw (ne-eqb seed 0 n, f, g) refl)
+          whole n m (omega (arith, ltb-false (length out) (4 * wordsOf z) g, total-is z))
+          (rw (ne-eqb seed 0 n, f, g) (ap (λ (k : ℕ). Made (4 * k)) (total-is z))) (rw (ne-eqb seed 0 n, f, g) refl)
+
+  -- one answer has one number
+  differ : {p q : MadeAnswer} → make seed z out .answer ≡ p → make seed z out .answer ≡ q → (madeNumber p ≡ madeNumber q → ⊥) → ⊥
+  differ e f n = n (ap madeNumber (sym e ∙ f))
 
   -- 30 exactly for sizes that do not fit
   unfit-thirty : (seed ≡ 0 → ⊥) → (SizesFit z → ⊥) → make seed z out .answer ≡ Refused 30
@@ -127,17 +134,11 @@ module _ (seed : ℕ) (z : Sizes) (out : List ℕ) where
   thirty-unfit : make seed z out .answer ≡ Refused 30 → SizesFit z → ⊥
   thirty-unfit e f = go outcome
     where
-      differs : {k : ℕ} → (k ≡ 30 → ⊥) → make seed z out .answer ≡ Refused k → ⊥
-      differs n a = n (ap madeNumber (sym a ∙ e))
-
-      differs' : _≡_ {A = ℕ} 0 30 → ⊥
-      differs' g = omega arith
-
       go : Outcome → ⊥
-      go (zero-seed z a o) = differs (λ g. omega arith) a
+      go (zero-seed z a o) = differ a e (λ g. omega arith)
       go (unfit n m a o) = m f
-      go (short n m a o) = differs (λ g. omega arith) a
-      go (whole n m h a o) = differs' (ap madeNumber (sym a ∙ e))
+      go (short n m a o) = differ a e (λ g. omega arith)
+      go (whole n m h a o) = differ a e (λ g. omega arith)
 
   by-two : (seed ≡ 0 → ⊥) → (l : Limits) (s : List ℕ) → Known l → 12 ≤ length s → sizesOf s ≡ z
       → (accept l s ≡ Acceptance.the-variants.Refused 2) ↔ (make seed z out .answer ≡ Refused 30)
@@ -155,8 +156,8 @@ module _ (seed : ℕ) (z : Sizes) (out : List ℕ) where
       go (unfit n m a o) = ap length o
       go (short n m a o) = ap length o
       go (whole n m h a o) =
-          ap length o
-          ∙ omega (arith, length-append (made z seed) (drop (4 * wordsOf z) out), made-length z seed, length-drop (4 * wordsOf z) out, total-is z)
+          let rest = drop (4 * wordsOf z) out in
+          ap length o ∙ omega (arith, length-append (made z seed) rest, made-length z seed, length-drop (4 * wordsOf z) out, total-is z)
 
   -- ---- what is made
 
@@ -167,13 +168,10 @@ module _ (seed : ℕ) (z : Sizes) (out : List ℕ) where
   is-made : MadeWhole seed z out → IsMade
   is-made d = go outcome
     where
-      differs : {k : ℕ} → (k ≡ 0 → ⊥) → make seed z out .answer ≡ Refused k → ⊥
-      differs n e = n (ap madeNumber (sym e ∙ d))
-
       go : Outcome → IsMade
-      go (zero-seed e a o) = absurd (differs (λ g. omega arith) a)
-      go (unfit n m a o) = absurd (differs (λ g. omega arith) a)
-      go (short n m a o) = absurd (differs (λ g. omega arith) a)
+      go (zero-seed e a o) = absurd (differ a d (λ g. omega arith))
+      go (unfit n m a o) = absurd (differ a d (λ g. omega arith))
+      go (short n m a o) = absurd (differ a d (λ g. omega arith))
       go (whole n m h a o) = record { fits = m; left = o }
 
   description-is : MadeWhole seed z out → descriptionFrom seed z out ≡ made z seed
@@ -225,7 +223,8 @@ answered : (seed : ℕ) (z : Sizes) (out : List ℕ) → MadeWhole seed z out �
     → AnsweredBy l (descriptionFrom seed z out) (conditionsAfter (z .streams))
 answered seed z out d l known =
     subst (λ (s : List ℕ). AnsweredBy l s (conditionsAfter (z .streams))) (sym (description-is seed z out d))
-    (subst (λ (y : Sizes). AnsweredBy l (made z seed) (conditionsAfter (y .streams))) (made-sizes z seed f) (answered-after l (made z seed) held))
+    (subst (λ (y : Sizes). AnsweredBy l (made z seed) (conditionsAfter (y .streams))) (made-sizes z seed f)
+    (answered-after l (made z seed) held))
   where
     f : SizesFit z
     f = is-made seed z out d .fits

@@ -22,7 +22,8 @@ use Rattle.meaning.specs.Calls.{lengthOf, stateLength, answer, start}
 use Rattle.declines.specs.Tests.{startLengths, start-fits}
 use Rattle.figures.specs.Shares.{elements-most}
 use Rattle.element_places.specs.Order.{PlacesOf, Placeable}
-use Rattle.start.specs.Values.{Puttable, put, puttable, gathered, cleared, cleared-all}
+use Rattle.lists.specs.Fills.{fill-one}
+use Rattle.start.specs.Values.{Puttable, put, puttable, gathered, cleared-all}
 
 -- what the call leaves where nothing is refused
 abbrev pub startedBy : Description → List ℕ → Memory → Memory
@@ -73,7 +74,7 @@ module _ {d : Description} {f : Figures} {values : List ℕ} {M : Memory} (h : F
       let b : received ≡ replicate (lengthOf d) 0 =
       r ∙ ap (λ (k : ℕ). fillBy (λ p. 0) k (M .received)) elements-is ∙ cleared-all (lengthOf d) (M .received) (h .received) in
       let c : state ≡ replicate (stateLength d) 0 ++ drop (stateLength d) (M .state) =
-      s ∙ ap (λ (k : ℕ). fillBy (λ p. 0) k (M .state)) words-is ∙ cleared (stateLength d) (M .state) (h .state) in
+      s ∙ ap (λ (k : ℕ). fillBy (λ p. 0) k (M .state)) words-is ∙ fill-one 0 (stateLength d) (M .state) (h .state) in
       λ i. record { waiting = a i; received = b i; state = c i }
 
 module _ (d : Description) {f : Figures} (e : f ≡ figures d) (values : List ℕ) (M : Memory) {n : ℕ}

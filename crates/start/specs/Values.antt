@@ -2,17 +2,16 @@
 use mathlib.Core.Path.{_≡_, refl, sym, _∙_, ap, subst}
 use mathlib.Core.List.{List, _++_, append-nil}
 use Prim.Native.Nat.{ℕ, _+_, _-_, _≤_, _<_}
-use native.Mathlib.Decide.{decLe}
 use native.Mathlib.Omega.{arith}
-use lib.ListN.{length, getD, drop, replicate, length-append, length-map, length-drop, length-replicate, getD-replicate, drop-of-length-le}
-use lib.ListN.{List·getD-append}
-use lib.Seq.{ext-getD, getD-append-add, getD-drop}
-use Rattle.integers.specs.Fill.{fillBy, fill-length, fill-at, fill-past}
+use lib.ListN.{length, getD, replicate, length-map, drop-of-length-le}
+use lib.Seq.{ext-getD}
+use Rattle.integers.specs.Fill.{fillBy}
 use Rattle.meaning.specs.declared.Description.{Description}
 use Rattle.meaning.specs.Body.{gather}
 use Rattle.meaning.specs.Array.{arrayOf, pipeOrder}
 use Rattle.meaning.specs.Calls.{lengthOf}
 use Rattle.lists.specs.Members.{map-at}
+use Rattle.lists.specs.Fills.{fill-one}
 use Rattle.geometry.specs.Places.{getD-in, Found, found}
 use Rattle.geometry.specs.Descriptions.{Laid}
 use Rattle.geometry.specs.PipeOrder.{numbers-lt, numbers-all, list-length}
@@ -90,29 +89,7 @@ module _ {d : Description} (laid : Laid d) {places : List ℕ} (of : PlacesOf d 
 
 -- ---- words cleared
 
-pub cleared : (k : ℕ) (xs : List ℕ) → k ≤ length xs → fillBy (λ p. 0) k xs ≡ replicate k 0 ++ drop k xs
-cleared k xs h =
-    ext-getD 0 _ _
-    (size ∙ sym (length-append (replicate k 0) (drop k xs) ∙ omega (arith, length-replicate {A = ℕ} k 0, length-drop k xs)))
-    λ i l. go i (omega (arith, size)) (decLe k i)
-  where
-    size : length (fillBy (λ p. 0) k xs) ≡ length xs
-    size = fill-length (λ p. 0) k xs
-
-    go : (i : ℕ) → i < length xs → Dec (k ≤ i) → getD (fillBy (λ p. 0) k xs) i 0 ≡ getD (replicate k 0 ++ drop k xs) i 0
-    go i l (no c) =
-        fill-at (λ p. 0) k i xs 0 (omega arith) h
-        ∙ sym (List·getD-append (replicate k 0) (drop k xs) 0 i (omega (arith, length-replicate {A = ℕ} k 0))
-        ∙ getD-replicate k i 0 0 (omega arith))
-    go i l (yes c) =
-        let s : i ≡ length {A = ℕ} (replicate k 0) + (i - k) = omega (arith, length-replicate {A = ℕ} k 0) in
-        let t : k + (i - k) ≡ i = omega arith in
-        fill-past (λ p. 0) k i xs 0 c
-        ∙ sym (ap (λ (j : ℕ). getD (replicate k 0 ++ drop k xs) j 0) s ∙ getD-append-add (replicate k 0) (drop k xs) (i - k) 0
-        ∙ getD-drop k xs (i - k) 0 ∙ ap (λ (j : ℕ). getD xs j 0) t)
-
--- all of them
 pub cleared-all : (k : ℕ) (xs : List ℕ) → length xs ≡ k → fillBy (λ p. 0) k xs ≡ replicate k 0
 cleared-all k xs e =
     let h : length xs ≤ k = omega (arith, e) in
-    cleared k xs (omega (arith, e)) ∙ ap (λ (l : List ℕ). replicate k 0 ++ l) (drop-of-length-le xs h) ∙ append-nil (replicate k 0)
+    fill-one 0 k xs (omega (arith, e)) ∙ ap (λ (l : List ℕ). replicate k 0 ++ l) (drop-of-length-le xs h) ∙ append-nil (replicate k 0)

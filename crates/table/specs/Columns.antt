@@ -25,7 +25,7 @@ use Rattle.meaning.specs.Calls.{refusedBy, answer, rowOf, table}
 use Rattle.lists.specs.Members.{map-at}
 use Rattle.numbering.specs.Ranges.{Bounded}
 use Rattle.numbering.specs.Extents.{Spanning, boxed, box-spanning}
-use Rattle.counting.specs.Numbers.{filled}
+use Rattle.lists.specs.Fills.{fill-list}
 use Rattle.layout.specs.Codes.{coded}
 use Rattle.layout.specs.Spans.{processOf, numbered, Spans}
 use Rattle.pipes.specs.Elements.{rowDrain}
@@ -184,7 +184,7 @@ module _ {l : Limits} {s : List ℕ} (rows : List Row) {h : Shape} {w : List ℕ
           let many = d .shaped .rows in
           fill-same (rowFrom h w) (λ k. rowOf l s (getD ps k zero2)) (h .rows) rows (drawn-row d)
           ∙ ap (λ (k : ℕ). fillBy (λ k. rowOf l s (getD ps k zero2)) k rows) many
-          ∙ filled (rowOf l s) ps zero2 (rowOf l s zero2) rows (omega (arith, many, g .enough))
+          ∙ fill-list (rowOf l s) ps zero2 (rowOf l s zero2) rows (omega (arith, many, g .enough))
       go false e =
           ap (λ (k : ℕ). fillBy (rowFrom h w) k rows) (g .none (λ z. eqb-false (refusedFor l s (length rows)) 0 e (sym (g .refused) ∙ z)))
           ∙ fill-zero (rowFrom h w) rows

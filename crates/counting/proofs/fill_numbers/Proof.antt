@@ -19,7 +19,7 @@ use Rattle.vectors.specs.Within.{wider, directions-small}
 use Rattle.numbering.specs.Turns.{turning, plane-most, all-most}
 use Rattle.numbering.specs.Extents.{Spanning, box-spanning}
 use Rattle.counting.specs.Forms.{Numbers}
-use Rattle.counting.specs.Numbers.{filled}
+use Rattle.lists.specs.Fills.{fill-list}
 use Rattle.counting.specs.Strides.{along, along-zero, along-next, PlaneFits, AgreesAll, numberAt, Counted, counted-by, form-words}
 use Rattle.counting.specs.Strides.{start-ready, start-word}
 use Rattle.counting.proofs.fill_numbers.Statement.{statement}
@@ -199,7 +199,7 @@ returns c =
     l .inv .4 (numberAt (a .n) (a .m)) (k .agrees)
     ∙ ap (λ (k : ℕ). fillBy (numberAt (a .n) (a .m)) k (now (a .out)))
     (l .inv .3 ∙ ap (λ (i : ℕ). i * (t .middle * t .inner)) e ∙ sym (k .whole))
-    ∙ filled (λ x. rowIndex (boxOf (a .n) (a .m)) (image (a .m) x)) (instances (a .n)) zero3 0 _ (s .pre .room)
+    ∙ fill-list (λ x. rowIndex (boxOf (a .n) (a .m)) (image (a .m) x)) (instances (a .n)) zero3 0 _ (s .pre .room)
 
 pub fill-numbers-spec : {M : Type 1} → statement M
 fill-numbers-spec =
