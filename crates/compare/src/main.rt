@@ -22,47 +22,29 @@ use meaning::PROCESSES;
 use meaning::Row;
 use walk::WALK;
 
-// ---- values and sums
-
-// The one rule behind values and sums. It tells lists apart that differ in one place.
-fn mix(sum: u32, word: u32) -> u32 {
-    ((words::wide(sum) * 1664525 + words::wide(word) + 1013904223) % 4294967296) as u32
-}
+// ---- sums
 
 // A whole number modulo 2^32.
 fn mix_signed(sum: u32, z: i32) -> u32 {
     let size = integers::magnitude(z);
     if z < 0 {
-        return mix(sum, std::num::wrapping_sub_u32(0, size));
+        return sums::mix(sum, std::num::wrapping_sub_u32(0, size));
     }
-    mix(sum, size)
+    sums::mix(sum, size)
 }
 
 fn mix_vector(sum: u32, v: V3) -> u32 {
     mix_signed(mix_signed(mix_signed(sum, v.x), v.y), v.z)
 }
 
-// The sum goes on over the first words.
-fn sum_of(sum: u32, words: &[u32], count: usize) -> u32
-    requires { ⌜ count ≤ length (now words) ⌝ }
-{
-    let mut next = sum;
-    let mut i: usize = 0;
-    while i < count {
-        next = mix(next, words[i]);
-        i += 1;
-    }
-    next
-}
-
 fn mix_streams(sum: u32, words: [u32; 6]) -> u32 {
-    sum_of(sum, &words, 6)
+    sums::sum_of(sum, &words, 6)
 }
 
 fn mix_row(sum: u32, r: Row) -> u32 {
     let y = r.point;
     let point = mix_signed(mix_signed(sum, y.a), y.b);
-    let count = mix(point, r.count);
+    let count = sums::mix(point, r.count);
     let first = mix_vector(count, r.first);
     let last = mix_vector(first, r.last);
     let soak = r.soak;
@@ -95,19 +77,6 @@ fn sum_of_walk(walk: &[i8], instances: usize) -> u32
         k += 1;
     }
     sum
-}
-
-// The values for the description of a number.
-fn fill_values(values: &mut [u32], count: usize, number: u32)
-    requires { ⌜ (count ≤ length (now values)) × (count ≤ 24577) ⌝ }
-{
-    let mut value = number;
-    let mut k: usize = 0;
-    while k < count {
-        value = mix(value, k as u32);
-        values[k] = value;
-        k += 1;
-    }
 }
 
 // The words of an output before a call.
@@ -341,7 +310,7 @@ fn plain_call(
 {
     mark(output, seen);
     let answer = plain::plain_run(board, s, &values[..given], &mut output[..lent]);
-    print_call(answer, sum_of(0, output, seen));
+    print_call(answer, sums::sum_of(0, output, seen));
 }
 
 fn plain_calls(board: u32, s: &[u8], values: &[u32], output: &mut [u32], elements: usize)
@@ -355,13 +324,14 @@ fn plain_calls(board: u32, s: &[u8], values: &[u32], output: &mut [u32], element
     plain_call(board, s, values, elements, output, elements, more);
 }
 
+// The values of the description of a number are those of Fill from the next number.
 fn plain_lines(board: u32, s: &[u8], e: Extents, number: u32)
-    requires { ⌜ (1 ≤ e .elements) × (e .elements ≤ elementsMost) ⌝ }
+    requires { ⌜ (1 ≤ e .elements) × (e .elements ≤ elementsMost) × (number < 65536) ⌝ }
 {
     let elements = e.elements;
     let mut values = [0u32; ELEMENTS + 1];
     let mut output = [0u32; ELEMENTS + 1];
-    fill_values(&mut values, elements + 1, number);
+    fill::fill(number + 1, elements + 1, &mut values);
     print(b"plain");
     plain_calls(board, s, &values, &mut output, elements);
     print(b"\n");
@@ -371,7 +341,9 @@ fn plain_lines(board: u32, s: &[u8], e: Extents, number: u32)
     }
 }
 
-fn compare(board: u32, s: &[u8], number: u32) {
+fn compare(board: u32, s: &[u8], number: u32)
+    requires { ⌜ number < 65536 ⌝ }
+{
     let e = accept_line(board, s);
     walk_lines(board, s, e.small);
     table_lines(board, s, e);
@@ -392,7 +364,9 @@ fn read(bytes: &mut [u8], wanted: isize) {
 }
 
 // Whether there was a description.
-fn compare_next(number: u32) -> bool {
+fn compare_next(number: u32) -> bool
+    requires { ⌜ number < 65536 ⌝ }
+{
     let mut words = [0u8; 8];
     let got = io::read_full(STDIN_FILENO, &mut words);
     if got < 8 {

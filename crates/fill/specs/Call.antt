@@ -1,15 +1,13 @@
 -- What Fill answers and leaves, by its refusal. Assumes nothing.
 use mathlib.Core.Path.{_≡_, refl, sym, _∙_}
-use mathlib.Core.Bool.{Bool, cond}
-use mathlib.Core.List.{List, _++_, map}
+use mathlib.Core.List.{List}
 use Prim.Native.Nat.{ℕ, suc, _≤_}
 use native.Mathlib.Omega.{arith}
 use lib.Dec.{eqb, ltb}
-use lib.ListN.{length, drop}
+use lib.ListN.{length}
 use borrow.Author.Tests.{eq-eqb, ne-eqb, ltb-false}
 use Rattle.integers.specs.Fill.{fillBy}
 use Rattle.meaning.specs.declared.Answer.the-variants.{Done, Refused}
-use Rattle.meaning.specs.Lists.{numbers}
 use Rattle.meaning.specs.Tests.{refusal}
 use Rattle.meaning.specs.Generator.{after, fillTests, fill}
 use Rattle.lists.specs.Fills.{fill-front}

@@ -1,10 +1,12 @@
 -- Words drawn: each is in its range, and each word of its range is drawn. Assumes nothing.
 use mathlib.Core.Path.{_≡_, refl, sym, _∙_, ap, subst}
-use mathlib.Core.Bool.{Bool, true, false, cond, _&&_, _||_, true≢false}
-use Prim.Native.Nat.{ℕ, suc, _+_, _-_, _%_, _^_, _≤_, _<_}
-use native.Mathlib.Nat.{mod-lt, zero-lt-suc, mod-eq-of-lt, add-mod-left, add-zero}
+use mathlib.Core.Logic.{_⊎_, inl, inr}
+use mathlib.Core.Bool.{Bool, true, false, cond, _||_, true≢false}
+use Prim.Native.Nat.{ℕ, suc, _+_, _*_, _-_, _%_, _≤_, _<_}
+use native.Mathlib.Nat.{mod-lt, zero-lt-suc, mod-eq-of-lt, add-mod-left, add-zero, mul-add-mod-self-right}
 use native.Mathlib.Omega.{arith}
 use lib.Dec.{T, eqb, ltb}
+use borrow.Author.Tests.{lt-ltb, le-ltb}
 use lib.IntN.{ℤ, pos, negsuc, natAbs, _+ℤ_, _-ℤ_}
 use lib.Signed.{_≤ℤ_, leZ}
 use Rattle.integers.specs.Differences.{gaps, parts, Abs}
@@ -14,7 +16,8 @@ use Rattle.meaning.specs.declared.Range.{Range}
 use Rattle.meaning.specs.declared.Sizes.{Sizes}
 use Rattle.meaning.specs.Operations.{lastOperation}
 use Rattle.meaning.specs.Guards.{lastComparison}
-use Rattle.meaning.specs.Description.{directionAt, placeAt, loadingAt, lineWords, lineAt, _to_, within, rangeAt, isDirection, inRange}
+use Rattle.meaning.specs.Description.{directionAt, stepAt, placeAt, loadingAt, lineWords, lineAt, _to_, within, rangeAt}
+use Rattle.meaning.specs.Description.{isDirection, inRange}
 use Rattle.meaning.specs.Conditions.{SizesFit}
 use Rattle.meaning.specs.Generator.{sizeOf, drawnFrom, drawnDirection, drawn}
 use Rattle.meaning.specs.GeneratedLoad.{Seed}
@@ -130,6 +133,25 @@ direction-all w e = go (eqZ w (pos 1)) (eqZ w (negsuc 0)) (eqZ→eq w (pos 1)) (
 -- ---- word k
 
 module _ (z : Sizes) (k : ℕ) where
+  -- a direction by the lowest bit
+  pub direction-even : directionAt z ≤ k → k < stepAt z → (x : ℕ) → x % 2 ≡ 0 → drawn z k x ≡ negsuc 0
+  direction-even a b x e = rw (le-ltb _ _ a, lt-ltb _ _ b, e) refl
+
+  pub direction-odd : directionAt z ≤ k → k < stepAt z → (x : ℕ) → x % 2 ≡ 1 → drawn z k x ≡ pos 1
+  direction-odd a b x e = rw (le-ltb _ _ a, lt-ltb _ _ b, e) refl
+
+  -- another word by the remainder
+  pub drawn-remainder : (k < directionAt z) ⊎ (stepAt z ≤ k) → (x q m : ℕ) → m < sizeOf (rangeAt z k) → x ≡ q * sizeOf (rangeAt z k) + m
+      → drawn z k x ≡ rangeAt z k .least +ℤ pos m
+  drawn-remainder o x q m h e = rw (other o) (ap (λ (n : ℕ). rangeAt z k .least +ℤ pos n) is)
+    where
+      other : (k < directionAt z) ⊎ (stepAt z ≤ k) → isDirection z k ≡ false
+      other (inl a) = rw (lt-ltb _ _ a) refl
+      other (inr b) = let a : directionAt z ≤ k = omega arith in rw (le-ltb _ _ a, le-ltb _ _ b) refl
+
+      is : x % sizeOf (rangeAt z k) ≡ m
+      is = ap (λ (y : ℕ). y % sizeOf (rangeAt z k)) e ∙ mul-add-mod-self-right q (sizeOf (rangeAt z k)) m ∙ mod-eq-of-lt h
+
   pub drawn-in-range : (x : ℕ) → inRange z k (drawn z k x) ≡ true
   drawn-in-range x = go (isDirection z k)
     where

@@ -1,21 +1,20 @@
 -- The bytes of a made description: how many they are, and that its words are the sizes and those drawn. Assumes nothing.
 use mathlib.Core.Path.{_≡_, refl, sym, _∙_, ap, subst}
-use mathlib.Core.Bool.{Bool, true, false, cond}
-use mathlib.Core.List.{List, [], _∷_, _++_, map}
+use mathlib.Core.List.{List, [], _∷_}
 use Prim.Native.Nat.{ℕ, zero, suc, _+_, _*_, _-_, _/_, _%_, _^_, _≤_, _<_}
 use native.Mathlib.Nat.{div-add-mod'}
 use native.Mathlib.Omega.{arith}
 use lib.ListN.{length, getD, length-append}
 use lib.Pow.{shr-shr, shr-mod}
-use lib.IntN.{ℤ, pos, negsuc, natAbs, _+ℤ_, _-ℤ_}
-use lib.Signed.{mag, _≤ℤ_}
+use lib.IntN.{ℤ, pos, negsuc}
+use lib.Signed.{mag}
 use mir.Syntax.{w32}
 use mir.Val.{toZ, ofZ}
 use Rattle.integers.specs.Bytes.{bitsAt, wordAt}
 use Rattle.integers.specs.Words.{tower, fits, leaf}
 use Rattle.meaning.specs.declared.Sizes.{Sizes}
-use Rattle.meaning.specs.Lists.{each, numbersFrom}
-use Rattle.meaning.specs.Description.{sizesOf, leftAt, wordsOf, isDirection, rangeAt, inRange}
+use Rattle.meaning.specs.Lists.{each}
+use Rattle.meaning.specs.Description.{sizesOf, wordsOf}
 use Rattle.meaning.specs.Conditions.{SizesFit}
 use Rattle.meaning.specs.Generator.{after, bytesOf, drawn, madeWords, made}
 use Rattle.lists.specs.Members.{each-at}

@@ -1,7 +1,7 @@
 -- Rounds of the generator: each state can be worked out from the one after it, so two seeds never meet after equal numbers of rounds, and
 -- no seed comes to 0. Assumes nothing.
-use mathlib.Core.Path.{_≡_, refl, sym, _∙_, ap, subst}
-use Prim.Native.Nat.{ℕ, zero, suc, _+_, _*_, _^_, _<_}
+use mathlib.Core.Path.{_≡_, refl, sym, _∙_, ap}
+use Prim.Native.Nat.{ℕ, zero, suc, _+_, _*_, _^_}
 use native.Mathlib.Nat.{mod-lt, lt-of-le-of-lt, lt-of-lt-of-le, div-le-self}
 use native.Mathlib.Numerals.{add-one}
 use lib.Dec.{lit≤}

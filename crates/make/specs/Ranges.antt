@@ -1,10 +1,10 @@
 -- The ranges that a word can be drawn from in 32 bits: those of all words, of sizes in range. Assumes nothing.
 use mathlib.Core.Path.{_≡_}
-use Prim.Native.Nat.{ℕ, suc, _≤_}
+use Prim.Native.Nat.{ℕ, _≤_}
 use native.Mathlib.Omega.{arith}
-use lib.IntN.{ℤ, pos, natAbs, _-ℤ_}
+use lib.IntN.{ℤ, pos, _-ℤ_}
 use lib.Signed.{_≤ℤ_}
-use Rattle.integers.specs.Differences.{Abs, gaps, parts}
+use Rattle.integers.specs.Differences.{Abs, gaps}
 use Rattle.integers.specs.Variables.{linear}
 use Rattle.meaning.specs.declared.Range.{Range}
 use Rattle.meaning.specs.declared.Sizes.{Sizes}

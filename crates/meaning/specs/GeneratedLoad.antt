@@ -1,24 +1,24 @@
 -- Request 2.3, "a generated load": what Fill and Make answer and leave, place by place and word by word, that states and seeds are told
 -- apart, and that what Make makes passes Accept's refusals 1 to 4 (`generated-load` of requests).
 use mathlib.Core.Path.{_≡_}
-use mathlib.Core.Logic.{_↔_}
+use mathlib.Core.Logic.{_↔_, _⊎_}
 use mathlib.Core.Bool.{true}
 use mathlib.Core.List.{List, [], _∷_, List·Memᴰ as In}
-use Prim.Native.Nat.{ℕ, suc, _+_, _*_, _-_, _^_, _≤_, _<_}
+use Prim.Native.Nat.{ℕ, suc, _+_, _*_, _-_, _%_, _^_, _≤_, _<_}
 use lib.ListN.{length, getD, take}
-use lib.IntN.{ℤ}
+use lib.IntN.{ℤ, pos, negsuc, _+ℤ_}
 use Rattle.integers.specs.Bytes.{wordAt}
 use Rattle.meaning.specs.declared.Limits.{Limits}
 use Rattle.meaning.specs.declared.Sizes.{Sizes}
 use Rattle.meaning.specs.declared.Acceptance as Acceptance
 use Rattle.meaning.specs.declared.Answer.the-variants.{Done, Refused}
 use Rattle.meaning.specs.declared.Made as Made
-use Rattle.meaning.specs.Description.{sizesOf, inRange}
+use Rattle.meaning.specs.Description.{sizesOf, directionAt, stepAt, rangeAt, inRange}
 use Rattle.meaning.specs.Accept.{accept}
 use Rattle.meaning.specs.Conditions.{Known, SizesFit, wordTotal, Condition, Condition.Begins, Condition.Sizes-fit, Condition.Long}
 use Rattle.meaning.specs.Conditions.{Condition.Words-fit, Asks, AnsweredBy}
 use Rattle.meaning.specs.FixedPoint.{conditionsAfter}
-use Rattle.meaning.specs.Generator.{round, after, previous, before, fill, drawn, make}
+use Rattle.meaning.specs.Generator.{round, after, previous, before, fill, sizeOf, drawn, make}
 
 -- a word of 32 bits, and one that is a seed
 abbrev pub Word : ℕ → Type 0
@@ -98,8 +98,15 @@ pub record Makes (seed : ℕ) (z : Sizes) (out : List ℕ) : Type 0 where
   pub answered : MadeWhole seed z out → (l : Limits) → Known l
       → AnsweredBy l (descriptionFrom seed z out) (conditionsAfter (z .streams))
 
--- every word drawn is in its range, and every word of its range is drawn: by a state, and by a seed in each description
+-- word k as it is drawn
 pub record Draws (z : Sizes) (k : ℕ) : Type 0 where
+  -- "directions by the lowest bit, 0 meaning −1"
+  pub even : directionAt z ≤ k → k < stepAt z → (x : ℕ) → x % 2 ≡ 0 → drawn z k x ≡ negsuc 0
+  pub odd : directionAt z ≤ k → k < stepAt z → (x : ℕ) → x % 2 ≡ 1 → drawn z k x ≡ pos 1
+  -- "each the least of its range plus the remainder by its size": any other word, by the quotient q and the remainder m
+  pub remainder : (k < directionAt z) ⊎ (stepAt z ≤ k) → (x q m : ℕ) → m < sizeOf (rangeAt z k) → x ≡ q * sizeOf (rangeAt z k) + m
+      → drawn z k x ≡ rangeAt z k .least +ℤ pos m
+  -- every word drawn is in its range, and every word of its range is drawn: by a state, and by a seed in each description
   pub in-range : (x : ℕ) → inRange z k (drawn z k x) ≡ true
   pub reached : SizesFit z → (w : ℤ) → inRange z k w ≡ true → (x : ℕ) × Seed x × (drawn z k x ≡ w)
   pub made : SizesFit z → (w : ℤ) → inRange z k w ≡ true → 3 ≤ k → k < wordTotal z → (out : List ℕ) → 4 * wordTotal z ≤ length out

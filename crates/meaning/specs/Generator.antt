@@ -1,6 +1,6 @@
 -- Request 2.3, "a generated load": the generator, and its two calls, for any seed, sizes and lists: the answer, and the lent list
 -- afterwards.
-use mathlib.Core.Bool.{Bool, cond}
+use mathlib.Core.Bool.{cond}
 use mathlib.Core.List.{List, [], _∷_, _++_, map}
 use Prim.Native.Nat.{ℕ, zero, suc, _+_, _*_, _-_, _/_, _%_, _^_}
 use lib.Dec.{eqb, ltb}

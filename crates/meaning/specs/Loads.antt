@@ -1,6 +1,6 @@
 -- Cases of request 2.3, computed as one table: rounds from seed 1 and back, what Fill and Make leave, and their refusals in order.
 use mathlib.Core.Path.{_≡_, refl}
-use mathlib.Core.List.{List, [], _∷_, _++_, map}
+use mathlib.Core.List.{List, [], _∷_, map}
 use Prim.Native.Nat.{ℕ}
 use lib.ListN.{replicate}
 use lib.IntN.{ℤ, pos, negsuc}

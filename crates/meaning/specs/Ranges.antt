@@ -10,7 +10,7 @@ use Rattle.meaning.specs.declared.Sizes.{Sizes}
 use Rattle.meaning.specs.Operations.{lastOperation}
 use Rattle.meaning.specs.Guards.{lastComparison}
 use Rattle.meaning.specs.Description.{directionAt, stepAt, placeAt, loadingAt, lineWords, lineAt, _to_, between, within, lineRange}
-use Rattle.meaning.specs.Description.{rangeAt, inRange}
+use Rattle.meaning.specs.Description.{inRange}
 
 -- in the one range or the other
 either : (b : Bool) (r s : Range) (w : ℤ) → within (cond b r s) w ≡ cond b (within r w) (within s w)

@@ -80,7 +80,7 @@ fn print_walk(board: u32, s: &[u8]) {
 }
 
 fn main() {
-    let board = board_word::board_word();
+    let board = argument::board();
     let mut space = io::large_buffer();
     let n = io::read_full(STDIN_FILENO, &mut space);
     print_walk(board, &space[..n]);

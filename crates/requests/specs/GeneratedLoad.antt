@@ -12,7 +12,7 @@ use Rattle.meaning.specs.Conditions.{SizesFit, wordTotal}
 use Rattle.meaning.specs.Generator.{after, before, drawn}
 use Rattle.meaning.specs.GeneratedLoad.{Seed, descriptionFrom, Draws, GeneratedLoad}
 use Rattle.generated.specs.Rounds.{zero-stays, before-word, after-before, rounds}
-use Rattle.generated.specs.Drawn.{drawn-in-range, drawn-by}
+use Rattle.generated.specs.Drawn.{direction-even, direction-odd, drawn-remainder, drawn-in-range, drawn-by}
 use Rattle.requests.specs.Fills.{fills}
 use Rattle.requests.specs.Makes.{word-is, makes}
 
@@ -40,7 +40,15 @@ module _ (z : Sizes) (k : ℕ) where
       )
 
   draws : Draws z k
-  draws = record { in-range = drawn-in-range z k; reached = drawn-by z k; made = stands }
+  draws =
+      record {
+        even = direction-even z k;
+        odd = direction-odd z k;
+        remainder = drawn-remainder z k;
+        in-range = drawn-in-range z k;
+        reached = drawn-by z k;
+        made = stands;
+      }
 
 -- REQUEST 2.3
 pub generated-load : GeneratedLoad

@@ -1,10 +1,10 @@
 -- `make::range_at` meets its contract, part by part. Assumes nothing.
-use mathlib.Core.Path.{refl, ap}
-use Prim.Native.Nat.{ℕ, _-_, _%_}
+use mathlib.Core.Path.{refl}
+use Prim.Native.Nat.{_-_}
 use native.Mathlib.Omega.{arith}
 use borrow.Author.Needs.{needs}
 use borrow.Author.Tests.{lt-ltb, le-ltb}
-use Rattle.meaning.specs.Description.{directionAt, placeAt, loadingAt, lineAt}
+use Rattle.meaning.specs.Description.{loadingAt, lineAt}
 use Rattle.make.proofs.range_at.Statement.{statement}
 use Rattle.make.proofs.range_at.Tie as tie
 

@@ -7,7 +7,6 @@ use denote.Ref.{now}
 use borrow.Author.Needs.{needs}
 use borrow.Author.Tests.{eq-eqb, ne-eqb, lt-ltb, le-ltb}
 use Rattle.meaning.specs.Description.{wordsOf}
-use Rattle.decode.specs.Offsets.{Sized}
 use Rattle.decode.specs.Refusals.{refuses, passes, accepts, sizes-in-range}
 use Rattle.make.proofs.refusal.Statement.{statement}
 use Rattle.make.proofs.refusal.Tie as tie

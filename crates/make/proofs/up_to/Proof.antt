@@ -5,7 +5,6 @@ use lib.IntN.{ℤ, pos}
 use mir.Syntax.{w32}
 use mir.ValLaws.{toZ-pos}
 use borrow.Author.Needs.{needs}
-use Rattle.meaning.specs.declared.Range.{Range}
 use Rattle.meaning.specs.Description.{_to_}
 use Rattle.make.proofs.up_to.Statement.{statement}
 use Rattle.make.proofs.up_to.Tie as tie

@@ -1,9 +1,9 @@
--- `compare::sum_of` is safe and ends. Assumes nothing.
+-- `sums::sum_of` is safe and ends. Assumes nothing.
 use Prim.Native.Nat.{_≤_, _-_}
 use lib.ListN.{length}
 use borrow.Author.Needs.{needs}
-use Rattle.compare.proofs.sum_of.Statement.{statement}
-use Rattle.compare.proofs.sum_of.Tie as tie
+use Rattle.sums.proofs.sum_of.Statement.{statement}
+use Rattle.sums.proofs.sum_of.Tie as tie
 
 abbrev Inv-loop : tie.InvT-loop
 Inv-loop sum words count next₀ i₀ next i = (i ≤ count) × (count ≤ length words)

@@ -1,13 +1,13 @@
--- `board_word::value_of` meets its contract: the value so far, with the characters that are left, has the value of all. Assumes nothing.
+-- `argument::value_of` meets its contract: the value so far, with the characters that are left, has the value of all. Assumes nothing.
 use mathlib.Core.Path.{_≡_, _∙_, ap}
 use Prim.Native.Nat.{ℕ, _+_, _-_, _≤_}
 use native.Mathlib.Omega.{arith}
 use lib.ListN.{length, drop}
 use denote.Ref.{now}
 use borrow.Author.Needs.{needs}
-use Rattle.board_word.specs.Numeral.{valueOf, value-next, value-end}
-use Rattle.board_word.proofs.value_of.Statement.{statement}
-use Rattle.board_word.proofs.value_of.Tie as tie
+use Rattle.argument.specs.Numeral.{valueOf, value-next, value-end}
+use Rattle.argument.proofs.value_of.Statement.{statement}
+use Rattle.argument.proofs.value_of.Tie as tie
 
 abbrev Inv-loop : tie.InvT-loop
 Inv-loop digits value₀ i₀ value i = (i ≤ length digits) × (valueOf value (drop i digits) ≡ valueOf 0 digits)

@@ -1,8 +1,8 @@
-// The board that a program is told by its first argument, request 2.9: a decimal numeral. An argument that is no numeral of a word is
-// 4,294,967,295, which is no board.
+// The words that a program is told by its arguments, as decimal numerals. An argument that is no numeral of a word is 4,294,967,295, as is
+// one that is missing.
 ghost use mathlib.Core.Path.{_≡_};
 ghost use Prim.Native.Nat.{min};
-ghost use Rattle.board_word.specs.Numeral.{withDigit, valueOf, numeralOf};
+ghost use Rattle.argument.specs.Numeral.{withDigit, valueOf, numeralOf};
 
 fn capped(x: u64) -> u32
     ensures { λ r. ⌜ r ≡ min x 4294967295 ⌝ }
@@ -46,12 +46,17 @@ pub fn numeral_of(digits: &[u8]) -> u32
     value_of(digits)
 }
 
-// The board of the first argument; the gauge, 0, where there is none.
-pub fn board_word() -> u32 {
+// The word of argument i.
+pub fn word_argument(i: usize) -> u32 {
+    let mut digits = [0u8; 10];
+    let n = os::arg(i, &mut digits);
+    numeral_of(&digits[..n])
+}
+
+// The board of the first argument, request 2.9; the gauge, 0, where there is none.
+pub fn board() -> u32 {
     if os::arg_count() < 2 {
         return 0;
     }
-    let mut digits = [0u8; 10];
-    let n = os::arg(1, &mut digits);
-    numeral_of(&digits[..n])
+    word_argument(1)
 }

@@ -1,11 +1,11 @@
--- `board_word::with_digit` meets its contract: ten times the value plus a digit fits 64 bits, so that nothing is lost before the cap.
+-- `argument::with_digit` meets its contract: ten times the value plus a digit fits 64 bits, so that nothing is lost before the cap.
 -- Assumes nothing.
 use mathlib.Core.Path.{refl, _∙_, ap}
 use Prim.Native.Nat.{ℕ, _+_, _*_, _-_, min}
 use borrow.Author.Needs.{needs}
 use borrow.Author.Tests.{lt-ltb, le-ltb}
-use Rattle.board_word.proofs.with_digit.Statement.{statement}
-use Rattle.board_word.proofs.with_digit.Tie as tie
+use Rattle.argument.proofs.with_digit.Statement.{statement}
+use Rattle.argument.proofs.with_digit.Tie as tie
 
 returns : tie.Need-returns
 returns c = rw (lt-ltb _ 48 (c .if1 .taken)) refl

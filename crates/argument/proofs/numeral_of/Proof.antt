@@ -1,9 +1,9 @@
--- `board_word::numeral_of` meets its contract. Assumes nothing.
+-- `argument::numeral_of` meets its contract. Assumes nothing.
 use mathlib.Core.Path.{refl}
 use borrow.Author.Needs.{needs}
 use borrow.Author.Tests.{eq-eqb, ne-eqb}
-use Rattle.board_word.proofs.numeral_of.Statement.{statement}
-use Rattle.board_word.proofs.numeral_of.Tie as tie
+use Rattle.argument.proofs.numeral_of.Statement.{statement}
+use Rattle.argument.proofs.numeral_of.Tie as tie
 
 returns : tie.Need-returns
 returns c = rw (eq-eqb _ 0 (c .if1 .taken)) refl
