@@ -8,6 +8,7 @@
 ghost use mathlib.Core.Path.{_≡_};
 ghost use lib.ListN.{length};
 ghost use Rattle.meaning.specs.Limits.{limitsOf};
+ghost use Rattle.meaning.specs.Description.{sizes};
 ghost use Rattle.meaning.specs.Accept.{accept};
 ghost use Rattle.meaning.specs.Rules.{memoryOf};
 ghost use Rattle.meaning.specs.Answers.{acceptNumber, acceptValues, answerNumber, ranNumber, ranValues, readyNumber, readyValues};
@@ -216,17 +217,16 @@ pub extern "C" fn beqlanosh_make(
     output: &mut [u8],
     answer: &mut [u32; 1],
 ) -> u32
-    ensures { λ r. ⌜ (r ≡ madeNumber (make seed (record { loops = loops; streams = streams; lines = lines }) (now (output .entry)) .answer))
-        × (now (output .exit) ≡ make seed (record { loops = loops; streams = streams; lines = lines }) (now (output .entry)) .output)
+    ensures { λ r. ⌜ (r ≡ madeNumber (make seed (sizes loops streams lines) (now (output .entry)) .answer))
+        × (now (output .exit) ≡ make seed (sizes loops streams lines) (now (output .entry)) .output)
         × (now (answer .exit)
-        ≡ orKept (madeValues (make seed (record { loops = loops; streams = streams; lines = lines }) (now (output .entry)) .answer))
-        (now (answer .entry))) ⌝ }
+        ≡ orKept (madeValues (make seed (sizes loops streams lines) (now (output .entry)) .answer)) (now (answer .entry))) ⌝ }
 {
-    let sizes = Sizes {
+    let z = Sizes {
         loops: loops,
         streams: streams,
         lines: lines,
     };
-    let made = make::make(seed, sizes, output);
+    let made = make::make(seed, z, output);
     answer_words::put_made(made, answer)
 }

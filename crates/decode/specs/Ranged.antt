@@ -3,10 +3,10 @@ use mathlib.Core.Path.{_≡_, refl, sym, _∙_, ap, subst}
 use mathlib.Core.Bool.{Bool, true, false, cond, _||_}
 use mathlib.Core.Logic.{_⊎_, inl, inr}
 use mathlib.Core.List.{List}
-use Prim.Native.Nat.{ℕ, suc, _+_, _*_, _-_, _%_, _≤_, _<_}
+use Prim.Native.Nat.{ℕ, suc, _+_, _*_, _-_, _%_, _^_, _≤_, _<_}
 use native.Mathlib.Omega.{arith}
-use lib.Dec.{leb, eqb}
-use borrow.Author.Tests.{leb-true, eqb-true, eq-eqb, ne-eqb, not-false}
+use lib.Dec.{eqb}
+use borrow.Author.Tests.{eqb-true, eq-eqb, ne-eqb, not-false}
 use lib.ListN.{length, getD}
 use lib.IntN.{ℤ, pos, negsuc, natAbs}
 use lib.Signed.{_≤ℤ_, ltZ}
@@ -18,6 +18,7 @@ use Rattle.integers.specs.Order.{part}
 use Rattle.integers.specs.Vectors.{zero3}
 use Rattle.integers.specs.Bytes.{bitsAt, wordAt}
 use Rattle.integers.specs.Words.{not-less}
+use Rattle.meaning.specs.declared.Range.{Range}
 use Rattle.meaning.specs.declared.Sizes.{Sizes}
 use Rattle.meaning.specs.declared.Nest.{Nest}
 use Rattle.meaning.specs.declared.Stream.{Stream}
@@ -28,13 +29,13 @@ use Rattle.meaning.specs.Tests.{refusal}
 use Rattle.meaning.specs.Operations.{lastOperation}
 use Rattle.meaning.specs.Guards.{lastComparison}
 use Rattle.meaning.specs.Description.{sizesOf, matrixWords, leftAt, rightAt, directionAt, stepAt, placeAt, mapAt, loadingAt, lineWords}
-use Rattle.meaning.specs.Description.{lineAt, wordsOf, inRange, vectorAt, unit3, matrixAt, nestOf, loadingOf, streamOf, bodyLine, noStream}
+use Rattle.meaning.specs.Description.{lineAt, wordsOf, _to_, within, lineRange, rangeAt, inRange, vectorAt, unit3, matrixAt, nestOf, loadingOf, streamOf, bodyLine, noStream}
 use Rattle.meaning.specs.Description.{noLine, descriptionOf, refused1, refused2, refused3, refused4, refused5}
+use Rattle.meaning.specs.Ranges.{at-bounds, at-steps, at-matrices, at-loading, at-lines, in-directions, in-others}
 use Rattle.decode.specs.Offsets.{Sized, two-or-three}
 use Rattle.decode.specs.Filled.{filled-each}
 use Rattle.lists.specs.Rows.{every-numbers}
-use Rattle.decode.specs.Ranges.{rangeTest, range-is, in-bounds, in-directions, in-steps, in-matrices, in-loading, lineTest, in-lines}
-use Rattle.decode.specs.Ranges.{in-operations, in-operands, in-loops, in-comparisons, in-guard-bounds}
+use Rattle.decode.specs.Ranges.{magnitude-in, direction-is, bits-in}
 use Rattle.decode.specs.Refusals.{firstTests, neither, passed, sizes-in-range}
 
 -- ---- the record
@@ -101,9 +102,6 @@ pub record Ranged (d : Description) : Type 0 where
 zero-abs : (n : ℕ) → Abs (pos 0) n
 zero-abs n = record { abs = omega arith }
 
-abs-of : {w : ℤ} {n : ℕ} → leb (natAbs w) n ≡ true → Abs w n
-abs-of {w} {n} e = record { abs = leb-true (natAbs w) n e }
-
 direction-of : (w : ℤ) → eqb (natAbs w) 1 ≡ true → Direction w
 direction-of (pos a) e = inl (ap pos (eqb-true a 1 e))
 direction-of (negsuc a) e = let g : a ≡ 0 = omega (arith, eqb-true (suc a) 1 e) in inr (ap negsuc g)
@@ -113,30 +111,37 @@ module _ (s : List ℕ) (z : Sizes) (h : Sized z) (good : refused4 s z ≡ false
   order : (placeAt z ≤ loadingAt z 0) × (loadingAt z 0 ≤ lineAt z 0) × (lineAt z 0 ≤ wordsOf z)
   order = (omega arith, omega arith, omega arith)
 
-  tested : (k : ℕ) → 3 ≤ k → k < wordsOf z → rangeTest z k (natAbs (wordAt s k)) (bitsAt s k) ≡ true
-  unfolding wordAt
+  tested : (k : ℕ) → 3 ≤ k → k < wordsOf z → inRange z k (wordAt s k) ≡ true
   tested k l m =
       let all : every (λ k. inRange z k (wordAt s k)) (numbersFrom 3 (wordsOf z - 3)) ≡ true = not-false _ good in
-      range-is z k (bitsAt s k) h ∙ every-numbers (λ k. inRange z k (wordAt s k)) 3 (wordsOf z - 3) all k l (omega arith)
+      every-numbers (λ k. inRange z k (wordAt s k)) 3 (wordsOf z - 3) all k l (omega arith)
+
+  -- a word that is no direction, by its range
+  ranged-word : (k : ℕ) → 3 ≤ k → k < wordsOf z → (k < directionAt z) ⊎ (stepAt z ≤ k) → {r : Range} → rangeAt z k ≡ r
+      → within r (wordAt s k) ≡ true
+  ranged-word k l m o e = sym (in-others z k o e (wordAt s k)) ∙ tested k l m
 
   -- a word of each part
   bound-word : (k : ℕ) → 3 ≤ k → k < directionAt z → Abs (wordAt s k) 64
-  bound-word k l m = abs-of (sym (in-bounds z k _ (bitsAt s k) m) ∙ tested k l (omega (arith, order)))
+  bound-word k l m = magnitude-in 63 (wordAt s k) (ranged-word k l (omega (arith, order)) (inl m) (at-bounds z k m))
 
   direction-word : (k : ℕ) → directionAt z ≤ k → k < stepAt z → Direction (wordAt s k)
   direction-word k l m =
-      direction-of (wordAt s k) (sym (in-directions z k _ (bitsAt s k) l m) ∙ tested k (omega arith) (omega (arith, order)))
+      direction-of (wordAt s k)
+      (direction-is (wordAt s k) ∙ sym (in-directions z k l m (wordAt s k)) ∙ tested k (omega arith) (omega (arith, order)))
 
   step-word : (k : ℕ) → stepAt z ≤ k → k < placeAt z → Abs (wordAt s k) 8
-  step-word k l m = abs-of (sym (in-steps z k _ (bitsAt s k) l m) ∙ tested k (omega arith) (omega (arith, order)))
+  step-word k l m =
+      magnitude-in 7 (wordAt s k) (ranged-word k (omega arith) (omega (arith, order)) (inr l) (at-steps z k (omega arith) m))
 
   matrix-word : (k : ℕ) → placeAt z ≤ k → k < loadingAt z 0 → Abs (wordAt s k) 4
-  matrix-word k l m = abs-of (sym (in-matrices z k _ (bitsAt s k) l m) ∙ tested k (omega arith) (omega (arith, order)))
+  matrix-word k l m =
+      magnitude-in 3 (wordAt s k) (ranged-word k (omega arith) (omega (arith, order)) (inr (omega arith)) (at-matrices z k l m))
 
   loading-word : (k : ℕ) → loadingAt z 0 ≤ k → k < lineAt z 0 → Abs (wordAt s k) 1
   loading-word k l m =
-      let p : placeAt z ≤ k = omega (arith, order) in
-      abs-of (sym (in-loading z k _ (bitsAt s k) p l m) ∙ tested k (omega arith) (omega (arith, order)))
+      magnitude-in 0 (wordAt s k)
+      (ranged-word k (omega (arith, order)) (omega (arith, order)) (inr (omega (arith, order))) (at-loading z k l m))
 
   -- vectors: the third component of two loops is given
   vector-each : (P : ℤ → Type 0) (k : ℕ) {pad : ℤ} → P pad → ((j : ℕ) → k ≤ j → j < k + z .loops → P (wordAt s j))
@@ -206,31 +211,36 @@ module _ (s : List ℕ) (z : Sizes) (h : Sized z) (good : refused4 s z ≡ false
           (loading-word (loadingAt z i + 1) (omega arith) (omega (arith, part f (z .loops - 1))))
 
   line-ranged : (i : ℕ) → i < z .lines → RangedLine (z .loops) (z .streams) (bodyLine s z i)
-  unfolding bodyLine
+  unfolding bodyLine wordAt
   line-ranged i f =
       record {
         operation =
-            let e : lineAt z i ≡ lineAt z i + 0 = omega arith in
-            leb-true (bitsAt s (lineAt z i)) lastOperation
-            (subst (λ (k : ℕ). leb (bitsAt s k) lastOperation ≡ true) (sym e) (sym (in-operations z 0 _ _ refl) ∙ test 0 (omega arith)));
-        target = operand 1 (omega arith) (omega arith);
-        first = operand 2 (omega arith) (omega arith);
-        second = operand 3 (omega arith) (omega arith);
-        index = leb-true _ (z .loops - 1) (sym (in-loops z 4 _ _ refl) ∙ test 4 (omega arith));
-        comparison = leb-true _ lastComparison (sym (in-comparisons z 5 _ _ refl) ∙ test 5 (omega arith));
-        bound = abs-of (sym (in-guard-bounds z 6 _ _ (omega arith)) ∙ test 6 (omega arith));
+            let e : lineAt z i + 0 ≡ lineAt z i = omega arith in
+            subst (λ (k : ℕ). bitsAt s k ≤ lastOperation) e (number 0 (omega arith) lastOperation (omega arith) refl);
+        target = operand 1 (omega arith) refl;
+        first = operand 2 (omega arith) refl;
+        second = operand 3 (omega arith) refl;
+        index = number 4 (omega arith) (z .loops - 1) (omega (arith, h .most-loops)) refl;
+        comparison = number 5 (omega arith) lastComparison (omega arith) refl;
+        bound = magnitude-in 63 (wordAt s (lineAt z i + 6)) (word 6 (omega arith));
       }
     where
-      test : (j : ℕ) → j < lineWords → lineTest z j (natAbs (wordAt s (lineAt z i + j))) (bitsAt s (lineAt z i + j)) ≡ true
-      test j m =
+      word : (j : ℕ) → j < lineWords → within (lineRange z j) (wordAt s (lineAt z i + j)) ≡ true
+      word j m =
           let k : ℕ = lineAt z i + j in
           let e : (k - lineAt z 0) % lineWords ≡ j = omega arith in
-          subst (λ (w : ℕ). lineTest z w (natAbs (wordAt s k)) (bitsAt s k) ≡ true) e
-          (sym (in-lines z k _ (bitsAt s k) (omega (arith, order)) (omega (arith, order)) (omega arith))
-          ∙ tested k (omega arith) (omega (arith, part f lineWords)))
+          ranged-word k (omega (arith, order)) (omega (arith, part f lineWords)) (inr (omega (arith, order)))
+          (at-lines z k (omega arith) ∙ ap (lineRange z) e)
 
-      operand : (j : ℕ) → 1 ≤ j → j < 4 → bitsAt s (lineAt z i + j) ≤ z .streams + 1
-      operand j l m = leb-true _ (z .streams + 1) (sym (in-operands z j _ _ l m) ∙ test j (omega arith))
+      number : (j : ℕ) → j < lineWords → (n : ℕ) → n < 2 ^ 31 → lineRange z j ≡ (pos 0 to pos n) → bitsAt s (lineAt z i + j) ≤ n
+      number j m n l e =
+          bits-in n (bitsAt s (lineAt z i + j)) l
+          (sym (ap (λ (r : Range). within r (wordAt s (lineAt z i + j))) e) ∙ word j m)
+
+      operand : (j : ℕ) → j < lineWords → lineRange z j ≡ (pos 0 to pos (suc (z .streams))) → bitsAt s (lineAt z i + j) ≤ z .streams + 1
+      operand j m e =
+          let n : suc (z .streams) ≡ z .streams + 1 = omega arith in
+          subst (λ (n : ℕ). bitsAt s (lineAt z i + j) ≤ n) n (number j m (suc (z .streams)) (omega (arith, h .most-streams)) e)
 
 -- ---- a refusal of 0
 

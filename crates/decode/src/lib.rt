@@ -4,7 +4,7 @@
 //
 //   Offsets     where the parts begin, of sizes in range
 //   Filled      lists with a part in use and a pad behind it
-//   Ranges      the range of each word, part by part
+//   Ranges      what a word in its range is, by its magnitude and by its bits
 //   Refusals    the refusals 1 to 5 in stages, which the crate `refuse_words` tests
 //   Ranged      what a refusal of 0 says of a description, as one record of ranges
 ghost use mathlib.Core.Path.{_≡_};

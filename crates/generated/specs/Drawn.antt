@@ -1,12 +1,11 @@
 -- Words drawn: each is in its range, and each word of its range is drawn. Assumes nothing.
 use mathlib.Core.Path.{_≡_, refl, sym, _∙_, ap, subst}
-use mathlib.Core.Logic.{_⊎_, inl, inr}
+use mathlib.Core.Logic.{_⊎_}
 use mathlib.Core.Bool.{Bool, true, false, cond, _||_, true≢false}
 use Prim.Native.Nat.{ℕ, suc, _+_, _*_, _-_, _%_, _≤_, _<_}
 use native.Mathlib.Nat.{mod-lt, zero-lt-suc, mod-eq-of-lt, add-mod-left, add-zero, mul-add-mod-self-right}
 use native.Mathlib.Omega.{arith}
 use lib.Dec.{T, eqb, ltb}
-use borrow.Author.Tests.{lt-ltb, le-ltb}
 use lib.IntN.{ℤ, pos, negsuc, natAbs, _+ℤ_, _-ℤ_}
 use lib.Signed.{_≤ℤ_, leZ}
 use Rattle.integers.specs.Differences.{gaps, parts, Abs}
@@ -18,6 +17,7 @@ use Rattle.meaning.specs.Operations.{lastOperation}
 use Rattle.meaning.specs.Guards.{lastComparison}
 use Rattle.meaning.specs.Description.{directionAt, stepAt, placeAt, loadingAt, lineWords, lineAt, _to_, within, rangeAt}
 use Rattle.meaning.specs.Description.{isDirection, inRange}
+use Rattle.meaning.specs.Ranges.{direction, no-direction}
 use Rattle.meaning.specs.Conditions.{SizesFit}
 use Rattle.meaning.specs.Generator.{sizeOf, drawnFrom, drawnDirection, drawn}
 use Rattle.meaning.specs.GeneratedLoad.{Seed}
@@ -54,7 +54,7 @@ ordered z =
     from-zero n = simp gaps (omega arith)
 
 -- and it has at most 129 words
-pub few : (z : Sizes) → SizesFit z → (k : ℕ) → sizeOf (rangeAt z k) ≤ 129
+few : (z : Sizes) → SizesFit z → (k : ℕ) → sizeOf (rangeAt z k) ≤ 129
 few z f =
     each-range (λ r. sizeOf r ≤ 129) z (omega arith) (omega arith) (omega arith) (omega arith) (omega arith)
     (omega (arith, counted (suc (z .streams)), f .streams .1)) (omega (arith, counted (z .loops - 1), f .loops .1)) (omega arith)
@@ -135,20 +135,16 @@ direction-all w e = go (eqZ w (pos 1)) (eqZ w (negsuc 0)) (eqZ→eq w (pos 1)) (
 module _ (z : Sizes) (k : ℕ) where
   -- a direction by the lowest bit
   pub direction-even : directionAt z ≤ k → k < stepAt z → (x : ℕ) → x % 2 ≡ 0 → drawn z k x ≡ negsuc 0
-  direction-even a b x e = rw (le-ltb _ _ a, lt-ltb _ _ b, e) refl
+  direction-even a b x e = rw (direction z k a b, e) refl
 
   pub direction-odd : directionAt z ≤ k → k < stepAt z → (x : ℕ) → x % 2 ≡ 1 → drawn z k x ≡ pos 1
-  direction-odd a b x e = rw (le-ltb _ _ a, lt-ltb _ _ b, e) refl
+  direction-odd a b x e = rw (direction z k a b, e) refl
 
   -- another word by the remainder
   pub drawn-remainder : (k < directionAt z) ⊎ (stepAt z ≤ k) → (x q m : ℕ) → m < sizeOf (rangeAt z k) → x ≡ q * sizeOf (rangeAt z k) + m
       → drawn z k x ≡ rangeAt z k .least +ℤ pos m
-  drawn-remainder o x q m h e = rw (other o) (ap (λ (n : ℕ). rangeAt z k .least +ℤ pos n) is)
+  drawn-remainder o x q m h e = rw (no-direction z k o) (ap (λ (n : ℕ). rangeAt z k .least +ℤ pos n) is)
     where
-      other : (k < directionAt z) ⊎ (stepAt z ≤ k) → isDirection z k ≡ false
-      other (inl a) = rw (lt-ltb _ _ a) refl
-      other (inr b) = let a : directionAt z ≤ k = omega arith in rw (le-ltb _ _ a, le-ltb _ _ b) refl
-
       is : x % sizeOf (rangeAt z k) ≡ m
       is = ap (λ (y : ℕ). y % sizeOf (rangeAt z k)) e ∙ mul-add-mod-self-right q (sizeOf (rangeAt z k)) m ∙ mod-eq-of-lt h
 
@@ -172,12 +168,12 @@ module _ (z : Sizes) (k : ℕ) where
   pub drawn-near : SizesFit z → (x : ℕ) → Abs (drawn z k x) 64
   drawn-near f x = go (isDirection z k)
     where
-      direction : (b : Bool) → Abs (cond b (negsuc 0) (pos 1)) 64
-      direction true = record { abs = omega arith }
-      direction false = record { abs = omega arith }
+      one : (b : Bool) → Abs (cond b (negsuc 0) (pos 1)) 64
+      one true = record { abs = omega arith }
+      one false = record { abs = omega arith }
 
       go : (b : Bool) → Abs (cond b (drawnDirection x) (drawnFrom (rangeAt z k) x)) 64
-      go true = direction (eqb (x % 2) 0)
+      go true = one (eqb (x % 2) 0)
       go false =
           let r = rangeAt z k in
           let n = near z f k in

@@ -19,10 +19,10 @@ left-word s x h = xor-lt 32 x (shiftLeft s x) h (mod-lt (x * 2 ^ s) (pow-pos 32)
 right-word : (s x : ℕ) → Word x → Word (right s x)
 right-word s x h = xor-lt 32 x (shiftRight s x) h (lt-of-le-of-lt (div-le-self x (2 ^ s)) h)
 
-pub round-word : (x : ℕ) → Word x → Word (round x)
+round-word : (x : ℕ) → Word x → Word (round x)
 round-word x h = left-word 5 (right 17 (left 13 x)) (right-word 17 (left 13 x) (left-word 13 x h))
 
-pub previous-word : (y : ℕ) → Word y → Word (previous y)
+previous-word : (y : ℕ) → Word y → Word (previous y)
 previous-word y h =
     let z = left 20 (left 10 (left 5 y)) in
     let a = left-word 20 (left 10 (left 5 y)) (left-word 10 (left 5 y) (left-word 5 y h)) in
@@ -80,7 +80,7 @@ pub after-more : (n x : ℕ) → after (n + 1) x ≡ round (after n x)
 unfolding after
 after-more n x = ap (λ (k : ℕ). after k x) (add-one n)
 
-pub after-word : (n x : ℕ) → Word x → Word (after n x)
+after-word : (n x : ℕ) → Word x → Word (after n x)
 unfolding after
 after-word zero x h = h
 after-word (suc n) x h = round-word (after n x) (after-word n x h)

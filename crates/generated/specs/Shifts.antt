@@ -38,7 +38,7 @@ xor-digit one one = refl
 xor-last : (a b : ℕ) → bitXor a b % 2 ≡ differ (a % 2) (b % 2)
 xor-last a b = xor-mod a b 1 ∙ xor-digit (last a) (last b)
 
-pub xor-assoc : (a b c : ℕ) → bitXor (bitXor a b) c ≡ bitXor a (bitXor b c)
+xor-assoc : (a b c : ℕ) → bitXor (bitXor a b) c ≡ bitXor a (bitXor b c)
 xor-assoc =
     bin-ind (λ (a : ℕ). (b c : ℕ) → bitXor (bitXor a b) c ≡ bitXor a (bitXor b c))
     (λ b c. ap (λ (x : ℕ). bitXor x c) (xor-zero-l b) ∙ sym (xor-zero-l (bitXor b c)))

@@ -7,7 +7,7 @@ use mathlib.Core.List.{Memᴰ·append-right}
 use Prim.Native.Nat.{ℕ, zero, suc, _+_, _-_, _≤_, _<_}
 use native.Mathlib.Nat.{add-zero, zero-add}
 use native.Mathlib.Omega.{arith}
-use lib.Dec.{T, T-not, not-T, eqb, leb, ltb, ltb→lt, lt→ltb, leb→le, eqb→eq}
+use lib.Dec.{T, T-not, eqb, leb, ltb, ltb→lt, leb→le, eqb→eq}
 use lib.ListN.{length, getD}
 use lib.IntN.{ℤ, pos, negsuc}
 use lib.Signed.{ltZ, ltZ-no, ≤ℤ-refl}
@@ -23,12 +23,12 @@ use Rattle.meaning.specs.Lists.{every, numbersFrom}
 use Rattle.meaning.specs.Streams.{line}
 use Rattle.meaning.specs.Description.{sizesOf, directionAt, stepAt, wordsOf, inRange, nestOf, noStream, descriptionOf, streamsOf, written}
 use Rattle.meaning.specs.Description.{refused2, refused4, refused5}
+use Rattle.meaning.specs.Ranges.{in-directions}
 use Rattle.meaning.specs.Accept.{refused33, against, streamTests, testsFrom, nestTests, byteTests, refusalOf}
 use Rattle.meaning.specs.Tests.{Test, _if_, refusal}
 use Rattle.meaning.specs.Walk.{walkTests, walkRefusal}
 use Rattle.meaning.specs.Points.{Direction, Direction.onward, Direction.back, Directed, Within, Earlier}
 use Rattle.lists.specs.Members.{in-numbers}
-use Rattle.lists.specs.Tests.{is-true, is-false}
 use Rattle.geometry.specs.Numbers.{eqZ-eq, and-left, and-right}
 use Rattle.geometry.specs.Tests.{numbered as tests-numbered, both-pass}
 use Rattle.geometry.specs.Processes.{Layout}
@@ -110,11 +110,7 @@ every-in f {k} (j ∷ l) t i = go (f j) (λ x. x) t i (every-in f l)
 
 -- a word in the range of directions
 direction : (z : Sizes) (k : ℕ) (w : ℤ) → directionAt z ≤ k → k < stepAt z → T (inRange z k w) → Direction w
-direction z k w h l t =
-    let e : ltb k (directionAt z) ≡ false =
-    is-false (ltb k (directionAt z)) (not-T (ltb k (directionAt z)) (λ u. absurd (omega (arith, ltb→lt k (directionAt z) u)))) in
-    let f : ltb k (stepAt z) ≡ true = is-true (ltb k (stepAt z)) (lt→ltb k (stepAt z) l) in
-    go (or-else (eqZ w (pos 1)) (eqZ w (negsuc 0)) (rw (e, f) at t))
+direction z k w h l t = go (or-else (eqZ w (pos 1)) (eqZ w (negsuc 0)) (subst T (in-directions z k h l w) t))
   where
     go : T (eqZ w (pos 1)) ⊎ T (eqZ w (negsuc 0)) → Direction w
     go (inl u) = subst Direction (sym (eqZ-eq w (pos 1) u)) onward

@@ -9,16 +9,18 @@ use native.Mathlib.Omega.{arith}
 use lib.Dec.{eqb}
 use lib.ListN.{length}
 use lib.IntN.{ℤ, pos, negsuc}
-use borrow.Author.Tests.{lt-ltb, le-ltb, ne-eqb, eqb-false}
+use borrow.Author.Tests.{lt-ltb, ne-eqb, eqb-false}
 use Rattle.integers.specs.Order.{part}
 use Rattle.integers.specs.Bytes.{wordAt}
 use Rattle.integers.specs.Words.{eqZ}
+use Rattle.meaning.specs.declared.Range.{Range}
 use Rattle.meaning.specs.declared.Sizes.{Sizes}
 use Rattle.meaning.specs.Lists.{every, numbersFrom}
 use Rattle.meaning.specs.Points.{Direction, Direction.onward, Direction.back, Between, Directed}
 use Rattle.meaning.specs.Operations.{lastOperation}
 use Rattle.meaning.specs.Description.{matrixWords, leftAt, rightAt, directionAt, stepAt, placeAt, mapAt, loadingAt, lineWords, lineAt}
-use Rattle.meaning.specs.Description.{wordsOf, within, lineRange, inRange, nestOf, refused2, refused3, refused4}
+use Rattle.meaning.specs.Description.{wordsOf, within, lineRange, rangeAt, inRange, nestOf, refused2, refused3, refused4}
+use Rattle.meaning.specs.Ranges.{at-bounds, at-steps, at-matrices, at-loading, at-lines, in-directions as one-of, in-others}
 use Rattle.meaning.specs.Conditions.{SizesFit, wordTotal, WordsFit}
 use Rattle.lists.specs.Rows.{every-numbers, numbers-every}
 use Rattle.abstract_network.specs.Cases.{Order, less, atLeast, order}
@@ -69,34 +71,27 @@ says-direction w = says-as from to (says-or (says-eqZ w (pos 1)) (says-eqZ w (ne
     to back = inr refl
 
 module _ (z : Sizes) (k : ℕ) (w : ℤ) where
+  -- of a word that is no direction, by its range
+  in-range : (k < directionAt z) ⊎ (stepAt z ≤ k) → {r : Range} → rangeAt z k ≡ r → Says (Between (r .least) (r .greatest) w) (inRange z k w)
+  in-range o {r} e = rw (in-others z k o e w) (says-between (r .least) (r .greatest) w)
+
   in-bounds : k < directionAt z → Says (Between (negsuc 63) (pos 64) w) (inRange z k w)
-  in-bounds a = rw (lt-ltb _ _ a) (says-between (negsuc 63) (pos 64) w)
+  in-bounds a = in-range (inl a) (at-bounds z k a)
 
   in-directions : directionAt z ≤ k → k < stepAt z → Says (Direction w) (inRange z k w)
-  in-directions a b = rw (le-ltb _ _ a, lt-ltb _ _ b) (says-direction w)
+  in-directions a b = rw (one-of z k a b w) (says-direction w)
 
   in-steps : stepAt z ≤ k → k < placeAt z → Says (Between (negsuc 7) (pos 8) w) (inRange z k w)
-  in-steps b c = let a : directionAt z ≤ k = omega arith in
-      rw (le-ltb _ _ a, le-ltb _ _ b, lt-ltb _ _ c) (says-between (negsuc 7) (pos 8) w)
+  in-steps b c = in-range (inr b) (at-steps z k (omega arith) c)
 
-  module _ (c : placeAt z ≤ k) where
-    in-matrices : k < loadingAt z 0 → Says (Between (negsuc 3) (pos 4) w) (inRange z k w)
-    in-matrices d =
-        let a : directionAt z ≤ k = omega arith in
-        let b : stepAt z ≤ k = omega arith in
-        rw (le-ltb _ _ a, le-ltb _ _ b, le-ltb _ _ c, lt-ltb _ _ d) (says-between (negsuc 3) (pos 4) w)
+  in-matrices : placeAt z ≤ k → k < loadingAt z 0 → Says (Between (negsuc 3) (pos 4) w) (inRange z k w)
+  in-matrices c d = in-range (inr (omega arith)) (at-matrices z k c d)
 
-    module _ (d : loadingAt z 0 ≤ k) where
-      in-loading : k < lineAt z 0 → Says (Between (negsuc 0) (pos 1) w) (inRange z k w)
-      in-loading e =
-          let a : directionAt z ≤ k = omega arith in
-          let b : stepAt z ≤ k = omega arith in
-          rw (le-ltb _ _ a, le-ltb _ _ b, le-ltb _ _ c, le-ltb _ _ d, lt-ltb _ _ e) (says-between (negsuc 0) (pos 1) w)
+  in-loading : loadingAt z 0 ≤ k → k < lineAt z 0 → Says (Between (negsuc 0) (pos 1) w) (inRange z k w)
+  in-loading d e = in-range (inr (omega arith)) (at-loading z k d e)
 
-      in-lines : lineAt z 0 ≤ k → inRange z k w ≡ within (lineRange z ((k - lineAt z 0) % lineWords)) w
-      in-lines e =
-          let a : directionAt z ≤ k = omega arith in
-          let b : stepAt z ≤ k = omega arith in rw (le-ltb _ _ a, le-ltb _ _ b, le-ltb _ _ c, le-ltb _ _ d, le-ltb _ _ e)
+  in-lines : lineAt z 0 ≤ k → inRange z k w ≡ within (lineRange z ((k - lineAt z 0) % lineWords)) w
+  in-lines e = in-others z k (inr (omega arith)) (at-lines z k e) w
 
 module _ (s : List ℕ) (z : Sizes) where
   abbrev ok : ℕ → Bool
@@ -127,7 +122,7 @@ module _ (s : List ℕ) (z : Sizes) where
 
   loading-word : (i j : ℕ) → i < z .streams → j < z .loops - 1
       → Says (Between (negsuc 0) (pos 1) (wordAt s (loadingAt z i + j))) (ok (loadingAt z i + j))
-  loading-word i j g h = in-loading z (loadingAt z i + j) _ (omega arith) (omega arith) (omega (arith, part g (z .loops - 1)))
+  loading-word i j g h = in-loading z (loadingAt z i + j) _ (omega arith) (omega (arith, part g (z .loops - 1)))
 
   -- word j of line i
   line-word : {A : Type 0} (i j : ℕ) → j < lineWords → Says A (within (lineRange z j) (wordAt s (lineAt z i + j)))
@@ -136,7 +131,7 @@ module _ (s : List ℕ) (z : Sizes) where
       let k : ℕ = lineAt z i + j in
       let e : (k - lineAt z 0) % lineWords ≡ j = omega arith in
       subst (Says A)
-      (sym (in-lines z k (wordAt s k) (omega arith) (omega arith) (omega arith) ∙ ap (λ (n : ℕ). within (lineRange z n) (wordAt s k)) e)) r
+      (sym (in-lines z k (wordAt s k) (omega arith) ∙ ap (λ (n : ℕ). within (lineRange z n) (wordAt s k)) e)) r
 
   pub operation-word : (i : ℕ) → Says (Between (pos 0) (pos lastOperation) (wordAt s (lineAt z i))) (ok (lineAt z i))
   operation-word i =

@@ -12,7 +12,7 @@ use Rattle.lists.specs.Rows.{length-numbers, getD-first}
 
 module _ {X : Type 0} (f : ℕ → X) where
   -- one number more
-  pub numbers-more : (i n : ℕ) → map f (numbersFrom i (suc n)) ≡ map f (numbersFrom i n) ++ (f (i + n) ∷ [])
+  numbers-more : (i n : ℕ) → map f (numbersFrom i (suc n)) ≡ map f (numbersFrom i n) ++ (f (i + n) ∷ [])
   unfolding numbersFrom
   numbers-more i zero = let e : i ≡ i + 0 = omega arith in ap (λ (j : ℕ). f j ∷ []) e
   numbers-more i (suc n) =

@@ -16,7 +16,7 @@ use Rattle.meaning.specs.Lists.{each}
 use Rattle.meaning.specs.Description.{wordsOf}
 use Rattle.meaning.specs.Generator.{after, bytesOf, drawn, madeWords, made}
 use Rattle.lists.specs.Members.{each-append}
-use Rattle.words.specs.Stored.{stored, stored-length, stored-paste}
+use Rattle.words.specs.Stored.{stored, stored-paste}
 use Rattle.generated.specs.Made.{bytes, bytes-length, words-length, word-drawn}
 
 -- the bits of word k
@@ -28,15 +28,9 @@ unfoldable pub wordsTo : List ℤ → ℕ → List ℕ → List ℕ
 wordsTo ws zero out = out
 wordsTo ws (suc n) out = stored (bytesOf (bitsOf ws n)) (4 * n) 4 (wordsTo ws n out)
 
-module _ (ws : List ℤ) (out : List ℕ) where
-  pub words-more : (n : ℕ) → wordsTo ws (n + 1) out ≡ stored (bytesOf (bitsOf ws n)) (4 * n) 4 (wordsTo ws n out)
-  unfolding wordsTo
-  words-more n = ap (λ (k : ℕ). wordsTo ws k out) (add-one n)
-
-  pub words-kept : (n : ℕ) → length (wordsTo ws n out) ≡ length out
-  unfolding wordsTo
-  words-kept zero = refl
-  words-kept (suc n) = stored-length (bytesOf (bitsOf ws n)) (4 * n) (wordsTo ws n out) 4 ∙ words-kept n
+words-more : (ws : List ℤ) (out : List ℕ) (n : ℕ) → wordsTo ws (n + 1) out ≡ stored (bytesOf (bitsOf ws n)) (4 * n) 4 (wordsTo ws n out)
+unfolding wordsTo
+words-more ws out n = ap (λ (k : ℕ). wordsTo ws k out) (add-one n)
 
 -- a word, byte by byte
 pub put-is : (out : List ℕ) (i u : ℕ)
@@ -62,7 +56,7 @@ module _ (ws : List ℤ) (out : List ℕ) where
       (subst (λ (j : ℕ). take j (front ++ back) ≡ front) m (take-append-seam front back))
       (subst (λ (j : ℕ). drop (j + 4) (front ++ back) ≡ drop 4 back) m (drop-append-add front back 4) ∙ drop-drop 4 (4 * n) out)
 
-  pub words-are : (n : ℕ) → n ≤ length ws → 4 * n ≤ length out → wordsTo ws n out ≡ bytes (take n ws) ++ drop (4 * n) out
+  words-are : (n : ℕ) → n ≤ length ws → 4 * n ≤ length out → wordsTo ws n out ≡ bytes (take n ws) ++ drop (4 * n) out
   unfolding wordsTo each
   words-are zero h l = refl
   words-are (suc n) h l =

@@ -7,105 +7,20 @@
 //   Ranges    the ranges that a word can be drawn from
 //   Call      what it answers and leaves, by its refusal
 ghost use mathlib.Core.Path.{_≡_};
-ghost use Prim.Native.Nat.{_+_, _*_, _-_, _≤_, _<_};
+ghost use Prim.Native.Nat.{_+_, _*_, _≤_};
 ghost use lib.ListN.{length};
-ghost use lib.IntN.{pos};
 ghost use mir.Syntax.{w32};
 ghost use mir.Val.{ofZ};
 ghost use Rattle.meaning.specs.Tests.{refusal};
-ghost use Rattle.meaning.specs.Description.{wordsOf, _to_, lineRange, rangeAt, isDirection};
+ghost use Rattle.meaning.specs.Description.{wordsOf};
 ghost use Rattle.meaning.specs.Generator.{bytesOf, sizeOf, drawnFrom, drawnDirection, drawn, madeWords, makeTests, make};
 ghost use Rattle.words.specs.Stored.{stored};
 ghost use Rattle.decode.specs.Offsets.{Sized};
 ghost use Rattle.make.specs.Words.{wordsTo};
 ghost use Rattle.make.specs.Ranges.{Drawable};
-use meaning::LAST_OPERATION;
-use meaning::LINE_WORDS;
 use meaning::Made;
 use meaning::Range;
 use meaning::Sizes;
-
-// ---- ranges
-
-// Numbers from 0 on.
-fn up_to(last: u32) -> Range
-    requires { ⌜ last ≤ 64 ⌝ }
-    ensures { λ r. ⌜ r ≡ (pos 0 to pos last) ⌝ }
-{
-    Range {
-        least: 0,
-        greatest: last as i32,
-    }
-}
-
-// The range of word j of a line.
-fn line_range(z: Sizes, j: u32) -> Range
-    requires { ⌜ Sized z ⌝ }
-    ensures { λ r. ⌜ r ≡ lineRange z j ⌝ }
-{
-    if j == 0 {
-        return up_to(LAST_OPERATION);
-    }
-    if j < 4 {
-        return up_to(z.streams + 1);
-    }
-    if j == 4 {
-        return up_to(z.loops - 1);
-    }
-    if j == 5 {
-        return up_to(3);
-    }
-    Range {
-        least: -64,
-        greatest: 64,
-    }
-}
-
-// The range of word k, if it is no direction.
-fn range_at(z: Sizes, k: u32) -> Range
-    requires { ⌜ Sized z ⌝ }
-    ensures { λ r. ⌜ r ≡ rangeAt z k ⌝ }
-{
-    let r = z.loops;
-    if k < 3 + r + r {
-        return Range {
-            least: -64,
-            greatest: 64,
-        };
-    }
-    if k < 3 + r + r + r + r {
-        return Range {
-            least: -8,
-            greatest: 8,
-        };
-    }
-    if k < decode::loading_at(z, 0) {
-        return Range {
-            least: -4,
-            greatest: 4,
-        };
-    }
-    let body = decode::line_at(z, 0);
-    if k < body {
-        return Range {
-            least: -1,
-            greatest: 1,
-        };
-    }
-    line_range(z, (k - body) % LINE_WORDS)
-}
-
-fn is_direction(z: Sizes, k: u32) -> bool
-    requires { ⌜ Sized z ⌝ }
-    ensures { λ r. ⌜ r ≡ isDirection z k ⌝ }
-{
-    let direction = 3 + z.loops + z.loops;
-    if k < direction {
-        false
-    } else {
-        k < direction + z.loops
-    }
-}
 
 // ---- words drawn
 
@@ -138,10 +53,10 @@ fn drawn(z: Sizes, k: u32, x: u32) -> i32
     requires { ⌜ Sized z ⌝ }
     ensures { λ w. ⌜ w ≡ drawn z k x ⌝ }
 {
-    if is_direction(z, k) {
+    if word_ranges::is_direction(z, k) {
         drawn_direction(x)
     } else {
-        drawn_from(range_at(z, k), x)
+        drawn_from(word_ranges::range_at(z, k), x)
     }
 }
 

@@ -25,9 +25,12 @@ use Rattle.meaning.specs.Guards.{lastComparison}
 
 -- ---- sizes and lengths
 
+abbrev pub sizes : ℕ → ℕ → ℕ → Sizes
+sizes r m b = record { loops = r; streams = m; lines = b }
+
 -- "first three sizes: loops r, streams m, body lines b"; as bits, so that a negative one is far out of range
 abbrev pub sizesOf : List ℕ → Sizes
-sizesOf s = record { loops = bitsAt s 0; streams = bitsAt s 1; lines = bitsAt s 2 }
+sizesOf s = sizes (bitsAt s 0) (bitsAt s 1) (bitsAt s 2)
 
 -- the words of a matrix: "r−1 rows of r words"
 abbrev pub matrixWords : Sizes → ℕ

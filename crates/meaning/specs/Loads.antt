@@ -8,13 +8,11 @@ use Rattle.integers.specs.Bytes.{bitsAt, wordAt}
 use Rattle.meaning.specs.declared.Sizes.{Sizes}
 use Rattle.meaning.specs.Lists.{every, each, numbersFrom}
 use Rattle.meaning.specs.Tests.{refusal}
+use Rattle.meaning.specs.Description.{sizes}
 use Rattle.meaning.specs.Answers.{answerNumber, madeNumber, madeValues}
 use Rattle.meaning.specs.Accept.{byteTests}
 use Rattle.meaning.specs.Generator.{after, previous, before, fill, make}
 use Rattle.meaning.specs.Comparison.{Case, _is_, naturals, number, eqList, firstWrong, agree}
-
-abbrev sizes : ℕ → ℕ → ℕ → Sizes
-sizes r m b = record { loops = r; streams = m; lines = b }
 
 -- a call's number and its list
 abbrev filled : ℕ → ℕ → List ℕ → List ℤ

@@ -13,8 +13,7 @@ fn in_range(s: &[u8], z: Sizes, k: u32) -> bool
     requires { ⌜ Sized z ⌝ }
     ensures { λ r. ⌜ r ≡ inRange z k (wordAt (now (s .entry)) k) ⌝ }
 {
-    let u = integers::bits_at(s, k);
-    word_ranges::within(z, k, integers::magnitude(integers::signed(u)), u)
+    word_ranges::in_range(z, k, integers::word_at(s, k))
 }
 
 // Refusal 4: a word out of range.

@@ -1,15 +1,17 @@
-// The tests of document 01's refusals 2, 4 and 5, over numbers alone: sizes, the range of a word, bounds.
+// The tests of document 01's refusals 2, 4 and 5, over numbers alone: sizes, the range of a word, which Make draws from too, bounds.
 ghost use mathlib.Core.Path.{_≡_};
 ghost use mathlib.Core.Bool.{not, _&&_};
+ghost use Prim.Native.Nat.{_≤_};
 ghost use lib.Dec.{leb};
+ghost use lib.IntN.{pos};
 ghost use lib.Signed.{ltZ};
-ghost use Rattle.meaning.specs.Description.{refused2, refused5};
+ghost use Rattle.meaning.specs.Description.{_to_, within, lineRange, rangeAt, isDirection, inRange, refused2, refused5};
 ghost use Rattle.decode.specs.Offsets.{Sized};
-ghost use Rattle.decode.specs.Ranges.{lineTest, rangeTest};
 use integers::V3;
 use meaning::LAST_OPERATION;
 use meaning::LINE_WORDS;
 use meaning::Nest;
+use meaning::Range;
 use meaning::Sizes;
 
 // Whether n is outside a to b.
@@ -30,51 +32,103 @@ pub fn size_refused(z: Sizes) -> bool
     }
 }
 
-// The range of word j of a line, tested on its magnitude n and its bits u.
-fn line_within(z: Sizes, j: u32, n: u32, u: u32) -> bool
-    requires { ⌜ Sized z ⌝ }
-    ensures { λ r. ⌜ r ≡ lineTest z j n u ⌝ }
+// Numbers from 0 on.
+fn up_to(last: u32) -> Range
+    requires { ⌜ last ≤ 64 ⌝ }
+    ensures { λ r. ⌜ r ≡ (pos 0 to pos last) ⌝ }
 {
-    if j == 0 {
-        return u <= LAST_OPERATION;
+    Range {
+        least: 0,
+        greatest: last as i32,
     }
-    if j < 4 {
-        return u <= z.streams + 1;
-    }
-    if j == 4 {
-        return u <= z.loops - 1;
-    }
-    if j == 5 {
-        return u <= 3;
-    }
-    n <= 64
 }
 
-// The range of word k, tested on its magnitude n and its bits u.
-pub fn within(z: Sizes, k: u32, n: u32, u: u32) -> bool
+// The range of word j of a line.
+fn line_range(z: Sizes, j: u32) -> Range
     requires { ⌜ Sized z ⌝ }
-    ensures { λ r. ⌜ r ≡ rangeTest z k n u ⌝ }
+    ensures { λ r. ⌜ r ≡ lineRange z j ⌝ }
+{
+    if j == 0 {
+        return up_to(LAST_OPERATION);
+    }
+    if j < 4 {
+        return up_to(z.streams + 1);
+    }
+    if j == 4 {
+        return up_to(z.loops - 1);
+    }
+    if j == 5 {
+        return up_to(3);
+    }
+    Range {
+        least: -64,
+        greatest: 64,
+    }
+}
+
+// The range of word k, if it is no direction.
+pub fn range_at(z: Sizes, k: u32) -> Range
+    requires { ⌜ Sized z ⌝ }
+    ensures { λ r. ⌜ r ≡ rangeAt z k ⌝ }
 {
     let r = z.loops;
-    let direction = 3 + r + r;
-    if k < direction {
-        return n <= 64;
+    if k < 3 + r + r {
+        return Range {
+            least: -64,
+            greatest: 64,
+        };
     }
-    let step = direction + r;
-    if k < step {
-        return n == 1;
-    }
-    if k < step + r {
-        return n <= 8;
+    if k < 3 + r + r + r + r {
+        return Range {
+            least: -8,
+            greatest: 8,
+        };
     }
     if k < decode::loading_at(z, 0) {
-        return n <= 4;
+        return Range {
+            least: -4,
+            greatest: 4,
+        };
     }
     let body = decode::line_at(z, 0);
     if k < body {
-        return n <= 1;
+        return Range {
+            least: -1,
+            greatest: 1,
+        };
     }
-    line_within(z, (k - body) % LINE_WORDS, n, u)
+    line_range(z, (k - body) % LINE_WORDS)
+}
+
+// Whether word k is a direction.
+pub fn is_direction(z: Sizes, k: u32) -> bool
+    requires { ⌜ Sized z ⌝ }
+    ensures { λ r. ⌜ r ≡ isDirection z k ⌝ }
+{
+    let direction = 3 + z.loops + z.loops;
+    if k < direction {
+        false
+    } else {
+        k < direction + z.loops
+    }
+}
+
+// Whether a range has a word.
+fn covers(r: Range, w: i32) -> bool
+    ensures { λ b. ⌜ b ≡ within r w ⌝ }
+{
+    r.least <= w && w <= r.greatest
+}
+
+// Whether word k is in its range.
+pub fn in_range(z: Sizes, k: u32, w: i32) -> bool
+    requires { ⌜ Sized z ⌝ }
+    ensures { λ r. ⌜ r ≡ inRange z k w ⌝ }
+{
+    if is_direction(z, k) {
+        return integers::magnitude(w) == 1;
+    }
+    covers(range_at(z, k), w)
 }
 
 // Whether a is above b in the first component; then in the second and the third.

@@ -1,4 +1,4 @@
--- `make::line_range` meets its contract, part by part of a line. Assumes nothing.
+-- `word_ranges::line_range` meets its contract, part by part of a line. Assumes nothing.
 use mathlib.Core.Path.{_∙_, refl, ap}
 use Prim.Native.Nat.{ℕ}
 use native.Mathlib.Numerals.{add-one}
@@ -6,8 +6,8 @@ use lib.IntN.{pos}
 use borrow.Author.Needs.{needs}
 use borrow.Author.Tests.{eq-eqb, ne-eqb, lt-ltb, le-ltb}
 use Rattle.meaning.specs.Description.{_to_}
-use Rattle.make.proofs.line_range.Statement.{statement}
-use Rattle.make.proofs.line_range.Tie as tie
+use Rattle.word_ranges.proofs.line_range.Statement.{statement}
+use Rattle.word_ranges.proofs.line_range.Tie as tie
 
 up-to-requires : tie.Need-up-to-requires
 up-to-requires c κs = search needs

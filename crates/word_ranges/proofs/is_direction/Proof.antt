@@ -1,9 +1,9 @@
--- `make::is_direction` meets its contract. Assumes nothing.
+-- `word_ranges::is_direction` meets its contract. Assumes nothing.
 use mathlib.Core.Path.{refl}
 use borrow.Author.Needs.{needs}
 use borrow.Author.Tests.{lt-ltb, le-ltb}
-use Rattle.make.proofs.is_direction.Statement.{statement}
-use Rattle.make.proofs.is_direction.Tie as tie
+use Rattle.word_ranges.proofs.is_direction.Statement.{statement}
+use Rattle.word_ranges.proofs.is_direction.Tie as tie
 
 add-direction : tie.Need-add-direction
 add-direction c = search needs

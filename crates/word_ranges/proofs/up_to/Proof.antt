@@ -1,4 +1,4 @@
--- `make::up_to` meets its contract. Assumes nothing.
+-- `word_ranges::up_to` meets its contract. Assumes nothing.
 use mathlib.Core.Path.{ap}
 use native.Mathlib.Omega.{arith}
 use lib.IntN.{ℤ, pos}
@@ -6,8 +6,8 @@ use mir.Syntax.{w32}
 use mir.ValLaws.{toZ-pos}
 use borrow.Author.Needs.{needs}
 use Rattle.meaning.specs.Description.{_to_}
-use Rattle.make.proofs.up_to.Statement.{statement}
-use Rattle.make.proofs.up_to.Tie as tie
+use Rattle.word_ranges.proofs.up_to.Statement.{statement}
+use Rattle.word_ranges.proofs.up_to.Tie as tie
 
 cast-t2 : tie.Need-cast-t2
 cast-t2 c = search needs
