@@ -29,7 +29,8 @@ use Rattle.meaning.specs.Tests.{refusal}
 use Rattle.meaning.specs.Operations.{lastOperation}
 use Rattle.meaning.specs.Guards.{lastComparison}
 use Rattle.meaning.specs.Description.{sizesOf, matrixWords, leftAt, rightAt, directionAt, stepAt, placeAt, mapAt, loadingAt, lineWords}
-use Rattle.meaning.specs.Description.{lineAt, wordsOf, _to_, within, lineRange, rangeAt, inRange, vectorAt, unit3, matrixAt, nestOf, loadingOf, streamOf, bodyLine, noStream}
+use Rattle.meaning.specs.Description.{lineAt, wordsOf, _to_, within, lineRange, rangeAt, inRange}
+use Rattle.meaning.specs.Description.{vectorAt, unit3, matrixAt, nestOf, loadingOf, streamOf, bodyLine, noStream}
 use Rattle.meaning.specs.Description.{noLine, descriptionOf, refused1, refused2, refused3, refused4, refused5}
 use Rattle.meaning.specs.Ranges.{at-bounds, at-steps, at-matrices, at-loading, at-lines, in-directions, in-others}
 use Rattle.decode.specs.Offsets.{Sized, two-or-three}

@@ -72,7 +72,8 @@ says-direction w = says-as from to (says-or (says-eqZ w (pos 1)) (says-eqZ w (ne
 
 module _ (z : Sizes) (k : ℕ) (w : ℤ) where
   -- of a word that is no direction, by its range
-  in-range : (k < directionAt z) ⊎ (stepAt z ≤ k) → {r : Range} → rangeAt z k ≡ r → Says (Between (r .least) (r .greatest) w) (inRange z k w)
+  in-range : (k < directionAt z) ⊎ (stepAt z ≤ k) → {r : Range} → rangeAt z k ≡ r
+      → Says (Between (r .least) (r .greatest) w) (inRange z k w)
   in-range o {r} e = rw (in-others z k o e w) (says-between (r .least) (r .greatest) w)
 
   in-bounds : k < directionAt z → Says (Between (negsuc 63) (pos 64) w) (inRange z k w)

@@ -53,6 +53,7 @@ before (suc n) y = before n (previous y)
 
 -- ---- FILL
 
+-- an answer, and the list afterwards
 pub record Filled : Type 0 where
   pub answer : Answer
   pub list : List ℕ
@@ -102,6 +103,7 @@ bytesOf u = u % 256 ∷ u / 256 % 256 ∷ u / 65536 % 256 ∷ u / 16777216 % 256
 abbrev pub made : Sizes → ℕ → List ℕ
 made z seed = each (λ w. bytesOf (ofZ w32 w)) (madeWords z seed)
 
+-- an answer, and the output afterwards
 pub record Described : Type 0 where
   pub answer : Made.Made
   pub output : List ℕ

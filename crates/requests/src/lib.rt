@@ -5,8 +5,8 @@
 //   2.2   LongerStrides: `longer-strides`: 9 is never given; what was not refused by it is answered as before, what was is answered by what
 //         comes after; first and last of Table's rows are the outermost points of the process's own line in the bounds (Outermost)
 //   2.3   GeneratedLoad: `generated-load`: which answer Fill and Make give, what they leave, place by place and word by word; equal states
-//         after n rounds have equal states before, and none is 0; what Make makes meets the conditions of 1 to 4; every word drawn is in its
-//         range, and every word of its range is drawn
+//         after n rounds have equal states before, and no seed comes to 0; what Make makes meets the conditions of 1 to 4; every word drawn
+//         is in its range, and every word of its range is drawn
 //   2.4   WalkByProcess: `walk-by-process`: what Accept accepts or refuses by 11 to 17 has a walk; a whole walk comes to every instance
 //         exactly once and to nothing else, in that order, and is a rearrangement of the instances; Accept with the check along it is
 //         Accept
@@ -26,8 +26,8 @@
 // puts; the network finishes with Plain run's values); PlainLoops (`loops-exactly`); Operations (`puts-exactly`) and Guards
 // (`runs-exactly`): each operation, and the guard, as a proposition; OtherWords (`answered-alike`: of a line Accept looks at its target and
 // at ranges) with AnyOperation and AnyGuard; BodyLines (`line-of`, `allowed`).
-// Beneath 2.1, 2.2 and 2.3: Dropped (`dropped`: a test that Accept once had between its others; where all conditions before some tests hold,
-// Accept answers by those).
+// Beneath 2.1, 2.2 and 2.3: Dropped (`dropped`: a test that Accept once had between its others; where the conditions before it hold, Accept
+// answers by those after it).
 // Beneath 2.3: Fills (`fills`: every call of Fill), Makes (`makes`: every call of Make).
 // Beneath 2.5 and 2.8: Answered (`answered`: Accept's answer with the conditions that it stands for; `same-answer`: conditions that agree
 // give one answer; `alike`: then every call answers and leaves the same; `refused-declines`: what Accept refuses every call declines).
