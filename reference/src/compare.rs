@@ -236,7 +236,7 @@ pub fn records() -> Vec<Record> {
 
 /// The report's designs, document 01's cases, decimating filters, fixed point products, cleared accumulators, arrays at the limits, words
 /// of lines at the ends of their ranges, descriptions of the older length, and such that show common divisors or the walk.
-fn fixed_descriptions() -> Vec<Vec<u8>> {
+pub fn fixed_descriptions() -> Vec<Vec<u8>> {
     let designs = [
         report_designs(),
         worked_cases(),

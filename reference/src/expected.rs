@@ -17,7 +17,9 @@ use crate::loads;
 use crate::random::Random;
 use crate::random_script::scripts;
 use crate::replay::{bundle, replay, step_call, Call, Script};
+use crate::steps_text::steps_text;
 use crate::table::table_text;
+use crate::vector_counts;
 use crate::walk_text::walk_text;
 
 /// What a program is given, and the output that it should print.
@@ -27,10 +29,11 @@ struct Case {
     stdout: Vec<u8>,
 }
 
-/// A program's standard input, or the words of its command line.
+/// A program's standard input, the words of its command line, or both.
 enum Given {
     Stdin(Vec<u8>),
     Args(&'static [&'static str]),
+    Both(&'static [&'static str], Vec<u8>),
 }
 
 /// Every case that this implementation is responsible for.
@@ -44,6 +47,8 @@ fn cases() -> Vec<Case> {
         loads_case(),
         print_fill_case(),
         print_make_case(),
+        vector_counts_case(),
+        print_steps_case(),
     ]
 }
 
@@ -69,7 +74,7 @@ fn write_examples(directory: &Path) -> io::Result<()> {
     Ok(())
 }
 
-/// Each case as crates/NAME/stdin, or crates/NAME/args with a word to a line, and crates/NAME/stdout.
+/// Each case as crates/NAME/stdin, crates/NAME/args with a word to a line, or both, and crates/NAME/stdout.
 fn write_cases(directory: &Path) -> io::Result<()> {
     for case in cases() {
         let folder = directory.join("crates").join(case.name);
@@ -77,6 +82,10 @@ fn write_cases(directory: &Path) -> io::Result<()> {
         match case.given {
             Given::Stdin(bytes) => fs::write(folder.join("stdin"), bytes)?,
             Given::Args(words) => fs::write(folder.join("args"), lines(words))?,
+            Given::Both(words, bytes) => {
+                fs::write(folder.join("args"), lines(words))?;
+                fs::write(folder.join("stdin"), bytes)?;
+            }
         }
         fs::write(folder.join("stdout"), case.stdout)?;
     }
@@ -249,6 +258,26 @@ fn print_make_case() -> Case {
         name: "print_make",
         given: Given::Args(&["1", "2", "3", "2"]),
         stdout: generator::made(1, [2, 3, 2]).unwrap_or_default(),
+    }
+}
+
+/// The comparison of Step vectors.
+fn vector_counts_case() -> Case {
+    let records = vector_counts::records();
+    Case {
+        name: "vector_counts",
+        given: Given::Stdin(vector_counts::input(&records)),
+        stdout: vector_counts::text(&records).into_bytes(),
+    }
+}
+
+/// The counts of design one for the greatest k.
+fn print_steps_case() -> Case {
+    let stdin = designs::polynomial_one(2).bytes();
+    Case {
+        name: "print_steps",
+        stdout: steps_text(GAUGE, 3, &stdin).into_bytes(),
+        given: Given::Both(&["3"], stdin),
     }
 }
 

@@ -133,7 +133,7 @@ impl Array {
 // Instances.
 
 /// The number of whole points in the bounds.
-fn number_of_instances(description: &Description) -> i64 {
+pub fn number_of_instances(description: &Description) -> i64 {
     let bounds = description.left.iter().zip(&description.right);
     bounds
         .map(|(&left, &right)| i64::from(right - left + 1))

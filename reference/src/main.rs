@@ -1,4 +1,4 @@
-//! The command line: table, walk, replay, fill, make, random, expected.
+//! The command line: table, walk, steps, replay, fill, make, random, expected.
 
 use std::ffi::OsString;
 use std::fs;
@@ -12,11 +12,12 @@ use reference::fill_text::fill_text;
 use reference::generator::made;
 use reference::random_script::scripts;
 use reference::replay::{bundle, replay};
+use reference::steps_text::steps_text;
 use reference::table::table_text;
 use reference::walk_text::walk_text;
 
-const USAGE: &str = "usage: reference table [--board N] | walk [--board N] | replay \
-    | fill SEED N | make SEED R M B | random SEED N [DIR] | expected DIR";
+const USAGE: &str = "usage: reference table [--board N] | walk [--board N] | steps [--board N] K \
+    | replay | fill SEED N | make SEED R M B | random SEED N [DIR] | expected DIR";
 
 fn main() -> ExitCode {
     let arguments: Vec<OsString> = std::env::args_os().skip(1).collect();
@@ -41,6 +42,10 @@ fn command(arguments: &[OsString]) -> Result<(), String> {
         }
         (Some("walk"), [option, board]) if option == "--board" => {
             print_text(walk_text, number("N", board)?)
+        }
+        (Some("steps"), [k]) => print_steps(GAUGE, k),
+        (Some("steps"), [option, board, k]) if option == "--board" => {
+            print_steps(number("N", board)?, k)
         }
         (Some("replay"), []) => print(replay(&input()?).as_bytes()),
         (Some("fill"), [seed, n]) => {
@@ -68,9 +73,10 @@ fn command(arguments: &[OsString]) -> Result<(), String> {
         ),
         (Some("expected"), [directory]) => write_files(Path::new(directory))
             .map_err(|error| format!("cannot write {directory:?}: {error}")),
-        (Some("table" | "walk" | "replay" | "fill" | "make" | "random" | "expected"), _) => {
-            Err(format!("wrong arguments for {name:?}"))
-        }
+        (
+            Some("table" | "walk" | "steps" | "replay" | "fill" | "make" | "random" | "expected"),
+            _,
+        ) => Err(format!("wrong arguments for {name:?}")),
         _ => Err(format!("unknown command {name:?}")),
     }
 }
@@ -78,6 +84,12 @@ fn command(arguments: &[OsString]) -> Result<(), String> {
 /// Prints the text of the description on standard input for a board.
 fn print_text(text: impl Fn(u32, &[u8]) -> String, board: u32) -> Result<(), String> {
     print(text(board, &input()?).as_bytes())
+}
+
+/// Prints the counts of step vectors of the description on standard input for a board.
+fn print_steps(board: u32, k: &OsString) -> Result<(), String> {
+    let k = number("K", k)?;
+    print_text(|board, bytes| steps_text(board, k, bytes), board)
 }
 
 /// Prints the bytes of a made description; a refusal is a line on standard error.

@@ -4,7 +4,7 @@ use crate::board::Limits;
 use crate::description::{Description, Matrix};
 use crate::random::Random;
 use crate::random_description::{filled, laid_out, map_of_place, matrix};
-use crate::vectors::{dot, shortest, times, within_one, Point};
+use crate::vectors::{dot, shortest, times, vectors_within, within_one, Point};
 
 /// The most processes: enough for two instances at one process with a component of 20. There are none with a longer one, as its bounds
 /// would hold over 1,024 processes.
@@ -58,16 +58,7 @@ pub fn lines(place: &Matrix, step: &[i32]) -> Vec<Point> {
     let hops = 1..=Limits::GAUGE.hop;
     let line =
         |vector: &Point| within_one(&times(place, vector)) && hops.contains(&dot(step, vector));
-    vectors(step.len(), 2).filter(line).collect()
-}
-
-/// The vectors of components up to the reach.
-fn vectors(loops: usize, reach: i32) -> impl Iterator<Item = Point> {
-    let base = 2 * reach as usize + 1;
-    let number = base.pow(loops as u32);
-    let digit =
-        move |vector: usize, place: usize| (vector / base.pow(place as u32) % base) as i32 - reach;
-    (0..number).map(move |vector| (0..loops).map(|place| digit(vector, place)).collect())
+    vectors_within(step.len(), 2).filter(line).collect()
 }
 
 /// A map that has one of the lines as its own, or that of place.
@@ -81,7 +72,7 @@ fn map(random: &mut Random, nest: &Description, lines: &[Point]) -> Matrix {
 
 /// A matrix of words up to the reach that sends a vector to zero.
 pub fn across(random: &mut Random, vector: &[i32], reach: i32) -> Matrix {
-    let rows: Vec<Point> = vectors(vector.len(), reach)
+    let rows: Vec<Point> = vectors_within(vector.len(), reach)
         .filter(|row| dot(row, vector) == 0)
         .collect();
     (1..vector.len())

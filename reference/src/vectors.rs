@@ -26,6 +26,15 @@ pub fn within_one(vector: &[i32]) -> bool {
     vector.iter().all(|&word| (-1..=1).contains(&word))
 }
 
+/// The vectors of so many components, each from minus the reach to the reach.
+pub fn vectors_within(components: usize, reach: i32) -> impl Iterator<Item = Point> {
+    let base = 2 * reach as usize + 1;
+    let number = base.pow(components as u32);
+    let digit =
+        move |vector: usize, place: usize| (vector / base.pow(place as u32) % base) as i32 - reach;
+    (0..number).map(move |vector| (0..components).map(|place| digit(vector, place)).collect())
+}
+
 /// The place of a point in a list that is in row order and holds it.
 pub fn number_in(points: &[Point], point: &Point) -> usize {
     points.partition_point(|other| other < point)

@@ -12,7 +12,7 @@ use Rattle.meaning.specs.Tests.{refusal}
 use Rattle.meaning.specs.Loops.{progression, instances, lineOf}
 use Rattle.meaning.specs.Space.{points, widenAll, around, boxOf, sentTo, firstOf, lastOf}
 use Rattle.meaning.specs.Pipes.{stays, march, lineIn, pipe, usedOn, pipeElements}
-use Rattle.meaning.specs.Description.{nestOf, streamOf, bodyLine, descriptionOf}
+use Rattle.meaning.specs.Description.{bytes, nestOf, streamOf, bodyLine, descriptionOf}
 use Rattle.meaning.specs.Body.{runLines, touchedFrom, scatter, execute, executeAll}
 use Rattle.meaning.specs.Accept.{testsFrom, refusalOf, accept}
 use Rattle.meaning.specs.Array.{insertByStep, byStep, pipesFrom, arrayOf}
@@ -20,7 +20,7 @@ use Rattle.meaning.specs.Rules.{moveDown, sound, writeAll, apply, firstReady, r
 use Rattle.meaning.specs.Answers.{acceptNumber, acceptValues, ranNumber, ranValues}
 use Rattle.meaning.specs.Calls.{start, run, result}
 use Rattle.meaning.specs.Comparison.{Case, _is_, naturals, number, eqList, firstWrong, agree}
-use Rattle.meaning.specs.Designs.{bytes, line, pair, polynomial, designOne, values, startedWith, undivided}
+use Rattle.meaning.specs.Designs.{line, pair, polynomial, designOne, values, startedWith, undivided}
 
 -- the answer's number on a board
 abbrev on : ℕ → List ℕ → List ℤ
@@ -68,7 +68,7 @@ boards =
     ∷ []
 
 pub proved : map (λ c. c .got) boards ≡ map (λ c. c .wanted) boards
-unfolding eqList firstWrong bytes bitsAt wordAt gcdOf euclid filter any every position best bestOr total each numbersFrom refusal
+unfolding eqList firstWrong bitsAt wordAt gcdOf euclid filter any every position best bestOr total each numbersFrom refusal
     progression instances lineOf points widenAll around boxOf sentTo firstOf lastOf stays march lineIn pipe usedOn pipeElements nestOf
     streamOf bodyLine descriptionOf runLines touchedFrom scatter execute executeAll testsFrom refusalOf accept insertByStep byStep pipesFrom
     arrayOf moveDown sound writeAll apply firstReady runSteps applyAll start run result

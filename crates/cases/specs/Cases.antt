@@ -25,7 +25,7 @@ use Rattle.meaning.specs.Calls.{table, start, run, result, plainRun}
 use Rattle.meaning.specs.LongerStrides.{formerAccept}
 use Rattle.meaning.specs.Comparison.{Case, _is_, naturals, number, planar, eqList, firstWrong, agree}
 use Rattle.meaning.specs.Singles.{products, hops}
-use Rattle.meaning.specs.Designs.{bytes, pair, polynomial, designOne, designOneBy, designTwo, decimating, values, fixedValues, nest}
+use Rattle.meaning.specs.Designs.{pair, polynomial, designOne, designOneBy, designTwo, decimating, values, fixedValues, nest}
 use Rattle.meaning.specs.Designs.{stream, blank, startedWith, undivided}
 
 -- c's values by the plain run, and by the network run to its end from a state of n words, in two calls, which are computed sooner than one
@@ -116,7 +116,7 @@ abbrev pub cases : List Case
 cases = products ++ (hops ++ others)
 
 pub proved : map (λ c. c .got) cases ≡ map (λ c. c .wanted) cases
-unfolding eqList firstWrong bytes bitsAt wordAt gcdOf euclid filter any every position best bestOr total each numbersFrom refusal
+unfolding eqList firstWrong bitsAt wordAt gcdOf euclid filter any every position best bestOr total each numbersFrom refusal
     progression instances lineOf points widenAll around boxOf sentTo firstOf lastOf stays march lineIn pipe usedOn pipeElements nestOf
     streamOf bodyLine descriptionOf runLines touchedFrom scatter execute executeAll testsFrom refusalOf accept insertByStep byStep pipesFrom
     arrayOf moveDown sound writeAll apply firstReady runSteps applyAll table start run result plainRun

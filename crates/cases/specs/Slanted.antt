@@ -21,7 +21,7 @@ use Rattle.meaning.specs.Rules.{moveDown, sound, writeAll, apply, firstReady, r
 use Rattle.meaning.specs.Answers.{acceptValues, ranValues}
 use Rattle.meaning.specs.Calls.{table, start, run, result, plainRun}
 use Rattle.meaning.specs.Comparison.{Case, _is_, naturals, eqList, firstWrong, agree}
-use Rattle.meaning.specs.Designs.{bytes, blank, matrixSlanted, spaced, sixStreams, farApart, matrixValues, startedWith}
+use Rattle.meaning.specs.Designs.{blank, matrixSlanted, spaced, sixStreams, farApart, matrixValues, startedWith}
 
 -- the counts of the table's rows: 0 for a null process
 abbrev counts : List ℕ → ℕ → List ℤ
@@ -47,7 +47,7 @@ slanted =
     ∷ []
 
 pub proved : map (λ c. c .got) slanted ≡ map (λ c. c .wanted) slanted
-unfolding eqList firstWrong bytes bitsAt wordAt gcdOf euclid filter any every position best bestOr total each numbersFrom refusal
+unfolding eqList firstWrong bitsAt wordAt gcdOf euclid filter any every position best bestOr total each numbersFrom refusal
     progression instances lineOf points widenAll around boxOf sentTo firstOf lastOf stays march lineIn pipe usedOn pipeElements nestOf
     streamOf bodyLine descriptionOf runLines touchedFrom scatter execute executeAll testsFrom refusalOf accept insertByStep byStep pipesFrom
     arrayOf moveDown sound writeAll apply firstReady runSteps applyAll table start run result plainRun

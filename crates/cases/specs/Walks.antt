@@ -14,7 +14,7 @@ use Rattle.meaning.specs.Space.{points, widenAll, around, boxOf, sentTo, firstO
 use Rattle.meaning.specs.Description.{nestOf, streamOf, bodyLine, descriptionOf}
 use Rattle.meaning.specs.Walk.{walk, walkRefusal}
 use Rattle.meaning.specs.Comparison.{Case, _is_, number, planar, spatial, eqList, firstWrong, agree}
-use Rattle.meaning.specs.Designs.{bytes, pair, polynomial, designTwo, turned, decimating, matrixSlanted, nest}
+use Rattle.meaning.specs.Designs.{pair, polynomial, designTwo, turned, decimating, matrixSlanted, nest}
 
 -- the walk of two loops, and of three
 abbrev onPlane : List ℕ → List ℤ
@@ -56,6 +56,6 @@ walks =
     ∷ []
 
 pub proved : map (λ c. c .got) walks ≡ map (λ c. c .wanted) walks
-unfolding eqList firstWrong bytes bitsAt wordAt gcdOf euclid filter any every best bestOr each numbersFrom refusal progression instances
+unfolding eqList firstWrong bitsAt wordAt gcdOf euclid filter any every best bestOr each numbersFrom refusal progression instances
     lineOf points widenAll around boxOf sentTo firstOf lastOf nestOf streamOf bodyLine descriptionOf walk walkRefusal
 proved = agree walks refl

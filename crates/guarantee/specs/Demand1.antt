@@ -21,6 +21,7 @@ use Rattle.meaning.specs.Rules.{Memory}
 use Rattle.meaning.specs.Calls.{stateLength, refusedBy, memoryTests, tableTests, startTests, stepTests, readyTests, windowTests}
 use Rattle.meaning.specs.Calls.{resultTests, plainTests, started, stepOf, readyWord, table, start, step, run, readyCall, window, result}
 use Rattle.meaning.specs.Calls.{plainRun, rowOf}
+use Rattle.meaning.specs.StepVectors.{vectorTests, stepVectors}
 use Rattle.meaning.specs.Generator.{after, fillTests, fill, made, makeTests, make}
 use Rattle.meaning.specs.Demand1.{Values, Declined, NothingChanged, DemandOne}
 use Rattle.lists.specs.Rows.{length-numbers}
@@ -56,7 +57,7 @@ module _ (l : Limits) (s : List ℕ) where
   -- ---- declined calls
 
   unchanged : NothingChanged l s
-  unfolding table start step run readyCall window result plainRun fill make
+  unfolding table start step run readyCall window result plainRun fill make stepVectors
   unchanged =
       record {
         table = λ rows h. rw (not-zero (refusedBy l s (tableTests l s rows)) (λ e. h (numbers-are l s .table rows ∙ e)));
@@ -72,6 +73,7 @@ module _ (l : Limits) (s : List ℕ) where
             rw (not-zero (refusedBy l s (plainTests l s values output)) (λ e. h (numbers-are l s .plain values output ∙ e)));
         fill = λ seed n list h. rw (not-zero (refusal (fillTests seed n list)) (λ e. h (numbers-are l s .fill seed n list ∙ e)));
         make = λ seed z out h. rw (not-zero (refusal (makeTests seed z out)) (λ e. h (numbers-are l s .make seed z out ∙ e)));
+        vectors = λ k lent h. rw (not-zero (refusal (vectorTests l s k)) (λ e. h (numbers-are l s .vectors k lent ∙ e)));
       }
 
   -- ---- beyond the named length

@@ -6,3 +6,4 @@ pub mod Sums
 pub mod Loops
 pub mod Stores
 pub mod Fills
+pub mod Bytes

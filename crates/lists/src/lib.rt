@@ -7,6 +7,7 @@
 //   Loops     tests of numbers and of members, as a loop makes them that stops at the first answer
 //   Stores    a list of one value, and the values that `scatter` puts
 //   Fills     the first places of a list, stored by a loop
+//   Bytes     words as bytes, read again as written
 pub fn one() -> usize {
     1
 }

@@ -13,11 +13,12 @@ use mir.Syntax.{w32}
 use mir.Val.{ofZ}
 use Rattle.meaning.specs.declared.Sizes.{Sizes}
 use Rattle.meaning.specs.Lists.{each}
-use Rattle.meaning.specs.Description.{wordsOf}
-use Rattle.meaning.specs.Generator.{after, bytesOf, drawn, madeWords, made}
+use Rattle.meaning.specs.Description.{bytesOf, bytes, wordsOf}
+use Rattle.meaning.specs.Generator.{after, drawn, madeWords, made}
 use Rattle.lists.specs.Members.{each-append}
+use Rattle.lists.specs.Bytes.{bytes-length}
 use Rattle.words.specs.Stored.{stored, stored-paste}
-use Rattle.generated.specs.Made.{bytes, bytes-length, words-length, word-drawn}
+use Rattle.generated.specs.Made.{words-length, word-drawn}
 
 -- the bits of word k
 abbrev pub bitsOf : List ℤ → ℕ → ℕ

@@ -19,7 +19,7 @@ acceptValues (Acceptance.the-variants.Accepted f g) =
     ∷ g .place ∷ g .stream0 ∷ g .stream1 ∷ g .stream2 ∷ g .stream3 ∷ g .stream4 ∷ g .stream5 ∷ []
 acceptValues (Acceptance.the-variants.Refused n) = []
 
--- Table, Start, Step, Result, Plain run, Fill: no values
+-- Table, Start, Step, Result, Plain run, Fill, Step vectors: no values
 abbrev pub answerNumber : Answer.Answer → ℕ
 answerNumber Answer.the-variants.Done = 0
 answerNumber (Answer.the-variants.Refused n) = n

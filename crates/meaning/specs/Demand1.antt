@@ -22,6 +22,7 @@ use Rattle.meaning.specs.Calls.{lengthOf, stateLength, refusedBy, memory
 use Rattle.meaning.specs.Calls.{windowTests, resultTests, plainTests, stepOf, canMove, table, start, step, run, readyCall, window}
 use Rattle.meaning.specs.Calls.{result, plainRun}
 use Rattle.meaning.specs.Generator.{fillTests, fill, makeTests, make}
+use Rattle.meaning.specs.StepVectors.{vectorTests, stepVectors}
 
 -- ---- "a declined call answers its number": that of the first test that applies, 0 if none does; "where several apply, the first in the
 -- order listed"
@@ -40,6 +41,7 @@ pub record Numbers (l : Limits) (s : List ℕ) : Type 0 where
   pub plain : (values output : List ℕ) → answerNumber (plainRun l s values output .answer) ≡ refusedBy l s (plainTests l s values output)
   pub fill : (seed n : ℕ) (list : List ℕ) → answerNumber (fill seed n list .answer) ≡ refusal (fillTests seed n list)
   pub make : (seed : ℕ) (z : Sizes) (out : List ℕ) → madeNumber (make seed z out .answer) ≡ refusal (makeTests seed z out)
+  pub vectors : (k : ℕ) (lent : List ℕ) → answerNumber (stepVectors l s k lent .answer) ≡ refusal (vectorTests l s k)
 
 -- ---- the values of an answer that is no refusal
 
@@ -83,6 +85,7 @@ pub record NothingChanged (l : Limits) (s : List ℕ) : Type 0 where
       → plainRun l s values output .output ≡ output
   pub fill : (seed n : ℕ) (list : List ℕ) → Declined (answerNumber (fill seed n list .answer)) → fill seed n list .list ≡ list
   pub make : (seed : ℕ) (z : Sizes) (out : List ℕ) → Declined (madeNumber (make seed z out .answer)) → make seed z out .output ≡ out
+  pub vectors : (k : ℕ) (lent : List ℕ) → Declined (answerNumber (stepVectors l s k lent .answer)) → stepVectors l s k lent .counts ≡ lent
 
 -- ---- "words beyond the named length never change": rows past P, words past those that Accept counts, ready words past the 16th, places
 -- past the n-th, bytes past a description. All other lists are lent as long as they are used, or the call is declined

@@ -1,12 +1,14 @@
--- Document 01, "The description": bytes to signed words, the length that the sizes give, the range of every word, decoding; refusals 1 to
+-- Document 01, "The description": signed words as bytes and bytes to words, the length that the sizes give, the range of every word, decoding; refusals 1 to
 -- 5.
 use mathlib.Core.Bool.{Bool, not, cond, _&&_, _||_}
-use mathlib.Core.List.{List, map, _++_}
-use Prim.Native.Nat.{ℕ, suc, _+_, _*_, _-_, _%_}
+use mathlib.Core.List.{List, [], _∷_, map, _++_}
+use Prim.Native.Nat.{ℕ, suc, _+_, _*_, _-_, _/_, _%_}
 use lib.Dec.{eqb, leb, ltb}
 use lib.ListN.{length, take, replicate}
 use lib.IntN.{ℤ, pos, negsuc}
 use lib.Signed.{leZ, ltZ}
+use mir.Syntax.{w32}
+use mir.Val.{ofZ}
 use Rattle.integers.specs.Bytes.{bitsAt, wordAt}
 use Rattle.integers.specs.Words.{eqZ}
 use Rattle.integers.specs.Vectors.{zero2, zero3}
@@ -19,9 +21,18 @@ use Rattle.meaning.specs.declared.Nest.{Nest}
 use Rattle.meaning.specs.declared.Stream.{Stream}
 use Rattle.meaning.specs.declared.Line.{Line}
 use Rattle.meaning.specs.declared.Description.{Description}
-use Rattle.meaning.specs.Lists.{every, any, numbers, numbersFrom}
+use Rattle.meaning.specs.Lists.{every, any, each, numbers, numbersFrom}
 use Rattle.meaning.specs.Operations.{lastOperation}
 use Rattle.meaning.specs.Guards.{lastComparison}
+
+-- ---- words as bytes
+
+-- "signed 32-bit words, least byte first": the bytes of 32 bits, and of words
+abbrev pub bytesOf : ℕ → List ℕ
+bytesOf u = u % 256 ∷ u / 256 % 256 ∷ u / 65536 % 256 ∷ u / 16777216 % 256 ∷ []
+
+abbrev pub bytes : List ℤ → List ℕ
+bytes ws = each (λ w. bytesOf (ofZ w32 w)) ws
 
 -- ---- sizes and lengths
 

@@ -1,26 +1,16 @@
 -- The documents' designs as a user gives them, bytes, and what the cases lend to a call.
 use mathlib.Core.List.{List, [], _∷_, _++_}
-use Prim.Native.Nat.{ℕ, _/_, _%_}
+use Prim.Native.Nat.{ℕ}
 use lib.ListN.{length, getD, replicate}
 use lib.IntN.{ℤ, pos, negsuc}
-use mir.Syntax.{w32}
-use mir.Val.{ofZ}
 use Rattle.meaning.specs.declared.Nest.{Nest}
 use Rattle.meaning.specs.declared.Stream.{Stream}
 use Rattle.meaning.specs.declared.Row.{Row}
 use Rattle.meaning.specs.Limits.{gaugeLimits}
 use Rattle.meaning.specs.Lists.{each}
-use Rattle.meaning.specs.Description.{noStream, descriptionOf}
+use Rattle.meaning.specs.Description.{bytes, noStream, descriptionOf}
 use Rattle.meaning.specs.Rules.{Memory}
 use Rattle.meaning.specs.Calls.{start}
-
--- signed words, least byte first
-abbrev pub wordBytes : ℕ → List ℕ
-wordBytes u = (u % 256) ∷ (u / 256 % 256) ∷ (u / 65536 % 256) ∷ (u / 16777216 % 256) ∷ []
-
-unfoldable pub bytes : List ℤ → List ℕ
-bytes [] = []
-bytes (z ∷ l) = wordBytes (ofZ w32 z) ++ bytes l
 
 -- ---- bodies: streams a, b, c are 0, 1, 2, scratch is 3
 

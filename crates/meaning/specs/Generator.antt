@@ -7,15 +7,13 @@ use lib.Dec.{eqb, ltb}
 use lib.ListN.{length, drop}
 use lib.Bits.{bitXor}
 use lib.IntN.{ℤ, pos, negsuc, natAbs, _+ℤ_, _-ℤ_}
-use mir.Syntax.{w32}
-use mir.Val.{ofZ}
 use Rattle.meaning.specs.declared.Range.{Range}
 use Rattle.meaning.specs.declared.Sizes.{Sizes}
 use Rattle.meaning.specs.declared.Answer.{Answer}
 use Rattle.meaning.specs.declared.Made as Made
-use Rattle.meaning.specs.Lists.{each, numbers, numbersFrom}
+use Rattle.meaning.specs.Lists.{numbers, numbersFrom}
 use Rattle.meaning.specs.Tests.{Test, _if_, refusal}
-use Rattle.meaning.specs.Description.{wordsOf, rangeAt, isDirection, refused2}
+use Rattle.meaning.specs.Description.{bytes, wordsOf, rangeAt, isDirection, refused2}
 use Rattle.meaning.specs.Calls.{answer}
 
 -- ---- the generator
@@ -96,12 +94,8 @@ abbrev pub madeWords : Sizes → ℕ → List ℤ
 madeWords z seed =
     pos (z .loops) ∷ pos (z .streams) ∷ pos (z .lines) ∷ map (λ k. drawn z k (after (k - 2) seed)) (numbersFrom 3 (wordsOf z - 3))
 
--- document 01: "signed 32-bit words, least byte first"
-abbrev pub bytesOf : ℕ → List ℕ
-bytesOf u = u % 256 ∷ u / 256 % 256 ∷ u / 65536 % 256 ∷ u / 16777216 % 256 ∷ []
-
 abbrev pub made : Sizes → ℕ → List ℕ
-made z seed = each (λ w. bytesOf (ofZ w32 w)) (madeWords z seed)
+made z seed = bytes (madeWords z seed)
 
 -- an answer, and the output afterwards
 pub record Described : Type 0 where

@@ -16,12 +16,14 @@ pub mod Body
 pub mod Lines
 pub mod Accept
 pub mod Conditions
+pub mod Parts
 pub mod Array
 pub mod State
 pub mod Rules
 pub mod Answers
 pub mod Calls
 pub mod Generator
+pub mod StepVectors
 pub mod Demand1
 pub mod Alike
 pub mod Demand2
@@ -35,7 +37,9 @@ pub mod CommonDivisors
 pub mod Walk
 pub mod BenchBoard
 pub mod GeneratedLoad
+pub mod HowManyWork
 pub mod Designs
 pub mod Comparison
 pub mod Singles
 pub mod Loads
+pub mod Choices

@@ -15,7 +15,7 @@ use Rattle.meaning.specs.Loops.{progression, instances, lineOf, incremen
 use Rattle.meaning.specs.Space.{points, widenAll, around, boxOf, sentTo, firstOf, lastOf}
 use Rattle.meaning.specs.Streams.{hop}
 use Rattle.meaning.specs.Pipes.{stays, march, lineIn, pipe, usedOn, pipeElements}
-use Rattle.meaning.specs.Description.{nestOf, streamOf, bodyLine, descriptionOf}
+use Rattle.meaning.specs.Description.{bytes, nestOf, streamOf, bodyLine, descriptionOf}
 use Rattle.meaning.specs.Body.{runLines, touchedFrom, scatter, execute, executeAll}
 use Rattle.meaning.specs.Accept.{testsFrom, refusalOf, accept}
 use Rattle.meaning.specs.Array.{insertByStep, byStep, pipesFrom, arrayOf}
@@ -24,7 +24,7 @@ use Rattle.meaning.specs.Answers.{acceptNumber, acceptValues, answerNumb
 use Rattle.meaning.specs.Calls.{table, start, step, run, readyCall, window, result, plainRun}
 use Rattle.meaning.specs.FixedPoint as FixedPoint
 use Rattle.meaning.specs.Comparison.{Case, _is_, naturals, number, planar, rowWords, eqList, firstWrong, agree}
-use Rattle.meaning.specs.Designs.{bytes, guarded, line, product, pair, polynomial, polynomialBy, designOne, designOneWith, designTwo}
+use Rattle.meaning.specs.Designs.{guarded, line, product, pair, polynomial, polynomialBy, designOne, designOneWith, designTwo}
 use Rattle.meaning.specs.Designs.{values, uncleared, turned, decimating, matrixProduct, matrixRising, matrixValues, columnWith}
 use Rattle.meaning.specs.Designs.{clearedOne, clearedTurned, clearedColumn, nest, blank, lent, startedWith, startedOn, undivided}
 use Rattle.meaning.specs.Designs.{designOneBy, stream}
@@ -281,7 +281,7 @@ abbrev pub singles : List Case
 singles = calls ++ (threePlaces ++ (nullProcess ++ (guards ++ (products ++ hops))))
 
 pub proved : map (λ c. c .got) singles ≡ map (λ c. c .wanted) singles
-unfolding eqList firstWrong bytes bitsAt wordAt gcdOf euclid filter any every position best bestOr total each numbersFrom refusal
+unfolding eqList firstWrong bitsAt wordAt gcdOf euclid filter any every position best bestOr total each numbersFrom refusal
     progression instances lineOf points widenAll around boxOf sentTo firstOf lastOf stays march lineIn pipe usedOn pipeElements nestOf
     streamOf bodyLine descriptionOf runLines touchedFrom scatter execute executeAll testsFrom refusalOf accept insertByStep byStep pipesFrom
     arrayOf moveDown sound writeAll apply firstReady runSteps applyAll table start step run readyCall window result plainRun

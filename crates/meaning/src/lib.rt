@@ -12,12 +12,14 @@
 //   Description       bytes to words, lengths, ranges, decoding
 //   Body              lines, one instance on a store, the plain run
 //   Ranges, Lines     laws of ranges and of lines that mathematics and code share
+//   Parts             parts of descriptions that are read from the same words are the same
 //   Accept            the refusals 33 and 1 to 17 without 9, named one by one and chained; the figures and the divisors
 //   Points, Sorted    points, lines, boxes and lists in order as propositions
 //   Array, State      what the rules look at; the words of the state and where they stand
 //   Rules             send, take, fire, give, receive: ready and apply; sound; the lowest ready step
 //   Answers, Calls    the numbers and values of answers; the nine calls: the answer and every lent list afterwards
 //   Generator         request 2.3: rounds of the generator, and the calls Fill and Make
+//   StepVectors       request 2.10: the description with every small step vector, and the call Step vectors
 //   Conditions        the conditions of acceptance said a second time, as propositions; demand 2: accepted and refused exactly by them
 //   Demand1           what all calls have in common: numbers and values of answers, nothing changed, nothing written beyond
 //   Alike             one description under two limits, call by call: answered alike, or declined
@@ -33,10 +35,12 @@
 //   Walk              request 2.4: the walk by process, what a whole walk comes to, and Accept with the check along it
 //   BenchBoard        request 2.9: what a board word changes, and what it leaves
 //   GeneratedLoad     request 2.3: what Fill and Make leave, by places and words, and that states and seeds are told apart
+//   HowManyWork       request 2.10: what Step vectors leaves, count by count, and that the vectors are all there, each once
 //   Designs           the documents' designs as bytes
 //   Singles           cases that hold the rules, computed as one table (Comparison): tables, single steps and declined calls; `cases` has
 //                     document 01's cases marked P, and `whole_runs` whole runs
 //   Loads             cases of request 2.3, computed as one table
+//   Choices           cases of request 2.10, computed as one table
 //
 // Two loops are three, the third running from 0 to 0: its direction is 1, its step coefficient 0; place and every index map get a second
 // row (0, 0, 1), and a loading vector a second component 0. Then one set of definitions serves both.
@@ -71,6 +75,9 @@ pub const STREAMS: usize = 6;
 pub const ELEMENTS: usize = STREAMS * INSTANCES;
 
 pub const PIPES: usize = STREAMS * PROCESSES;
+
+// The answers that Step vectors counts (`StepVectors.answerCount`).
+pub const ANSWERS: usize = 18;
 
 // The words of a state (docs/STATE.md).
 pub const STATE_WORDS: usize = PROCESSES * (1 + STREAMS * (4 + HOP as usize))

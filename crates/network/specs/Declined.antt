@@ -21,6 +21,7 @@ use Rattle.meaning.specs.Calls.{lengthOf, stateLength, orElse, memoryTests, ref
 use Rattle.meaning.specs.Calls.{isNothing, readyAt, stepTests, step, run, readyTests, readyCall, window, allOut, resultTests, result}
 use Rattle.meaning.specs.Calls.{plainTests, plainRun}
 use Rattle.meaning.specs.Generator.{fillTests, fill, makeTests, make}
+use Rattle.meaning.specs.StepVectors.{vectorTests, stepVectors}
 use Rattle.meaning.specs.Demand1.{Numbers}
 use Rattle.meaning.specs.Alike.{DeclinedBy}
 use Rattle.meaning.specs.Demand3.{Call, CallStep, CallRun, CallReady, CallWindow, CallResult, declinedBy, NotByMemory}
@@ -37,7 +38,7 @@ chosen {B} number n {a} {r} za zr = go (eqb n 0) (eqb-true n 0)
     go false h = zr
 
 pub numbers-are : (l : Limits) (s : List ℕ) → Numbers l s
-unfolding accept table start step run readyCall window result plainRun fill make
+unfolding accept table start step run readyCall window result plainRun fill make stepVectors
 numbers-are l s =
     record {
       accept = chosen acceptNumber (refusalOf l s) refl refl;
@@ -51,6 +52,7 @@ numbers-are l s =
       plain = λ values output. chosen answerNumber (refusedBy l s (plainTests l s values output)) refl refl;
       fill = λ seed n list. chosen answerNumber (refusal (fillTests seed n list)) refl refl;
       make = λ seed z out. chosen madeNumber (refusal (makeTests seed z out)) refl refl;
+      vectors = λ k lent. chosen answerNumber (refusal (vectorTests l s k)) refl refl;
     }
 
 -- what is refused is declined by every call

@@ -7,15 +7,10 @@ use Prim.Native.Nat.{ℕ, zero, suc, _+_, _-_, _≤_, _<_}
 use native.Mathlib.Omega.{arith}
 use lib.Dec.{eqb, ltb}
 use lib.ListN.{length, replicate, take}
-use lib.IntN.{ℤ, pos}
+use lib.IntN.{pos}
 use mir.Syntax.{w32}
 use mir.Val.{toZ}
-use borrow.Author.Tests.{eqb-true, eqb-false}
-use Rattle.integers.specs.Order.{part}
 use Rattle.integers.specs.Bytes.{bitsAt, wordAt}
-use Rattle.integers.specs.declared.V3.{V3}
-use Rattle.integers.specs.declared.V2.{V2}
-use Rattle.integers.specs.declared.Matrix.{Matrix}
 use Rattle.meaning.specs.declared.Limits.{Limits}
 use Rattle.meaning.specs.declared.Sizes.{Sizes}
 use Rattle.meaning.specs.declared.Stream.{Stream}
@@ -25,11 +20,12 @@ use Rattle.meaning.specs.declared.Acceptance.{Acceptance}
 use Rattle.meaning.specs.declared.Acceptance.the-variants.{Accepted, Refused}
 use Rattle.meaning.specs.Tests.{_if_, refusal}
 use Rattle.meaning.specs.Lists.{any, numbersFrom}
-use Rattle.meaning.specs.Description.{sizesOf, matrixWords, leftAt, rightAt, directionAt, stepAt, placeAt, mapAt, loadingAt, lineAt}
-use Rattle.meaning.specs.Description.{wordsOf, inRange, vectorAt, unit3, matrixAt, nestOf, loadingOf, streamOf, bodyLine, noStream}
+use Rattle.meaning.specs.Description.{sizesOf, leftAt, rightAt, directionAt, stepAt, placeAt, lineAt}
+use Rattle.meaning.specs.Description.{wordsOf, inRange, nestOf, streamOf, bodyLine, noStream}
 use Rattle.meaning.specs.Description.{descriptionOf, streamsOf, written, refused1, refused2, refused3, refused4}
 use Rattle.meaning.specs.Accept.{refused33, nestTests, testsFrom, refusalOf, figures, divisors, accept}
 use Rattle.meaning.specs.Conditions.{SizesFit}
+use Rattle.meaning.specs.Parts.{vector-same, matrix-same, stream-same}
 use Rattle.lists.specs.Rows.{same-numbers, same-every}
 use Rattle.abstract_network.specs.Cases.{Order, less, atLeast, order}
 use Rattle.network.specs.Decide.{Says, says-true}
@@ -116,65 +112,21 @@ module _ {s t : List ℕ} (o : OtherWords s t) where
   -- ---- what stands before the body
 
   module _ (h : SizesFit z) where
-    three : (z .loops ≡ 2 → ⊥) → z .loops ≡ 3
-    three f = go (z .loops) (h .loops .0) (h .loops .1) f
-      where
-        go : (r : ℕ) → 2 ≤ r → r ≤ 3 → (r ≡ 2 → ⊥) → r ≡ 3
-        go r a b f = omega arith
-
-    vector-same : (k : ℕ) (pad : ℤ) → k + z .loops ≤ lineAt z 0 → vectorAt s z k pad ≡ vectorAt t z k pad
-    vector-same k pad m = go (eqb (z .loops) 2) (eqb-false (z .loops) 2)
-      where
-        go : (b : Bool) → (b ≡ false → z .loops ≡ 2 → ⊥)
-            → _≡_ {A = V3} (record { x = wordAt s k; y = wordAt s (k + 1); z = cond b pad (wordAt s (k + 2)) })
-            (record { x = wordAt t k; y = wordAt t (k + 1); z = cond b pad (wordAt t (k + 2)) })
-        go true f = rw (word k (omega (arith, h .loops)), word (k + 1) (omega (arith, h .loops)))
-        go false f = let n = three (f refl) in rw (word k (omega arith), word (k + 1) (omega arith), word (k + 2) (omega arith))
-
-    matrix-same : (k : ℕ) → k + matrixWords z ≤ lineAt z 0 → matrixAt s z k ≡ matrixAt t z k
-    matrix-same k m = go (eqb (z .loops) 2) (eqb-true (z .loops) 2) (eqb-false (z .loops) 2)
-      where
-        go : (b : Bool) → (b ≡ true → z .loops ≡ 2) → (b ≡ false → z .loops ≡ 2 → ⊥)
-            → _≡_ {A = Matrix} (record { top = vectorAt s z k (pos 0); low = cond b unit3 (vectorAt s z (k + 3) (pos 0)) })
-            (record { top = vectorAt t z k (pos 0); low = cond b unit3 (vectorAt t z (k + 3) (pos 0)) })
-        go true e f = let g : matrixWords z ≡ 2 = rw (e refl) refl in rw (vector-same k (pos 0) (omega (arith, e refl)))
-        go false e f =
-            let n = three (f refl) in
-            let g : matrixWords z ≡ 6 = rw n refl in
-            rw (vector-same k (pos 0) (omega arith), vector-same (k + 3) (pos 0) (omega arith))
-
     nest-same : nestOf s z ≡ nestOf t z
     unfolding nestOf
     nest-same =
         rw (
-          vector-same (leftAt z) (pos 0) (omega arith),
-          vector-same (rightAt z) (pos 0) (omega arith),
-          vector-same (directionAt z) (pos 1) (omega arith),
-          vector-same (stepAt z) (pos 0) (omega arith),
-          matrix-same (placeAt z) (omega arith),
+          vector-same s t h (leftAt z) (pos 0) (λ j _ m. word j (omega arith)),
+          vector-same s t h (rightAt z) (pos 0) (λ j _ m. word j (omega arith)),
+          vector-same s t h (directionAt z) (pos 1) (λ j _ m. word j (omega arith)),
+          vector-same s t h (stepAt z) (pos 0) (λ j _ m. word j (omega arith)),
+          matrix-same s t h (placeAt z) (λ j _ m. word j (omega arith)),
         )
-
-    stream-same : (i : ℕ) → i < z .streams → streamOf s z i ≡ streamOf t z i
-    unfolding streamOf
-    stream-same i m =
-        rw (
-          matrix-same (mapAt z i) (omega (arith, part m (matrixWords z))),
-          loading-same (loadingAt z i) (omega (arith, part m (z .loops - 1))),
-        )
-      where
-        loading-same : (k : ℕ) → k + (z .loops - 1) ≤ lineAt z 0 → loadingOf s z k ≡ loadingOf t z k
-        loading-same k m = go (eqb (z .loops) 2) (eqb-false (z .loops) 2)
-          where
-            go : (b : Bool) → (b ≡ false → z .loops ≡ 2 → ⊥)
-                → _≡_ {A = V2} (record { a = wordAt s k; b = cond b (pos 0) (wordAt s (k + 1)) })
-                (record { a = wordAt t k; b = cond b (pos 0) (wordAt t (k + 1)) })
-            go true f = rw (word k (omega (arith, h .loops)))
-            go false f = let n = three (f refl) in rw (word k (omega arith), word (k + 1) (omega arith))
 
     streams-same : decoded s z .streams ≡ decoded t z .streams
     streams-same =
         ap (λ (l : List Stream). l ++ replicate (6 - z .streams) noStream)
-        (same-numbers (streamOf s z) (streamOf t z) 0 (z .streams) (λ i _ m. stream-same i (omega arith)))
+        (same-numbers (streamOf s z) (streamOf t z) 0 (z .streams) (λ i _ m. stream-same s t h i (omega arith) (λ j _ l. word j l)))
 
   -- ---- the streams that are written
 

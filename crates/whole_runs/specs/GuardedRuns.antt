@@ -18,7 +18,7 @@ use Rattle.meaning.specs.Array.{insertByStep, byStep, pipesFrom, arrayOf}
 use Rattle.meaning.specs.Rules.{moveDown, sound, writeAll, apply, firstReady, runSteps, applyAll}
 use Rattle.meaning.specs.Calls.{start, run, result, plainRun}
 use Rattle.meaning.specs.Comparison.{Case, _is_, naturals, eqList, firstWrong, agree}
-use Rattle.meaning.specs.Designs.{bytes, uncleared, clearedOne, clearedTurned, clearedColumn, startedWith}
+use Rattle.meaning.specs.Designs.{uncleared, clearedOne, clearedTurned, clearedColumn, startedWith}
 use Rattle.whole_runs.specs.Runs.{backwards}
 
 -- request 2.5: a design run to its end from a state of n words, the lowest ready step first and the highest, leaves what the plain run does
@@ -40,7 +40,7 @@ cleared =
     ++ bothWays clearedColumn (1 ∷ 2 ∷ 3 ∷ 4 ∷ 5 ∷ 6 ∷ 7 ∷ 8 ∷ []) 44 (1 ∷ 2 ∷ 3 ∷ 4 ∷ 5 ∷ 6 ∷ 17 ∷ 39 ∷ []))
 
 pub proved : map (λ c. c .got) cleared ≡ map (λ c. c .wanted) cleared
-unfolding eqList firstWrong backwards bytes bitsAt wordAt gcdOf euclid filter any every position best bestOr total each numbersFrom refusal
+unfolding eqList firstWrong backwards bitsAt wordAt gcdOf euclid filter any every position best bestOr total each numbersFrom refusal
     progression instances lineOf points widenAll around boxOf sentTo firstOf lastOf stays march lineIn pipe usedOn pipeElements nestOf
     streamOf bodyLine descriptionOf runLines touchedFrom scatter execute executeAll testsFrom refusalOf accept insertByStep byStep pipesFrom
     arrayOf moveDown sound writeAll apply firstReady runSteps applyAll start run result plainRun

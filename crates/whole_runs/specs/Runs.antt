@@ -22,7 +22,7 @@ use Rattle.meaning.specs.Rules.{applyAll}
 use Rattle.meaning.specs.Answers.{acceptValues, answerNumber, ranValues, readyValues}
 use Rattle.meaning.specs.Calls.{start, run, readyCall, window, result, plainRun}
 use Rattle.meaning.specs.Comparison.{Case, _is_, naturals, number, eqList, firstWrong, agree}
-use Rattle.meaning.specs.Designs.{bytes, designOne, designTwo, values, turned, decimating, columnProduct, startedWith, startedOn, undivided}
+use Rattle.meaning.specs.Designs.{designOne, designTwo, values, turned, decimating, columnProduct, startedWith, startedOn, undivided}
 
 -- the highest ready step first, n times
 abbrev onward : Memory → (Step → Memory) → Found → Memory
@@ -119,7 +119,7 @@ abbrev pub more : List Case
 more = one ++ (two ++ (ordered ++ (spatialRun ++ decimated)))
 
 pub proved : map (λ c. c .got) more ≡ map (λ c. c .wanted) more
-unfolding eqList firstWrong backwards bytes bitsAt wordAt gcdOf euclid filter any every position best bestOr total each numbersFrom refusal
+unfolding eqList firstWrong backwards bitsAt wordAt gcdOf euclid filter any every position best bestOr total each numbersFrom refusal
     progression instances lineOf points widenAll around boxOf sentTo firstOf lastOf stays march lineIn pipe usedOn pipeElements nestOf
     streamOf bodyLine descriptionOf runLines touchedFrom scatter execute executeAll testsFrom refusalOf accept insertByStep byStep pipesFrom
     arrayOf moveDown sound writeAll apply firstReady runSteps applyAll start run readyCall window result plainRun

@@ -12,6 +12,7 @@ use reference::expected::vectors;
 use reference::generator::{made, values};
 use reference::random_script::scripts;
 use reference::replay::replay;
+use reference::steps_text::steps_text;
 use reference::table::table_text;
 use reference::walk_text::walk_text;
 
@@ -86,6 +87,29 @@ fn boards() {
         assert_eq!(on_the_bench(&grid(17, 16, 3).bytes()), b"refused 10\n");
         assert_eq!(run(&[name, "--board", "2"], &[]).stdout, b"refused 33\n");
     }
+}
+
+/// Request 2.10: eighteen lines, or the refusal.
+#[test]
+fn steps() {
+    let steps = |arguments: &[&str], description: &[u8]| {
+        let output = run(&[&["steps"], arguments].concat(), description);
+        assert!(output.status.success() && output.stderr.is_empty());
+        String::from_utf8(output.stdout).expect("plain text")
+    };
+    let one = polynomial_one(2).bytes();
+    assert_eq!(steps(&["1"], &one), steps_text(GAUGE, 1, &one));
+    assert_eq!(steps(&["4"], &one), "refused 34\n");
+    assert_eq!(steps(&["4294967295"], &[]), "refused 34\n");
+    assert_eq!(steps(&["0"], &[]), "refused 1\n");
+    let wide = grid(17, 16, 3).bytes();
+    for board in ["0", "1"] {
+        let text = steps_text(board.parse().expect("a number"), 2, &wide);
+        assert_eq!(steps(&["--board", board, "2"], &wide), text);
+    }
+    let large = polynomial_one(63).bytes();
+    assert_eq!(steps(&["--board", "1", "2"], &large), "refused 6\n");
+    assert_eq!(steps(&["--board", "2", "4"], &large), "refused 33\n");
 }
 
 /// Request 2.3: a value to a line, or the refusal.
@@ -182,7 +206,14 @@ fn expected_files() {
         assert!(!(2..1000).any(|d| left(&d)), "{line}");
     }
     assert!(output.contains("2147483648 -1 0 0\n"));
-    for program in ["print_table", "print_walk", "compare", "replay", "loads"] {
+    for program in [
+        "print_table",
+        "print_walk",
+        "compare",
+        "replay",
+        "loads",
+        "vector_counts",
+    ] {
         let folder = place.join("crates").join(program);
         assert!(["stdin", "stdout"]
             .iter()
@@ -202,6 +233,12 @@ fn expected_files() {
         assert_eq!(output, run(&arguments, &[]).stdout);
         assert!(!folder.join("stdin").exists());
     }
+    // This one is given both.
+    let folder = place.join("crates").join("print_steps");
+    let file = |name: &str| fs::read(folder.join(name)).expect("a file");
+    assert_eq!(file("args"), b"3\n");
+    assert_eq!(file("stdin"), polynomial_one(2).bytes());
+    assert_eq!(file("stdout"), run(&["steps", "3"], &file("stdin")).stdout);
     for example in examples() {
         let file = place.join("examples").join(format!("{}.bin", example.name));
         let bytes = fs::read(file).expect("an example");
@@ -216,7 +253,7 @@ fn expected_files() {
 
 #[test]
 fn bad_arguments() {
-    let bad: [&[&str]; 37] = [
+    let bad: [&[&str]; 45] = [
         &[],
         &["tables"],
         &[""],
@@ -228,6 +265,14 @@ fn bad_arguments() {
         &["table", "--bench", "1"],
         &["walk", "--board", "4294967296"],
         &["walk", "--board", "1", "more"],
+        &["steps"],
+        &["steps", "one"],
+        &["steps", "-1"],
+        &["steps", "4294967296"],
+        &["steps", "1", "1"],
+        &["steps", "--board", "1"],
+        &["steps", "--board", "bench", "1"],
+        &["steps", "1", "--board", "1"],
         &["replay", "--board", "1"],
         &["replay", "more"],
         &["fill"],
@@ -278,10 +323,10 @@ fn arguments_that_are_no_text() {
 #[cfg(unix)]
 #[test]
 fn unreadable_input() {
-    for name in ["table", "walk", "replay"] {
+    for arguments in [&["table"][..], &["walk"], &["steps", "1"], &["replay"]] {
         let folder = File::open(env!("CARGO_TARGET_TMPDIR")).expect("a directory");
         check_bad(
-            &command(&[name])
+            &command(arguments)
                 .stdin(folder)
                 .output()
                 .expect("the program ends"),

@@ -7,6 +7,7 @@ mod fixed_point;
 mod generated_load;
 mod guards;
 mod longer_strides;
+mod step_vectors;
 mod walk;
 
 use reference::board::GAUGE;

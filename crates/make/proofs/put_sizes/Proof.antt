@@ -1,7 +1,7 @@
 -- `make::put_sizes` meets its contract. Assumes nothing.
 use mathlib.Core.Path.{_∙_, ap}
 use borrow.Author.Needs.{needs}
-use Rattle.meaning.specs.Generator.{bytesOf}
+use Rattle.meaning.specs.Description.{bytesOf}
 use Rattle.words.specs.Stored.{stored}
 use Rattle.make.proofs.put_sizes.Statement.{statement}
 use Rattle.make.proofs.put_sizes.Tie as tie
