@@ -38,8 +38,9 @@ const TURNS: [u32; 7] = [0, 1, 2, 3, 1, 2, 3];
 const FEW: i64 = 300;
 
 /// How many random descriptions there are of each kind.
-const REFUSED: usize = 10;
-const REFUSED_BY_10: usize = 6;
+const DECLINED: usize = 8;
+const REFUSED: usize = 16;
+const REFUSED_BY_10: usize = 8;
 const STRIDED_AND_REFUSED: usize = 4;
 const ACCEPTED: usize = 50;
 const CHANGED: usize = 25;
@@ -207,38 +208,33 @@ fn on_boards() -> Vec<Record> {
 fn random_records(random: &mut Random) -> Vec<Record> {
     let mut records = Vec::new();
     for number in given() {
-        // Large arrays take long to make.
-        let count = if number == 10 { REFUSED_BY_10 } else { REFUSED };
-        for _ in 0..count {
-            records.push(refused(random, number, random_description::accepted));
+        let count = match number {
+            1..=7 => DECLINED,
+            // Large arrays take long to make.
+            10 => REFUSED_BY_10,
+            _ => REFUSED,
+        };
+        for board in both().take(count) {
+            let description = random_description::refused(random, board, number);
+            records.push(random_record(random, board, description));
         }
     }
     for number in 11..=17 {
-        for _ in 0..STRIDED_AND_REFUSED {
-            records.push(refused(random, number, random_stride::strided));
+        for board in both().take(STRIDED_AND_REFUSED) {
+            let strided = random_stride::strided;
+            let description = random_description::refused_from(random, board, number, strided);
+            records.push(random_record(random, board, description));
         }
     }
-    for description in random_descriptions(random) {
-        let board = either(random);
+    for (board, description) in both().zip(random_descriptions(random)) {
         records.push(random_record(random, board, description));
     }
     records
 }
 
-/// A description that is declined by a number on one of the boards.
-fn refused(
-    random: &mut Random,
-    number: u32,
-    source: impl Fn(&mut Random) -> Description,
-) -> Record {
-    let board = either(random);
-    let description = random_description::refused_from(random, board, number, source);
-    random_record(random, board, description)
-}
-
-/// Either board.
-fn either(random: &mut Random) -> u32 {
-    random.pick(&[GAUGE, BENCH])
+/// The boards, again and again.
+fn both() -> impl Iterator<Item = u32> {
+    [GAUGE, BENCH].into_iter().cycle()
 }
 
 /// Accepted descriptions, such with a longer stride or a divisor above 1, with a word changed, with dependent rows, and with several

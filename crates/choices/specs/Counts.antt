@@ -1,5 +1,5 @@
 -- How many answers are a: as vectors that get it, one answer more, and all together. Assumes nothing.
-use mathlib.Core.Path.{_≡_, refl, sym, _∙_, ap, subst}
+use mathlib.Core.Path.{_≡_, refl, _∙_, ap}
 use mathlib.Core.Bool.{Bool, true, false, cond}
 use mathlib.Core.List.{List, [], _∷_, _++_, map, List·Memᴰ as In, List·Memᴰ·head as here, List·Memᴰ·tail as there}
 use Prim.Native.Nat.{ℕ, suc, _+_, _*_, _<_}
@@ -8,7 +8,7 @@ use native.Mathlib.Omega.{arith}
 use lib.Dec.{eqb}
 use lib.ListN.{length}
 use borrow.Author.Tests.{eq-eqb, ne-eqb}
-use Rattle.meaning.specs.Lists.{filter, total, numbersFrom, numbers}
+use Rattle.meaning.specs.Lists.{filter, total, numbers}
 use Rattle.meaning.specs.StepVectors.{howMany}
 use Rattle.lists.specs.Sums.{sum-one, sum-const}
 

@@ -2,3 +2,5 @@
 pub mod Vectors
 pub mod Counts
 pub mod Replaced
+pub mod Turning
+pub mod Answers

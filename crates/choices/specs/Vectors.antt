@@ -1,6 +1,5 @@
 -- The vectors with entries from −k to k: which they are, each once, how many, and which stands at which place. Assumes nothing.
-use mathlib.Core.Path.{_≡_, refl, sym, _∙_, ap, ap₂, subst}
-use mathlib.Core.Logic.{_↔_}
+use mathlib.Core.Path.{_≡_, refl, sym, _∙_, ap, subst}
 use mathlib.Core.List.{List, [], _∷_, map, List·Memᴰ as In, List·Memᴰ·head as here, List·Memᴰ·tail as there, Memᴰ·map as in-map}
 use Prim.Native.Nat.{ℕ, zero, suc, _+_, _*_, _^_, _<_}
 use native.Mathlib.Nat.{mul-comm}
@@ -11,14 +10,14 @@ use lib.IntN.{ℤ, pos, negℤ, _+ℤ_, _-ℤ_, _*ℤ_}
 use Rattle.integers.specs.Differences.{gaps, parts, up}
 use Rattle.integers.specs.Variables.{linear}
 use Rattle.meaning.specs.Lists.{each}
-use Rattle.meaning.specs.Loops.{progression, size, loop}
+use Rattle.meaning.specs.Loops.{progression, loop}
 use Rattle.meaning.specs.Sorted.{Sorted.none, Sorted.more, Distinct}
 use Rattle.meaning.specs.Points.{Direction.onward, Between, Precedes}
 use Rattle.meaning.specs.StepVectors.{entries, vectors}
 use Rattle.meaning.specs.HowManyWork.{Vectors}
 use Rattle.lists.specs.Members.{map-in, map-at, in-each, each-in, each-at, each-length}
 use Rattle.lists.specs.Sums.{total-same}
-use Rattle.geometry.specs.Sorting.{sorted-map, sorted-each, distinct-map}
+use Rattle.geometry.specs.Sorting.{sorted-each, distinct-map}
 use Rattle.geometry.specs.Instances.{progression-length, progression-at, progression-sorted, loop-in, in-loop}
 
 -- an entry is not itself again further on

@@ -4,10 +4,12 @@ use mathlib.Core.Logic.{_⊎_, inl, inr}
 use mathlib.Core.Bool.{Bool, true, false, not, cond, _&&_}
 use Prim.Native.Nat.{ℕ, zero, suc, _-_, _≤_}
 use native.Mathlib.Omega.{arith}
-use lib.Dec.{T, eqb→eq, eqb-refl}
-use lib.IntN.{ℤ, pos, negsuc, negℤ, _+ℤ_, _*ℤ_, ℤ-discrete}
+use lib.Dec.{T, leb, eqb→eq, eqb-refl}
+use borrow.Author.Tests.{leb-true, leb-false, le-leb, lt-leb, ne-eqb}
+use lib.IntN.{ℤ, pos, negsuc, negℤ, natAbs, _+ℤ_, _*ℤ_, ℤ-discrete}
 use lib.Signed.{_≤ℤ_, _<ℤ_}
-use Rattle.integers.specs.Differences.{gaps, le-out, lt-out, eq-out, le-in, lt-in, Is-eq, Is-add, Is-neg, Is-pos}
+use Rattle.integers.specs.Bounds.{abs-neg}
+use Rattle.integers.specs.Differences.{up, gaps, le-out, lt-out, eq-out, le-in, lt-in, Is-eq, Is-add, Is-neg, Is-pos}
 use Rattle.integers.specs.Variables.{linear}
 use Rattle.integers.specs.Ring.{ring, quotes, literal, solve, solve3, solve-by, given, Ex.var}
 use Rattle.integers.specs.Words.{eqZ}
@@ -16,6 +18,31 @@ use Rattle.integers.specs.Vectors.{shift3, zero2, neg2, shift2, same2}
 use Rattle.integers.specs.declared.V3.{V3}
 use Rattle.integers.specs.declared.V2.{V2}
 use Rattle.meaning.specs.Space.{eq2}
+use Rattle.meaning.specs.Accept.{small}
+
+-- ---- magnitudes
+
+pub up-abs : (z : ℤ) → pos 0 ≤ℤ z → natAbs z ≡ up z
+up-abs (pos a) h = refl
+up-abs (negsuc a) h = absurd (omega (arith, le-out h))
+
+-- a component from −1 to 1
+pub small-is : (z : ℤ) → leb (natAbs z) 1 ≡ small z
+small-is (pos a) = refl
+small-is (negsuc a) = go (leb a 0) refl
+  where
+    go : (b : Bool) → leb a 0 ≡ b → leb (suc a) 1 ≡ b && true
+    go true e = le-leb (suc a) 1 (omega (arith, leb-true a 0 e))
+    go false e = lt-leb (suc a) 1 (omega (arith, leb-false a 0 e))
+
+-- what a number and its negation have in common
+pub small-neg : (z : ℤ) → small (negℤ z) ≡ small z
+small-neg z = sym (small-is (negℤ z)) ∙ ap (λ (n : ℕ). leb n 1) (abs-neg z) ∙ small-is z
+
+pub zero-neg : (z : ℤ) → eqZ (negℤ z) (pos 0) ≡ eqZ z (pos 0)
+zero-neg (pos zero) = refl
+zero-neg (pos (suc n)) = sym (ne-eqb (suc n) 0 (λ e. omega arith))
+zero-neg (negsuc n) = ne-eqb (suc n) 0 (λ e. omega arith)
 
 -- ---- tests
 

@@ -1,17 +1,17 @@
 -- What the range tests of a description leave: a nest in range, one loop of it, small numbers and the words that hold them.
 -- Assumes nothing.
-use mathlib.Core.Path.{_≡_, refl, sym, _∙_, ap, ap₂, subst₂}
+use mathlib.Core.Path.{_≡_, sym, _∙_, ap, ap₂, subst₂}
 use mathlib.Core.Bool.{Bool}
 use mathlib.Core.List.{List}
 use Prim.Native.Nat.{ℕ, _+_, _≤_, _<_}
 use native.Mathlib.Omega.{arith}
 use lib.ListN.{length, getD}
-use lib.IntN.{ℤ, pos, negsuc, natAbs, _-ℤ_}
+use lib.IntN.{ℤ, pos, _-ℤ_}
 use lib.Signed.{_≤ℤ_, ltZ}
 use mir.Syntax.{w32}
 use mir.Val.{SFits, toZ, ofZ}
 use mir.Facts.{toZ-ofZ}
-use Rattle.integers.specs.Differences.{Abs, gaps, parts, up, le-out}
+use Rattle.integers.specs.Differences.{Abs, gaps, parts, up}
 use Rattle.integers.specs.Variables.{linear}
 use Rattle.integers.specs.Bounds.{Abs-wider}
 use Rattle.integers.specs.Words.{at, bounded}
@@ -82,10 +82,6 @@ pub words-up : {a b : ℤ} {r : ℕ} → Apart a b → r ≡ up (toZ w32 (ofZ w3
 words-up h e = e ∙ ap₂ (λ (b a : ℤ). up (b -ℤ a)) (at tt (h .high) .eq) (at tt (h .low) .eq)
 
 -- a difference that is not negative
-pub up-abs : (z : ℤ) → pos 0 ≤ℤ z → natAbs z ≡ up z
-up-abs (pos a) h = refl
-up-abs (negsuc a) h = absurd (omega (arith, le-out h))
-
 pub not-below : (a b : ℤ) → a ≤ℤ b → pos 0 ≤ℤ (b -ℤ a)
 not-below = linear 0 2 _ λ p m. simp gaps (omega arith)
 

@@ -20,3 +20,4 @@ pub mod BenchBoard
 pub mod Fills
 pub mod Makes
 pub mod GeneratedLoad
+pub mod HowManyWork

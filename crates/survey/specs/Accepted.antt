@@ -25,14 +25,13 @@ use Rattle.meaning.specs.Streams.{line, stationary, hop, move}
 use Rattle.meaning.specs.Description.{descriptionOf, streamsOf, noStream, written}
 use Rattle.meaning.specs.Accept.{small, refused33, refused11, refused12, refused13, refused14, streamTests, testsFrom, refusalOf}
 use Rattle.meaning.specs.Walk.{walkTests, walkRefusal}
-use Rattle.geometry.specs.Numbers.{eq2-eq, and-left, and-right}
+use Rattle.geometry.specs.Numbers.{eq2-eq, and-left, and-right, small-is}
 use Rattle.geometry.specs.Tests.{numbered, both-pass}
 use Rattle.geometry.specs.Descriptions.{walk-passes}
 use Rattle.vectors.specs.Within.{Within2}
 use Rattle.decode.specs.Refusals.{firstTests, passed}
 use Rattle.decode.specs.Ranged.{Decoded, decoded}
 use Rattle.survey.specs.InRange.{InRange, in-range}
-use Rattle.survey.specs.Small.{small-is}
 use Rattle.survey.specs.Stages.{layoutTests, earlyTests, walk-tests, few, few-processes, all-tests}
 
 -- ---- one stream

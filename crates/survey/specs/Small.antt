@@ -1,13 +1,11 @@
--- Tests on small words as the code makes them: chains of them, and of −1 to 1 by the magnitude; the step of a line; rank by the divisor.
+-- Tests on small words as the code makes them: chains of them; the step of a line; rank by the divisor.
 -- Assumes nothing.
 use mathlib.Core.Path.{_≡_, refl, sym, _∙_, ap, subst}
 use mathlib.Core.Bool.{Bool, true, false, _&&_, _||_}
-use Prim.Native.Nat.{suc}
-use native.Mathlib.Omega.{arith}
-use lib.Dec.{T, leb, eqb}
+use lib.Dec.{T, eqb}
 use lib.Signed.{ltZ}
-use borrow.Author.Tests.{leb-true, leb-false, le-leb, lt-leb, eqb-true, eqb-false}
-use lib.IntN.{ℤ, pos, negsuc, natAbs}
+use borrow.Author.Tests.{eqb-true, eqb-false}
+use lib.IntN.{pos, natAbs}
 use Rattle.integers.specs.Differences.{up}
 use Rattle.integers.specs.Words.{eqZ, eqZ→eq}
 use Rattle.integers.specs.Vectors.{zero3, same3}
@@ -21,8 +19,7 @@ use Rattle.meaning.specs.Loops.{stepOf, lineOf, unshortened, divisor}
 use Rattle.meaning.specs.Pipes.{backward}
 use Rattle.meaning.specs.Accept.{isZero3, lowRank, small}
 use Rattle.geometry.specs.Lines.{turn-ahead}
-use Rattle.geometry.specs.Numbers.{eqZ-eq, and-left, and-right}
-use Rattle.numbering.specs.Ranges.{up-abs}
+use Rattle.geometry.specs.Numbers.{eqZ-eq, and-left, and-right, up-abs}
 
 -- ---- chains of `&&`, from what a call ensures of its flag f: a test that holds, and one that fails
 
@@ -31,16 +28,6 @@ and-goes {b} e t h = h ∙ ap (λ (x : Bool). x && b) (sym (sym e ∙ t))
 
 pub and-stops : {f a : Bool} (b : Bool) → f ≡ a → f ≡ false → f ≡ a && b
 and-stops b e t = t ∙ ap (λ (x : Bool). x && b) (sym (sym e ∙ t))
-
--- ---- words
-
-pub small-is : (z : ℤ) → leb (natAbs z) 1 ≡ small z
-small-is (pos a) = refl
-small-is (negsuc a) = go (leb a 0) refl
-  where
-    go : (b : Bool) → leb a 0 ≡ b → leb (suc a) 1 ≡ b && true
-    go true e = le-leb (suc a) 1 (omega (arith, leb-true a 0 e))
-    go false e = lt-leb (suc a) 1 (omega (arith, leb-false a 0 e))
 
 -- ---- the step of a line is not negative, and so its own magnitude
 

@@ -2,7 +2,7 @@
 use mathlib.Core.Path.{_∙_, ap}
 use lib.IntN.{natAbs}
 use Rattle.integers.specs.Words.{at, box, mul, add, sub, fits, cast-of}
-use Rattle.numbering.specs.Ranges.{up-abs}
+use Rattle.geometry.specs.Numbers.{up-abs}
 use Rattle.counting.proofs.number_by.Statement.{statement}
 use Rattle.counting.proofs.number_by.Tie as tie
 

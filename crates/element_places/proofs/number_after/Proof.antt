@@ -4,7 +4,7 @@ use borrow.Author.Needs.{needs}
 use mathlib.Core.Path.{_∙_, ap}
 use lib.IntN.{natAbs}
 use Rattle.integers.specs.Words.{at, box, add, fits, cast-of}
-use Rattle.numbering.specs.Ranges.{up-abs}
+use Rattle.geometry.specs.Numbers.{up-abs}
 use Rattle.element_places.specs.Runs.{strides}
 use Rattle.element_places.proofs.number_after.Statement.{statement}
 use Rattle.element_places.proofs.number_after.Tie as tie

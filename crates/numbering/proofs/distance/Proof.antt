@@ -3,7 +3,8 @@ use mathlib.Core.Path.{_∙_, ap, subst, sym}
 use Prim.Native.Nat.{ℕ, _≤_}
 use lib.IntN.{natAbs}
 use Rattle.integers.specs.Words.{at, box, sub, fits, cast-of}
-use Rattle.numbering.specs.Ranges.{up-abs, not-below}
+use Rattle.geometry.specs.Numbers.{up-abs}
+use Rattle.numbering.specs.Ranges.{not-below}
 use Rattle.numbering.proofs.distance.Statement.{statement}
 use Rattle.numbering.proofs.distance.Tie as tie
 

@@ -4,7 +4,7 @@ use Prim.Native.Nat.{ℕ}
 use lib.Dec.{leb}
 use lib.IntN.{natAbs}
 use Rattle.integers.specs.Words.{tower}
-use Rattle.survey.specs.Small.{small-is}
+use Rattle.geometry.specs.Numbers.{small-is}
 use borrow.Author.Needs.{needs}
 use Rattle.survey.proofs.small.Statement.{statement}
 use Rattle.survey.proofs.small.Tie as tie
