@@ -2,11 +2,18 @@
 
 use reference::calls::Lent;
 
-use crate::sides::FIGURES;
+use crate::sides::{COUNTS, FIGURES};
 
 // A slice is a pointer and a length, one after the other.
 extern "C" {
     fn beqlanosh_accept(board: u32, bytes: *const u8, length: usize, figures: *mut u32) -> u32;
+    fn beqlanosh_step_vectors(
+        board: u32,
+        bytes: *const u8,
+        length: usize,
+        k: u32,
+        counts: *mut u32,
+    ) -> u32;
     fn beqlanosh_table(
         board: u32,
         bytes: *const u8,
@@ -117,6 +124,11 @@ extern "C" {
 pub fn accept(board: u32, bytes: &[u8], figures: &mut [u32; FIGURES]) -> u32 {
     // SAFETY: each pointer comes with its length from a slice or an array that is lent for the call.
     unsafe { beqlanosh_accept(board, bytes.as_ptr(), bytes.len(), figures.as_mut_ptr()) }
+}
+
+pub fn step_vectors(board: u32, bytes: &[u8], k: u32, counts: &mut [u32; COUNTS]) -> u32 {
+    // SAFETY: as above.
+    unsafe { beqlanosh_step_vectors(board, bytes.as_ptr(), bytes.len(), k, counts.as_mut_ptr()) }
 }
 
 pub fn table(board: u32, bytes: &[u8], words: &mut [u32]) -> u32 {

@@ -1,6 +1,6 @@
 //! Holds the proved library and a quick plain Rust program against the second implementation, then prints how long each call takes, how
 //! that grows, and how much stack it takes. A word on the command line asks for one of these alone, or is the seed of the random
-//! descriptions, scripts and loads.
+//! descriptions, scripts, loads and counts of step vectors.
 
 mod answers;
 mod arrays;
@@ -15,6 +15,7 @@ mod quick;
 mod scripts;
 mod sides;
 mod stack;
+mod step_vectors;
 mod times;
 mod work;
 
@@ -63,4 +64,6 @@ fn answers(seed: u64) {
     let (scripts, calls) = scripts::check(seed);
     println!("{scripts} scripts, {calls} calls: same answers");
     println!("{} generated loads: same answers", loads::check(seed));
+    let counted = step_vectors::check(seed);
+    println!("{counted} counts of step vectors: same answers");
 }

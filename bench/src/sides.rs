@@ -11,6 +11,9 @@ pub const ROW_WORDS: usize = 21;
 /// The values that Accept answers: six figures, the divisor of place and those of six streams.
 pub const FIGURES: usize = 13;
 
+/// The counts of Step vectors: accepted, then refusals 1 to 17.
+pub const COUNTS: usize = 18;
+
 /// Waiting, received and state.
 pub type Memory<'a> = [&'a [u32]; 3];
 
@@ -31,6 +34,8 @@ pub type Bytes = [u32; 1];
 pub struct Side {
     pub name: &'static str,
     pub accept: fn(u32, &[u8], &mut [u32; FIGURES]) -> u32,
+    /// k and the counts.
+    pub step_vectors: fn(u32, &[u8], u32, &mut [u32; COUNTS]) -> u32,
     pub table: fn(u32, &[u8], &mut [u32]) -> u32,
     /// Values and output.
     pub plain_run: fn(u32, &[u8], &[u32], &mut [u32]) -> u32,
@@ -55,6 +60,7 @@ pub struct Side {
 pub static LIBRARY: Side = Side {
     name: "library",
     accept: library::accept,
+    step_vectors: library::step_vectors,
     table: library::table,
     plain_run: library::plain_run,
     start: library::start,
@@ -70,6 +76,7 @@ pub static LIBRARY: Side = Side {
 pub static QUICK: Side = Side {
     name: "quick",
     accept: quick::accept,
+    step_vectors: quick::step_vectors,
     table: quick::table,
     plain_run: quick::plain_run,
     start: quick::start,

@@ -3,14 +3,17 @@
 use std::hint::black_box;
 
 use reference::calls::{Lent, READY_WORDS};
+use reference::step_vectors::GREATEST;
 
 use crate::arrays::Array;
-use crate::sides::{Side, FIGURES, QUICK, ROW_WORDS};
+use crate::sides::{Side, COUNTS, FIGURES, QUICK, ROW_WORDS};
 
 /// A call as it is measured.
 #[derive(Clone, Copy, PartialEq)]
 pub enum Call {
     Accept,
+    /// For the greatest k.
+    StepVectors,
     Table,
     PlainRun,
     Start,
@@ -29,8 +32,9 @@ pub enum Call {
 }
 
 impl Call {
-    pub const ALL: [(Call, &'static str); 10] = [
+    pub const ALL: [(Call, &'static str); 11] = [
         (Call::Accept, "accept"),
+        (Call::StepVectors, "step vectors"),
         (Call::Table, "table"),
         (Call::PlainRun, "plain run"),
         (Call::Start, "start"),
@@ -74,6 +78,7 @@ pub struct Work {
     pub board: u32,
     pub bytes: Vec<u8>,
     pub figures: [u32; FIGURES],
+    pub counts: [u32; COUNTS],
     pub values: Vec<u32>,
     pub waiting: Vec<u32>,
     pub started: Stage,
@@ -104,6 +109,7 @@ impl Work {
             board,
             bytes,
             figures,
+            counts: [0; COUNTS],
             values: vec![0; elements],
             waiting: vec![0; elements],
             started: empty.clone(),
@@ -171,6 +177,7 @@ impl Work {
         let answer = &mut self.answer;
         match call {
             Call::Accept => (side.accept)(board, bytes, &mut self.figures),
+            Call::StepVectors => (side.step_vectors)(board, bytes, GREATEST, &mut self.counts),
             Call::Table => (side.table)(board, bytes, &mut self.rows),
             Call::PlainRun => (side.plain_run)(board, bytes, &self.values, &mut self.output),
             Call::Start => {

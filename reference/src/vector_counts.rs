@@ -205,7 +205,7 @@ fn on_boards() -> Vec<Record> {
 }
 
 /// Random descriptions whose own answer is each of Accept's, such with a longer stride among them, and others.
-fn random_records(random: &mut Random) -> Vec<Record> {
+pub fn random_records(random: &mut Random) -> Vec<Record> {
     let mut records = Vec::new();
     for number in given() {
         let count = match number {

@@ -43,6 +43,7 @@ impl Limits {
 
 /// A description whose words are in their ranges. Past the streams in use everything is 0.
 pub struct Description {
+    pub loops: usize,
     pub streams: usize,
     pub left: Vector,
     pub right: Vector,
@@ -78,6 +79,18 @@ impl Description {
             return Err(5);
         }
         Ok(description)
+    }
+
+    pub fn instances(&self) -> i32 {
+        let bounds = self.left.iter().zip(self.right);
+        bounds.map(|(left, right)| right - left + 1).product()
+    }
+
+    /// The first non-zero component of a line has the other sign than that loop's direction.
+    pub fn against(&self, line: Vector) -> bool {
+        let mut components = line.iter().zip(self.directions);
+        let first = components.find(|(&word, _)| word != 0);
+        first.is_some_and(|(word, direction)| word * direction < 0)
     }
 }
 
@@ -143,6 +156,7 @@ impl Words<'_> {
         }
         let lines = (0..lines).map(|_| self.line(loops, streams)).collect();
         Description {
+            loops,
             streams,
             left,
             right,

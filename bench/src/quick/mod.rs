@@ -8,6 +8,7 @@ mod boxes;
 mod description;
 mod generator;
 mod lanes;
+mod marks;
 mod nest;
 mod network;
 mod pipes;
@@ -17,7 +18,9 @@ mod ready;
 mod ready_set;
 mod rules;
 mod run;
+mod shortest;
 mod step;
+mod step_vectors;
 mod table;
 
 use reference::calls::Lent;
@@ -26,6 +29,7 @@ use nest::Nest;
 use network::Network;
 use pipes::Array;
 use run::Runner;
+use step_vectors::COUNTS;
 
 /// Declines by the number unless the condition holds.
 fn demand(condition: bool, number: u32) -> Result<(), u32> {
@@ -76,6 +80,16 @@ fn answer(network: &Network) -> [u32; 13] {
         *figure = stream.divisor;
     }
     figures
+}
+
+pub fn step_vectors(board: u32, bytes: &[u8], k: u32, counts: &mut [u32; COUNTS]) -> u32 {
+    match step_vectors::count(board, bytes, k) {
+        Ok(found) => {
+            *counts = found;
+            0
+        }
+        Err(number) => number,
+    }
 }
 
 pub fn table(board: u32, bytes: &[u8], words: &mut [u32]) -> u32 {

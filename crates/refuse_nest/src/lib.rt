@@ -10,21 +10,21 @@ use meaning::Nest;
 use survey::Ground;
 
 // Refusal 6: over the limit of instances.
-fn instances_refused(g: Ground, limits: Limits) -> bool
+pub fn instances_refused(g: Ground, limits: Limits) -> bool
     ensures { λ r. ⌜ r ≡ ltb (limits .instances) (g .instances) ⌝ }
 {
     limits.instances < g.instances
 }
 
 // Refusal 7: place of low rank, whose divisor is 0.
-fn low_rank(g: Ground) -> bool
+pub fn low_rank(g: Ground) -> bool
     ensures { λ r. ⌜ r ≡ eqb (g .divisor) 0 ⌝ }
 {
     g.divisor == 0
 }
 
 // Refusal 10: over the limit of processes.
-fn processes_refused(g: Ground, limits: Limits) -> bool
+pub fn processes_refused(g: Ground, limits: Limits) -> bool
     ensures { λ r. ⌜ r ≡ ltb (limits .processes) (g .processes) ⌝ }
 {
     limits.processes < g.processes

@@ -3,7 +3,7 @@ ghost use mathlib.Core.Path.{_≡_};
 ghost use Rattle.meaning.specs.Tests.{refusal};
 ghost use Rattle.meaning.specs.Accept.{refused17, streamTests};
 ghost use Rattle.walk.specs.Walked.{Along};
-ghost use Rattle.survey.specs.Stages.{orderTests, moveTests};
+ghost use Rattle.survey.specs.Stages.{lateTests, orderTests, moveTests};
 ghost use Rattle.survey.specs.Surveys.{GroundOf, Charted};
 use meaning::INSTANCES;
 use meaning::Limits;
@@ -27,19 +27,27 @@ fn elements_refused(f: Flow, g: Ground, walk: &[i8]) -> bool
     untouched::untouched(form, walk, instances, elements, &mut marks)
 }
 
-// The first of the refusals 15 to 17 that applies, 0 if none does.
+// The first of the refusals 16 and 17 that applies, 0 if none does.
+pub fn late_refusal(f: Flow, g: Ground, walk: &[i8]) -> u32
+    requires { ⌜ (Charted f) × (GroundOf (f .nest) g) × (Along (f .nest) (now walk)) ⌝ }
+    ensures { λ r. ⌜ r ≡ refusal (lateTests (f .nest) (f .stream)) ⌝ }
+{
+    if stream_tests::loading_refused(f) {
+        16
+    } else {
+        if elements_refused(f, g, walk) { 17 } else { 0 }
+    }
+}
+
+// The same of 15 to 17.
 fn order_refusal(f: Flow, g: Ground, written: bool, walk: &[i8]) -> u32
     requires { ⌜ (Charted f) × (GroundOf (f .nest) g) × (Along (f .nest) (now walk)) ⌝ }
     ensures { λ r. ⌜ r ≡ refusal (orderTests (f .nest) written (f .stream)) ⌝ }
 {
-    let backward = stream_tests::order_refused(f, written);
-    let misloaded = stream_tests::loading_refused(f);
-    if backward {
+    if stream_tests::order_refused(f, written) {
         15
-    } else if misloaded {
-        16
     } else {
-        if elements_refused(f, g, walk) { 17 } else { 0 }
+        late_refusal(f, g, walk)
     }
 }
 

@@ -31,9 +31,12 @@ use Rattle.decode.specs.Refusals.{firstTests, refuses, passes, passed}
 abbrev pub layoutTests : Limits → Nest → List Test
 layoutTests l n = (6 if refused6 l n) ∷ (7 if refused7 n) ∷ (8 if refused8 n) ∷ (10 if refused10 l n) ∷ []
 
--- 15 to 17, and 13 to 17; 11 to 17 are `streamTests`
+-- 16 and 17, 15 to 17, and 13 to 17; 11 to 17 are `streamTests`
+abbrev pub lateTests : Nest → Stream → List Test
+lateTests n s = (16 if refused16 n s) ∷ (17 if refused17 n s) ∷ []
+
 abbrev pub orderTests : Nest → Bool → Stream → List Test
-orderTests n w s = (15 if refused15 w n s) ∷ (16 if refused16 n s) ∷ (17 if refused17 n s) ∷ []
+orderTests n w s = (15 if refused15 w n s) ∷ lateTests n s
 
 abbrev pub moveTests : Limits → Nest → Bool → Stream → List Test
 moveTests l n w s = (13 if refused13 n s) ∷ (14 if refused14 l n s) ∷ orderTests n w s

@@ -7,6 +7,7 @@
 //   InRange     what the refusals 1 to 5 leave of a nest and of a stream, in the words of the crates that compute with them
 //   Small       tests on small words as the code makes them; the step of a line is not negative; rank by the divisor
 //   Surveys     what a survey holds: `GroundOf`, `FlowOf`, `Surveyed`
+//   Grounds     the tests of the loops by their ground
 //   Stages      the refusals 33 and 6 to 17 in stages, each a test or two and the stage after them; lists of tests one after the other
 //   Accepted    `accepted-within`: what a refusal of 0 leaves of ranges, instances, processes, moves and hops
 //   StateWords  `process-words`, `end-words`: how many words processes and pipes have at most
@@ -14,18 +15,19 @@ ghost use mathlib.Core.Path.{_≡_};
 ghost use mathlib.Core.Bool.{_&&_, cond};
 ghost use Prim.Native.Nat.{_<_};
 ghost use lib.IntN.{pos, natAbs};
-ghost use lib.ListN.{getD};
+ghost use lib.ListN.{length, getD};
 ghost use Rattle.integers.specs.Words.{eqZ};
 ghost use Rattle.integers.specs.Vectors.{zero2};
 ghost use Rattle.meaning.specs.Loops.{stepOf};
 ghost use Rattle.meaning.specs.Space.{eq2};
 ghost use Rattle.meaning.specs.Pipes.{backward};
+ghost use Rattle.meaning.specs.Description.{streamsOf};
 ghost use Rattle.meaning.specs.Accept.{small};
 ghost use Rattle.vectors.specs.Within.{Within, Within2};
 ghost use Rattle.decode.specs.Ranged.{Decoded, Ranged};
 ghost use Rattle.numbering.specs.Ranges.{Bounded};
 ghost use Rattle.survey.specs.InRange.{InRange};
-ghost use Rattle.survey.specs.Surveys.{GroundOf, FlowOf, FlowsOf, SurveyOf, noFlow};
+ghost use Rattle.survey.specs.Surveys.{GroundOf, FlowOf, FlowsOf, Surveyed, SurveyOf, noFlow};
 use integers::Matrix;
 use integers::V2;
 use integers::V3;
@@ -245,12 +247,11 @@ pub fn flow_at(v: Survey, i: usize) -> Flow
 
 // ---- a description
 
-// The survey of bytes that may be decoded.
-pub fn survey_of(s: &[u8]) -> Survey
-    requires { ⌜ Decoded (now s) ⌝ }
-    ensures { λ r. ⌜ SurveyOf (now (s .entry)) r ⌝ }
+// The survey of a description whose words are in range.
+pub fn surveyed(d: Description) -> Survey
+    requires { ⌜ (Ranged d) × (length (streamsOf d) ≡ d .sizes .streams) ⌝ }
+    ensures { λ r. ⌜ (r .description ≡ d) × (Surveyed r) ⌝ }
 {
-    let d = decode::description(s);
     let n = d.nest;
     let g = ground_of(n);
     Survey {
@@ -259,6 +260,14 @@ pub fn survey_of(s: &[u8]) -> Survey
         ground: g,
         flows: flows_of(d, g),
     }
+}
+
+// The survey of bytes that may be decoded.
+pub fn survey_of(s: &[u8]) -> Survey
+    requires { ⌜ Decoded (now s) ⌝ }
+    ensures { λ r. ⌜ SurveyOf (now (s .entry)) r ⌝ }
+{
+    surveyed(decode::description(s))
 }
 
 // The survey of bytes that may not: their refusal, and nothing besides.

@@ -67,7 +67,7 @@ pub fn image_of(m: Matrix, v: V3) -> V2
     }
 }
 
-fn negated(v: V3) -> V3
+pub fn negated(v: V3) -> V3
     requires { ⌜ Within 200 v ⌝ }
     ensures { λ r. ⌜ (r ≡ neg3 v) × (Within 200 r) ⌝ }
 {

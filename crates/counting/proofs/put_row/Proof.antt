@@ -13,7 +13,7 @@ use borrow.Author.Needs.{needs}
 use Rattle.integers.specs.Differences.{Abs, up}
 use Rattle.integers.specs.Fill.{fillBy, fill-step}
 use Rattle.integers.specs.Words.{Holds, at, leaf, box, add, fits, cast-of}
-use Rattle.numbering.specs.Ranges.{up-abs}
+use Rattle.geometry.specs.Numbers.{up-abs}
 use Rattle.counting.specs.Strides.{along, along-zero, along-next, RowFits, Agrees, row-small}
 use Rattle.counting.proofs.put_row.Statement.{statement}
 use Rattle.counting.proofs.put_row.Tie as tie

@@ -1,40 +1,16 @@
 -- `refuse_nest::nest_refusal` meets its contract: the first of the tests 6, 7, 8 and 10 that applies gives the number; one that does not
 -- leaves it to those after it. Assumes nothing.
-use mathlib.Core.Path.{_≡_, _∙_, ap}
-use mathlib.Core.Bool.{Bool}
+use mathlib.Core.Path.{_≡_}
 use mathlib.Core.List.{[], _∷_}
 use Prim.Native.Nat.{ℕ}
-use lib.Dec.{eqb, ltb}
-use lib.IntN.{pos}
-use Rattle.integers.specs.Words.{eqZ}
-use Rattle.integers.specs.declared.V3.{V3}
-use Rattle.meaning.specs.declared.Limits.{Limits}
-use Rattle.meaning.specs.declared.Nest.{Nest}
 use Rattle.meaning.specs.Tests.{_if_, refusal}
-use Rattle.meaning.specs.Loops.{stepOf}
-use Rattle.meaning.specs.Accept.{refused6, refused7, refused8, refused10}
+use Rattle.meaning.specs.Accept.{refused10}
 use Rattle.decode.specs.Refusals.{accepts}
-use Rattle.survey.specs.declared.Ground.{Ground}
-use Rattle.survey.specs.Small.{rank-by-divisor}
-use Rattle.survey.specs.Surveys.{GroundOf}
+use Rattle.survey.specs.Grounds.{six, seven, eight, ten}
 use Rattle.survey.specs.Stages.{layoutTests, applies, skips}
 use borrow.Author.Needs.{needs}
 use Rattle.refuse_nest.proofs.nest_refusal.Statement.{statement}
 use Rattle.refuse_nest.proofs.nest_refusal.Tie as tie
-
--- the tests by the ground are those of the loops
-module _ {n : Nest} {g : Ground} (h : GroundOf n g) {r : Bool} where
-  six : (l : Limits) → r ≡ ltb (l .instances) (g .instances) → r ≡ refused6 l n
-  six l e = e ∙ ap (ltb (l .instances)) (h .instances-is)
-
-  seven : r ≡ eqb (g .divisor) 0 → r ≡ refused7 n
-  seven e = e ∙ ap (λ (k : ℕ). eqb k 0) (h .divisor-is) ∙ rank-by-divisor (n .place)
-
-  eight : r ≡ eqZ (stepOf n (g .increment)) (pos 0) → r ≡ refused8 n
-  eight e = e ∙ ap (λ (v : V3). eqZ (stepOf n v) (pos 0)) (h .increment-is)
-
-  ten : (l : Limits) → r ≡ ltb (l .processes) (g .processes) → r ≡ refused10 l n
-  ten l e = e ∙ ap (ltb (l .processes)) (h .processes-is)
 
 returns : tie.Need-returns
 returns c =

@@ -1,0 +1,2 @@
+-- The answers of a stream.
+pub mod Outlooks
