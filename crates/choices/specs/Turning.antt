@@ -120,13 +120,13 @@ module _ (n : Nest) (v : V3) (m : Matrix) where
 
 -- ---- the tests of the loops
 
-module _ (l : Limits) (n : Nest) (v : V3) where
+module _ (n : Nest) (v : V3) where
   pub still-by : refused8 (stepped n v) ≡ eqZ (dot v (increment n)) (pos 0)
   still-by = still-same n v (n .place)
 
-  pub processes-same : refused10 l (stepped n v) ≡ refused10 l n
+  pub processes-same : (l : Limits) → refused10 l (stepped n v) ≡ refused10 l n
   unfolding boxOf instances
-  processes-same = refl
+  processes-same l = refl
 
 -- ---- the tests of a stream
 

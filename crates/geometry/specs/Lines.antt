@@ -13,7 +13,7 @@ use Rattle.integers.specs.Variables.{linear}
 use Rattle.integers.specs.Ring.{ring, quotes, literal, solve, solve3, solve-by, given, _also_, Ex.var, Ex.minus, Ex.plain}
 use Rattle.integers.specs.Order.{mul-reflects, cancel, cancel-zero}
 use Rattle.integers.specs.Vectors.{zero3, sub3, neg3, scale3, shift3, dot, zero2, shift2, image, same2, dot-shift, dot-sub, dot-neg}
-use Rattle.integers.specs.Vectors.{dot-scale, image-shift, sub-add}
+use Rattle.integers.specs.Vectors.{same3, cross, cross-left, cross-right, dot-scale, image-shift, sub-add}
 use Rattle.lattice.specs.Shorten.{shortens}
 use Rattle.lattice.specs.Lattice.{Null, Shortest, Independent, shortest, shortest-neg, no-shorter, NoLonger}
 use Rattle.integers.specs.declared.V3.{V3}
@@ -53,6 +53,19 @@ pub line-is : (n : Nest) (m : Matrix) → Independent (m .top) (m .low) → (ste
 unfolding lineOf
 line-is n m h k =
     record { short = line-short n m h; ahead = not-zero (stepOf n (lineOf n m)) (turn-ahead (n .step) (shortOf m .vector)) k }
+
+-- and it is not zero
+pub line-some : (n : Nest) (m : Matrix) → Independent (m .top) (m .low) → lineOf n m ≡ zero3 → ⊥
+line-some n m h e =
+    let r = line-short n m h .all (cross (m .top) (m .low))
+    (record { top = cross-left (m .top) (m .low); low = cross-right (m .top) (m .low) }) in
+    h (r .eq ∙ ap (scale3 (r .by)) e ∙ times-zero (r .by))
+  where
+    times-zero : (t : ℤ) → scale3 t zero3 ≡ zero3
+    times-zero t = same3 (at t) (at t) (at t)
+      where
+        at : (t : ℤ) → t *ℤ pos 0 ≡ pos 0
+        at = linear 0 1 _ λ p m. simp gaps (omega arith)
 
 -- if there is a line, that step is not 0
 pub line-steps : (n : Nest) (m : Matrix) (u : V3) → Independent (m .top) (m .low) → Line n m u → stepOf n (lineOf n m) ≡ pos 0 → ⊥

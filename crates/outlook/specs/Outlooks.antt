@@ -6,7 +6,7 @@ use lib.Dec.{ltb}
 use lib.IntN.{ℤ, pos, natAbs}
 use lib.Signed.{ltZ}
 use Rattle.integers.specs.Words.{eqZ}
-use Rattle.integers.specs.Vectors.{neg3, dot}
+use Rattle.integers.specs.Vectors.{zero3, neg3, dot}
 use Rattle.integers.specs.declared.V3.{V3}
 use Rattle.meaning.specs.declared.Limits.{Limits}
 use Rattle.meaning.specs.declared.Nest.{Nest}
@@ -41,6 +41,10 @@ pub record OutlookOf (n : Nest) (w : Bool) (s : Stream) (o : Outlook) : Type 0 w
   pub onward-is : o .onward ≡ cond (refused11 s) 11 (cond (refused13 n s) 13 (cond (w && against (n .direction) (line n s)) 15 (late n s)))
   pub back-is : o .back
       ≡ cond (refused11 s) 11 (cond (refused13 n s) 13 (cond (w && against (n .direction) (neg3 (line n s))) 15 (late n s)))
+
+-- what stands past the streams in use
+abbrev pub noOutlook : Outlook
+noOutlook = record { line = zero3; moving = false; still = 0; leap = 0; onward = 0; back = 0 }
 
 -- four answers are the ladder of tests
 on-ladder : (rank still move leap onward back turned loading untouched : Bool)

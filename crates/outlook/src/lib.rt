@@ -27,6 +27,19 @@ pub struct Outlook {
     pub back: u32,
 }
 
+// What stands past the streams in use.
+pub fn no_outlook() -> Outlook {
+    let zero = V3 { x: 0, y: 0, z: 0 };
+    Outlook {
+        line: zero,
+        moving: false,
+        still: 0,
+        leap: 0,
+        onward: 0,
+        back: 0,
+    }
+}
+
 // Refusal 15 with the line turned round.
 fn turned_refused(f: Flow, written: bool) -> bool
     requires { ⌜ Charted f ⌝ }

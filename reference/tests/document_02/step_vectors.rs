@@ -7,8 +7,8 @@ use reference::board_cases::board_cases;
 use reference::calls::Calls;
 use reference::description::{words_of, Description};
 use reference::designs::{
-    cleared_one, decimating, fixed_one, grid, matrix_straight, matrix_twice, polynomial_one,
-    polynomial_two,
+    cleared_column, cleared_one, decimating, fixed_one, grid, matrix_moving, matrix_straight,
+    matrix_twice, polynomial_one, polynomial_two, spaced,
 };
 use reference::number_of;
 use reference::random::Random;
@@ -382,6 +382,17 @@ fn matrix_products() {
         counts_on(BENCH, &grid(17, 16, 3), 1),
         only(&[(8, 9), (10, 18)])
     );
+}
+
+#[test]
+fn other_designs() {
+    for (design, counts) in [
+        (matrix_moving(1), only(&[(0, 4), (8, 7), (12, 12), (15, 4)])),
+        (cleared_column(), only(&[(0, 4), (8, 9), (12, 10), (15, 4)])),
+        (spaced(2), only(&[(0, 3), (8, 3), (15, 3)])),
+    ] {
+        assert_eq!(counts_on(GAUGE, &design, 1), counts);
+    }
 }
 
 #[test]
