@@ -8,7 +8,8 @@ use lib.ListN.{length}
 use lib.IntN.{ℤ, pos}
 use Rattle.integers.specs.Words.{eqZ, eqZ→eq}
 use Rattle.integers.specs.Bounds.{Abs-wider}
-use Rattle.integers.specs.Vectors.{zero3, dot}
+use Rattle.integers.specs.Ring.{ring, quotes, literal, solve}
+use Rattle.integers.specs.Vectors.{zero3, dot, same3}
 use Rattle.integers.specs.declared.V3.{V3}
 use Rattle.meaning.specs.declared.Nest.{Nest}
 use Rattle.meaning.specs.declared.Description.{Description}
@@ -25,6 +26,38 @@ use Rattle.decode.specs.Ranged.{Ranged}
 use Rattle.survey.specs.declared.Survey.{Survey}
 use Rattle.survey.specs.InRange.{nest-bounded}
 use Rattle.survey.specs.Surveys.{Surveyed}
+
+-- a vector that is not zero moves along the step of its first component that is not 0
+module _ (u : V3) where
+  abbrev step : ℤ → ℤ → ℤ → V3
+  step x y z = record { x = x; y = y; z = z }
+
+  first-is : dot (step (pos 1) (pos 0) (pos 0)) u ≡ u .x
+  first-is = go u
+    where
+      go : (u : V3) → dot (step (pos 1) (pos 0) (pos 0)) u ≡ u .x
+      go = ring 1 0 _ λ ρ. simp (quotes, literal ρ) (solve ρ _ _ tt)
+
+  second-is : dot (step (pos 0) (pos 1) (pos 0)) u ≡ u .y
+  second-is = go u
+    where
+      go : (u : V3) → dot (step (pos 0) (pos 1) (pos 0)) u ≡ u .y
+      go = ring 1 0 _ λ ρ. simp (quotes, literal ρ) (solve ρ _ _ tt)
+
+  third-is : dot (step (pos 0) (pos 0) (pos 1)) u ≡ u .z
+  third-is = go u
+    where
+      go : (u : V3) → dot (step (pos 0) (pos 0) (pos 1)) u ≡ u .z
+      go = ring 1 0 _ λ ρ. simp (quotes, literal ρ) (solve ρ _ _ tt)
+
+  pub along-first : (u .x ≡ pos 0 → ⊥) → dot (step (pos 1) (pos 0) (pos 0)) u ≡ pos 0 → u ≡ zero3
+  along-first n e = absurd (n (sym first-is ∙ e))
+
+  pub along-second : (u .y ≡ pos 0 → ⊥) → dot (step (pos 0) (pos 1) (pos 0)) u ≡ pos 0 → u ≡ zero3
+  along-second n e = absurd (n (sym second-is ∙ e))
+
+  pub along-third : u .x ≡ pos 0 → u .y ≡ pos 0 → dot (step (pos 0) (pos 0) (pos 1)) u ≡ pos 0 → u ≡ zero3
+  along-third p q e = same3 p q (sym third-is ∙ e)
 
 -- loops at a step of their own: along it the increment moves, unless place has low rank
 pub record Moved (n r : Nest) : Type 0 where

@@ -1,13 +1,13 @@
 -- What a prospect holds, and that its answer to a vector is Accept's. Assumes nothing.
 use mathlib.Core.Path.{_≡_, refl, sym, _∙_, ap, ap₂, subst}
 use mathlib.Core.Bool.{Bool, true, false, cond}
-use mathlib.Core.List.{List, [], _∷_, _++_}
+use mathlib.Core.List.{List, [], _∷_, _++_, map}
 use Prim.Native.Nat.{ℕ, zero, suc, _+_, _≤_, _<_}
 use native.Mathlib.Decide.{ℕ-discrete}
 use native.Mathlib.Omega.{arith}
 use lib.Dec.{T, eqb}
-use lib.ListN.{length, getD, take, drop, drop-of-length-le}
-use lib.Seq.{drop-cons, getD-take, length-take-le}
+use lib.ListN.{length, getD, set, drop, drop-of-length-le}
+use lib.Seq.{drop-cons, getD-take, getD-set-same, getD-set-other}
 use lib.IntN.{ℤ, pos}
 use borrow.Author.Tests.{eq-eqb, ne-eqb}
 use Rattle.integers.specs.Words.{eqZ}
@@ -16,16 +16,19 @@ use Rattle.integers.specs.declared.V3.{V3}
 use Rattle.meaning.specs.declared.Limits.{Limits}
 use Rattle.meaning.specs.declared.Stream.{Stream}
 use Rattle.meaning.specs.declared.Description.{Description}
+use Rattle.meaning.specs.Lists.{numbers}
 use Rattle.meaning.specs.Tests.{Test, refusal}
 use Rattle.meaning.specs.Loops.{increment}
 use Rattle.meaning.specs.Description.{noStream, streamsOf, written}
 use Rattle.meaning.specs.Accept.{refused10, streamTests, testsFrom}
 use Rattle.meaning.specs.Calls.{orElse}
 use Rattle.meaning.specs.HowManyWork.{stepped, withNest}
+use Rattle.lists.specs.Rows.{length-numbers, getD-first}
 use Rattle.geometry.specs.Tests.{numbered, none-applies, one-applies}
 use Rattle.choices.specs.Turning.{still-by, processes-same}
 use Rattle.choices.specs.Answers.{laterTests}
 use Rattle.vectors.specs.Within.{Within}
+use Rattle.decode.specs.Refusals.{accepts}
 use Rattle.outlook.specs.declared.Outlook.{Outlook}
 use Rattle.outlook.specs.Outlooks.{OutlookOf, noOutlook, answerBy as answerOf, answer-by}
 use Rattle.prospect.specs.declared.Prospect.{Prospect}
@@ -40,6 +43,18 @@ FirstOutlooks d m os =
 abbrev pub OutlooksOf : Description → List Outlook → Type 0
 OutlooksOf d = FirstOutlooks d (d .sizes .streams)
 
+pub outlooks-next : (d : Description) {i : ℕ} (os : List Outlook) {o : Outlook} → i < length os → FirstOutlooks d i os
+    → OutlookOf (d .nest) (written d i) (getD (d .streams) i noStream) o → FirstOutlooks d (i + 1) (set os i o)
+outlooks-next d {i} os {o} l h e k lt = go (ℕ-discrete k i)
+  where
+    go : Dec (k ≡ i) → OutlookOf (d .nest) (written d k) (getD (d .streams) k noStream) (getD (set os i o) k noOutlook)
+    go (yes z) =
+        subst (λ (j : ℕ). OutlookOf (d .nest) (written d j) (getD (d .streams) j noStream) (getD (set os i o) j noOutlook)) (sym z)
+        (subst (OutlookOf (d .nest) (written d i) (getD (d .streams) i noStream)) (sym (getD-set-same os i o noOutlook l)) e)
+    go (no z) =
+        subst (OutlookOf (d .nest) (written d k) (getD (d .streams) k noStream)) (sym (getD-set-other os i k o noOutlook z))
+        (h k (omega arith))
+
 pub record ProspectOf (l : Limits) (d : Description) (p : Prospect) : Type 0 where
   pub increment-is : p .increment ≡ increment (d .nest)
   pub increment-small : Within 200 (p .increment)
@@ -48,7 +63,6 @@ pub record ProspectOf (l : Limits) (d : Description) (p : Prospect) : Type 0 whe
   pub hop-is : p .hop ≡ l .hop
   pub few : d .sizes .streams ≤ 6
   pub in-use : length (streamsOf d) ≡ d .sizes .streams
-  pub long : length (p .outlooks) ≡ 6
   pub outlooks : p .crowded ≡ false → OutlooksOf d (p .outlooks)
 
 -- ---- the answer
@@ -59,7 +73,13 @@ firstBy hop v [] = 0
 firstBy hop v (o ∷ os) = orElse (answerOf o hop v) (firstBy hop v os)
 
 abbrev pub used : Prospect → List Outlook
-used p = take (p .streams) (p .outlooks)
+used p = map (λ i. getD (p .outlooks) i noOutlook) (numbers (p .streams))
+
+pub used-length : (p : Prospect) → length (used p) ≡ p .streams
+used-length p = length-numbers (λ i. getD (p .outlooks) i noOutlook) 0 (p .streams)
+
+pub used-at : (p : Prospect) (i : ℕ) → i < p .streams → getD (used p) i noOutlook ≡ getD (p .outlooks) i noOutlook
+used-at p = getD-first (λ i. getD (p .outlooks) i noOutlook) noOutlook (p .streams)
 
 abbrev pub answerBy : Prospect → V3 → ℕ
 answerBy p v = cond (eqZ (dot v (p .increment)) (pos 0)) 8 (cond (p .crowded) 10 (firstBy (p .hop) v (used p)))
@@ -115,10 +135,7 @@ module _ (l : Limits) (d : Description) (v : V3) where
       → ((j : ℕ) → j < length ss → OutlookOf (d .nest) (written d (i + j)) (getD ss j noStream) (getD os j noOutlook))
       → firstBy (l .hop) v os ≡ refusal (testsFrom l other i ss)
   unfolding firstBy testsFrom numbered
-  streams-by i [] [] e h = none
-    where
-      none : 0 ≡ refusal []
-      none = ?
+  streams-by i [] [] e h = accepts
   streams-by i [] (o ∷ os) e h = absurd (omega arith)
   streams-by i (s ∷ ss) [] e h = absurd (omega arith)
   streams-by i (s ∷ ss) (o ∷ os) e h =
@@ -143,11 +160,20 @@ module _ (l : Limits) (d : Description) (v : V3) where
       rw (still-by (d .nest) v, processes-same (d .nest) v l, sym (h .increment-is), sym (h .crowded-is)) (go (p .crowded) refl)
     where
       used-is : length (used p) ≡ length (streamsOf d)
-      used-is = length-take-le (p .streams) (p .outlooks) (omega (arith, h .long, h .few, h .streams-is)) ∙ h .streams-is ∙ sym (h .in-use)
+      used-is = used-length p ∙ h .streams-is ∙ sym (h .in-use)
+
+      stream : p .crowded ≡ false → (j : ℕ) → j < length (streamsOf d)
+          → OutlookOf (d .nest) (written d (0 + j)) (getD (streamsOf d) j noStream) (getD (used p) j noOutlook)
+      stream e j m =
+          let k : j < d .sizes .streams = omega (arith, h .in-use) in
+          let z : 0 + j ≡ j = omega arith in
+          let w : j < p .streams = omega (arith, h .streams-is) in
+          rw (z, getD-take (d .sizes .streams) (d .streams) j noStream k, used-at p j w)
+          (h .outlooks e j k)
 
       streams : p .crowded ≡ false → firstBy (p .hop) v (used p) ≡ refusal (testsFrom l other 0 (streamsOf d))
       streams e =
-          ap (λ (k : ℕ). firstBy k v (used p)) (h .hop-is) ∙ streams-by 0 (streamsOf d) (used p) used-is ?
+          ap (λ (k : ℕ). firstBy k v (used p)) (h .hop-is) ∙ streams-by 0 (streamsOf d) (used p) used-is (λ j m. stream e j m)
 
       go : (b : Bool) → p .crowded ≡ b
           → cond (eqZ (dot v (p .increment)) (pos 0)) 8 (cond b 10 (firstBy (p .hop) v (used p)))

@@ -132,7 +132,7 @@ fn outlooks_of(v: Survey) -> [Outlook; STREAMS]
 // The same where there are not too many processes; else no stream is looked at.
 fn outlooks_within(v: Survey, crowded: bool) -> [Outlook; STREAMS]
     requires { ⌜ (Laid v) × (crowded ≡ false → length (processes (v .description .nest)) ≤ gaugeLimits .processes) ⌝ }
-    ensures { λ r. ⌜ crowded ≡ false → OutlooksOf (v .description) r ⌝ }
+    ensures { λ r. ⌜ (crowded ≡ false → OutlooksOf (v .description) r) ⌝ }
 {
     if crowded {
         [outlook::no_outlook(); STREAMS]
