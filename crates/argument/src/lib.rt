@@ -53,10 +53,10 @@ pub fn word_argument(i: usize) -> u32 {
     numeral_of(&digits[..n])
 }
 
-// The board of the first argument, request 2.9; the gauge, 0, where there is none.
-pub fn board() -> u32 {
-    if os::arg_count() < 2 {
+// The board of argument i, request 2.9; the gauge, 0, where there is none.
+pub fn board(i: usize) -> u32 {
+    if os::arg_count() <= i {
         return 0;
     }
-    word_argument(1)
+    word_argument(i)
 }

@@ -52,26 +52,34 @@ module _ (k : ℕ) where
 
   -- ---- the vectors
 
-  pub vectors-length : (r : ℕ) → length (vectors k r) ≡ width ^ r
+  -- as many with one entry more as entries times those without it
+  pub vectors-next : (r : ℕ) → length (vectors k (suc r)) ≡ width * length (vectors k r)
   unfolding vectors
-  vectors-length zero = simp unary-clauses refl
-  vectors-length (suc r) =
+  vectors-next r =
       each-length (λ e. map (λ v. e ∷ v) (vectors k r)) (entries k)
-      ∙ total-same (λ e. length (map (λ v. e ∷ v) (vectors k r))) (width ^ r)
-      (λ e. length-map (vectors k r) (λ v. e ∷ v) ∙ vectors-length r) (entries k)
-      ∙ ap (λ (n : ℕ). n * width ^ r) entries-length ∙ power width r
+      ∙ total-same (λ e. length (map (λ v. e ∷ v) (vectors k r))) (length (vectors k r))
+      (λ e. length-map (vectors k r) (λ v. e ∷ v)) (entries k)
+      ∙ ap (λ (n : ℕ). n * length (vectors k r)) entries-length
+
+  pub vectors-none : length (vectors k 0) ≡ 1
+  unfolding vectors
+  vectors-none = refl
+
+  vectors-length : (r : ℕ) → length (vectors k r) ≡ width ^ r
+  vectors-length zero = simp unary-clauses vectors-none
+  vectors-length (suc r) = vectors-next r ∙ ap (λ (n : ℕ). width * n) (vectors-length r) ∙ power width r
     where
       power : (b r : ℕ) → b * b ^ r ≡ b ^ suc r
       power b r = simp unary-clauses (mul-comm b (b ^ r))
 
   -- the one at a place, by entry and rest
-  pub vector-at : (r i j : ℕ) → i < width → j < width ^ r
-      → getD (vectors k (suc r)) (i * width ^ r + j) [] ≡ (pos i -ℤ pos k) ∷ getD (vectors k r) j []
+  pub vector-at : (r i j : ℕ) → i < width → j < length (vectors k r)
+      → getD (vectors k (suc r)) (i * length (vectors k r) + j) [] ≡ (pos i -ℤ pos k) ∷ getD (vectors k r) j []
   unfolding vectors
   vector-at r i j h l =
-      each-at (λ e. map (λ v. e ∷ v) (vectors k r)) (width ^ r) (λ e. length-map (vectors k r) (λ v. e ∷ v) ∙ vectors-length r) (entries k)
+      each-at (λ e. map (λ v. e ∷ v) (vectors k r)) (length (vectors k r)) (λ e. length-map (vectors k r) (λ v. e ∷ v)) (entries k)
       i j (pos 0) [] (subst (λ (n : ℕ). i < n) (sym entries-length) h) l
-      ∙ map-at (λ v. getD (entries k) i (pos 0) ∷ v) (vectors k r) j [] [] (subst (λ (n : ℕ). j < n) (sym (vectors-length r)) l)
+      ∙ map-at (λ v. getD (entries k) i (pos 0) ∷ v) (vectors k r) j [] [] l
       ∙ ap (λ (e : ℤ). e ∷ getD (vectors k r) j []) (entry-at i h)
 
   abbrev Small : List ℤ → Type 0

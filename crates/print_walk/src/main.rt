@@ -80,7 +80,7 @@ fn print_walk(board: u32, s: &[u8]) {
 }
 
 fn main() {
-    let board = argument::board();
+    let board = argument::board(1);
     let mut space = io::large_buffer();
     let n = io::read_full(STDIN_FILENO, &mut space);
     print_walk(board, &space[..n]);

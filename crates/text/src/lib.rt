@@ -75,7 +75,8 @@ fn put_next(page: &mut [u8; PAGE], at: usize, x: u64) -> usize {
     put_decimal(page, after, x)
 }
 
-fn put_words(page: &mut [u8; PAGE], at: usize, words: &[u32]) -> usize {
+// Words, each behind a blank.
+pub fn put_words(page: &mut [u8; PAGE], at: usize, words: &[u32]) -> usize {
     let mut next = at;
     let mut i: usize = 0;
     while i < words.len() {

@@ -1,6 +1,5 @@
 -- `outlook::leaps` meets its contract. Assumes nothing.
 use mathlib.Core.Path.{refl, _∙_, ap}
-use Prim.Native.Nat.{ℕ}
 use lib.Dec.{ltb}
 use lib.IntN.{natAbs}
 use Rattle.integers.specs.Words.{at}

@@ -1,7 +1,6 @@
 -- `outlook::turned_refused` meets its contract. Assumes nothing.
 use mathlib.Core.Path.{refl, _∙_, ap}
 use Rattle.integers.specs.Vectors.{neg3}
-use Rattle.integers.specs.declared.V3.{V3}
 use Rattle.meaning.specs.Accept.{against}
 use Rattle.vectors.specs.Within.{directions-small}
 use Rattle.survey.specs.Small.{and-goes, and-stops}

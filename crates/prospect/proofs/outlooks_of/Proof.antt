@@ -1,7 +1,6 @@
 -- `prospect::outlooks_of` meets its contract: the words of the processes and of the walk are those of loops that are laid out.
 -- Assumes nothing.
 use native.Mathlib.Omega.{arith}
-use Rattle.walk.specs.Walked.{Walkable}
 use Rattle.survey.specs.InRange.{nest-bounded}
 use borrow.Author.Needs.{needs}
 use Rattle.prospect.proofs.outlooks_of.Statement.{statement}

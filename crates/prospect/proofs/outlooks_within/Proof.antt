@@ -1,6 +1,5 @@
 -- `prospect::outlooks_within` meets its contract. Assumes nothing.
-use mathlib.Core.Path.{_≡_, sym, _∙_, subst}
-use mathlib.Core.Bool.{Bool, true, false}
+use mathlib.Core.Path.{sym, _∙_, subst}
 use lib.Dec.{T}
 use borrow.Author.Needs.{needs}
 use Rattle.prospect.proofs.outlooks_within.Statement.{statement}

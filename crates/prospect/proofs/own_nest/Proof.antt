@@ -3,9 +3,7 @@ use mathlib.Core.Path.{_≡_, refl, subst}
 use lib.IntN.{pos}
 use Rattle.integers.specs.Vectors.{zero3, dot}
 use Rattle.integers.specs.declared.V3.{V3}
-use Rattle.vectors.specs.Within.{rows-wider}
 use Rattle.prospect.specs.Own.{own-moves}
-use borrow.Author.Needs.{needs}
 use Rattle.prospect.proofs.own_nest.Statement.{statement}
 use Rattle.prospect.proofs.own_nest.Tie as tie
 

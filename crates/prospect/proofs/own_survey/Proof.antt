@@ -1,9 +1,8 @@
 -- `prospect::own_survey` meets its contract: nothing but the step of the loops is another. Assumes nothing.
-use mathlib.Core.Path.{_≡_, sym, _∙_, ap, subst}
-use mathlib.Core.Bool.{false}
+use mathlib.Core.Path.{sym, _∙_, ap, subst}
 use Rattle.meaning.specs.declared.Nest.{Nest}
 use Rattle.meaning.specs.declared.Description.{Description}
-use Rattle.meaning.specs.Accept.{refused7, refused8}
+use Rattle.meaning.specs.Accept.{refused8}
 use Rattle.meaning.specs.HowManyWork.{stepped, withNest}
 use Rattle.decode.specs.Ranged.{Ranged}
 use Rattle.survey.specs.InRange.{nest-bounded}
