@@ -2,7 +2,8 @@
  * Linux).
  *
  * Every call but Fill and Make, at the end, is told the board that it serves, and is lent a description. It declines by 33 if there is no
- * such board, before all else, then by 1 to 17 if the description is not accepted on it, and then by the numbers that its comment names.
+ * such board, before all else, then by 1 to 17 if the description is not accepted on it, and then by the numbers that its comment names;
+ * Step vectors has an order of its own.
  *
  * Every call answers 0, or the documents' number by which it declines, and then changes no lent word; 9 is never given (request 2.2).
  * Words beyond those that a comment names never change. A call keeps nothing between calls and allocates nothing. It takes up to 447 KB of
@@ -35,6 +36,12 @@ enum beqlanosh_board { BEQLANOSH_GAUGE = 0, BEQLANOSH_BENCH = 1 };
  * those of the six streams, 0 past the streams in use. The divisor of a matrix is the greatest common divisor of its row's two words, or of
  * the words of its rows' cross product: of all whole points one in so many is a value of the matrix. Declines by 33, then by 1 to 17. */
 uint32_t beqlanosh_accept(uint32_t board, const uint8_t *bytes, size_t length, uint32_t figures[13]);
+
+/* Step vectors (request 2.10): of all step vectors with entries from -k to k, put in place of the description's own, how many Accept
+ * accepts on that board goes into the first count, and how many it refuses by n into count n, for n from 1 to 17; those of 1 to 7 and of 9
+ * are 0, and together they make (2k+1) to the power of the loops. Declines by 33, by 34 if k is over 3, and by 1 to 7 of the description as
+ * it is lent; its own 8 to 17 decline nothing. */
+uint32_t beqlanosh_step_vectors(uint32_t board, const uint8_t *bytes, size_t length, uint32_t k, uint32_t counts[18]);
 
 /* Table: a row for each process, in row order, goes into the words, 21 words a row. Declines by 33, by 1 to 17, and by 18 if there is no
  * room for all rows. */

@@ -15,6 +15,7 @@ ghost use Rattle.meaning.specs.Answers.{acceptNumber, acceptValues, answerNumbe
 ghost use Rattle.meaning.specs.Answers.{madeNumber, madeValues};
 ghost use Rattle.meaning.specs.Calls.{start, step, run, readyCall, window, result, plainRun};
 ghost use Rattle.meaning.specs.Generator.{fill, make};
+ghost use Rattle.meaning.specs.StepVectors.{stepVectors};
 ghost use Rattle.table_words.specs.Words.{laid};
 ghost use Rattle.table_words.specs.Lent.{tableNumber, tableWords};
 ghost use Rattle.answer_words.specs.Kept.{orKept};
@@ -31,6 +32,21 @@ pub extern "C" fn beqlanosh_accept(board: u32, bytes: &[u8], figures: &mut [u32;
 {
     let answer = accept::accept(board, bytes);
     answer_words::put_acceptance(answer, figures)
+}
+
+// STEP VECTORS: how many step vectors with entries from −k to k get each answer of Accept: accepted, then refusals 1 to 17.
+#[no_mangle]
+pub extern "C" fn beqlanosh_step_vectors(
+    board: u32,
+    bytes: &[u8],
+    k: u32,
+    counts: &mut [u32; 18],
+) -> u32
+    ensures { λ r. ⌜ (r ≡ answerNumber (stepVectors (limitsOf board) (now (bytes .entry)) k (now (counts .entry)) .answer))
+        × (now (counts .exit) ≡ stepVectors (limitsOf board) (now (bytes .entry)) k (now (counts .entry)) .counts) ⌝ }
+{
+    let answer = step_vectors::step_vectors(board, bytes, k, counts);
+    answer_words::number_of(answer)
 }
 
 // ---- table

@@ -18,7 +18,7 @@ use Rattle.integers.specs.declared.V3.{V3}
 use Rattle.meaning.specs.declared.Sizes.{Sizes}
 use Rattle.meaning.specs.declared.Description.{Description}
 use Rattle.meaning.specs.Lists.{numbers}
-use Rattle.meaning.specs.Description.{bytes, sizes, sizesOf, leftAt, rightAt, directionAt, stepAt, placeAt, lineAt, wordsOf, vectorAt, nestOf}
+use Rattle.meaning.specs.Description.{bytes, sizesOf, leftAt, rightAt, directionAt, stepAt, placeAt, lineAt, wordsOf, vectorAt, nestOf}
 use Rattle.meaning.specs.Description.{streamOf, bodyLine, noStream, noLine, descriptionOf}
 use Rattle.meaning.specs.Conditions.{SizesFit}
 use Rattle.meaning.specs.Parts.{vector-same, matrix-same, stream-same}
@@ -194,16 +194,17 @@ module _ (s : List ℕ) (v : List ℤ) (h : SizesFit (sizesOf s)) (long : length
   description-is =
       ap (decoded (withStep s v)) same-sizes
       ∙ (λ i.
-          record {
-            sizes = z;
-            nest = nest-is i;
-            streams =
-                same-numbers (streamOf (withStep s v) z) (streamOf s z) 0 (z .streams)
-                (λ j _ m. stream-same (withStep s v) s h j (omega arith) (λ k l _. word-other k (inr l))) i ++ replicate (6 - z .streams) noStream;
-            lines =
-                same-numbers (bodyLine (withStep s v) z) (bodyLine s z) 0 (z .lines) (λ j _ _. lines-same j) i
-                ++ replicate (8 - z .lines) noLine;
-          })
+      record {
+        sizes = z;
+        nest = nest-is i;
+        streams =
+            same-numbers (streamOf (withStep s v) z) (streamOf s z) 0 (z .streams)
+            (λ j _ m. stream-same (withStep s v) s h j (omega arith) (λ k l _. word-other k (inr l))) i
+            ++ replicate (6 - z .streams) noStream;
+        lines =
+            same-numbers (bodyLine (withStep s v) z) (bodyLine s z) 0 (z .lines) (λ j _ _. lines-same j) i
+            ++ replicate (8 - z .lines) noLine;
+      })
 
   pub replaced : Replaced s v
   replaced =

@@ -118,8 +118,8 @@ module _ (k : ℕ) where
   once (suc r) =
       sorted-each (λ e. map (λ v. e ∷ v) (vectors k r)) (λ e. distinct-map (λ v. e ∷ v) (once r) (λ v w _ _ p. ap tail p))
       (λ a b u v p i j q.
-          let x = map-in (λ v. a ∷ v) (vectors k r) i in
-          let y = map-in (λ v. b ∷ v) (vectors k r) j in apart a b p (head-same (sym (x .is) ∙ q ∙ y .is)))
+      let x = map-in (λ v. a ∷ v) (vectors k r) i in
+      let y = map-in (λ v. b ∷ v) (vectors k r) j in apart a b p (head-same (sym (x .is) ∙ q ∙ y .is)))
       (progression-sorted onward (negℤ (pos k)) width)
     where
       tail : List ℤ → List ℤ

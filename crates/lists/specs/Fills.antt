@@ -1,10 +1,12 @@
--- A list whose first places are stored by a loop: those values in a row, then what stood behind them. Assumes nothing.
-use mathlib.Core.Path.{_≡_, refl, sym, _∙_, ap}
+-- A list whose first places are stored by a loop: those values in a row, then what stood behind them; what is known of each place.
+-- Assumes nothing.
+use mathlib.Core.Path.{_≡_, refl, sym, _∙_, ap, subst}
 use mathlib.Core.List.{List, [], _∷_, _++_, map}
 use Prim.Native.Nat.{ℕ, zero, suc, _+_, _≤_, _<_}
+use native.Mathlib.Decide.{ℕ-discrete}
 use native.Mathlib.Omega.{arith}
 use lib.ListN.{length, getD, set, drop, replicate, length-map}
-use lib.Seq.{set-at, append-snoc, drop-cons, ext-getD}
+use lib.Seq.{set-at, append-snoc, drop-cons, ext-getD, getD-set-same, getD-set-other}
 use Rattle.integers.specs.Fill.{fillBy}
 use Rattle.meaning.specs.Lists.{numbers, numbersFrom}
 use Rattle.lists.specs.Members.{map-at}
@@ -53,3 +55,14 @@ one-value {A} d i (suc n) = ap (λ (l : List A). d ∷ l) (one-value d (suc i) n
 
 pub fill-one : {A : Type 0} (d : A) (n : ℕ) (xs : List A) → n ≤ length xs → fillBy (λ k. d) n xs ≡ replicate n d ++ drop n xs
 fill-one {A} d n xs h = fill-front (λ k. d) n xs h ∙ ap (λ (l : List A). l ++ drop n xs) (one-value d 0 n)
+
+-- ---- by what is known of each place
+
+-- what is known of the first i places, with a member stored behind them
+pub known-next : {A : Type 0} (P : ℕ → A → Type 0) (d : A) {i : ℕ} (xs : List A) {x : A} → i < length xs
+    → ((k : ℕ) → k < i → P k (getD xs k d)) → P i x → (k : ℕ) → k < i + 1 → P k (getD (set xs i x) k d)
+known-next P d {i} xs {x} l h e k m = go (ℕ-discrete k i)
+  where
+    go : Dec (k ≡ i) → P k (getD (set xs i x) k d)
+    go (yes z) = subst (λ (j : ℕ). P j (getD (set xs i x) j d)) (sym z) (subst (P i) (sym (getD-set-same xs i x d l)) e)
+    go (no z) = subst (P k) (sym (getD-set-other xs i k x d z)) (h k (omega arith))

@@ -1,5 +1,5 @@
 -- What is in a list: of members that pass a test, of lists mapped, joined and reversed, and of numbers in a row. Assumes nothing.
-use mathlib.Core.Path.{_≡_, refl, sym, _∙_, ap, subst}
+use mathlib.Core.Path.{_≡_, refl, sym, _∙_, ap, ap₂, subst}
 use mathlib.Core.Logic.{_⊎_, inl, inr}
 use mathlib.Core.Bool.{Bool, true, false, cond}
 use mathlib.Core.List.{List, [], _∷_, _++_, map, reverse, reverseAux, List·Memᴰ as In, List·Memᴰ·head as here, List·Memᴰ·tail as there}
@@ -134,6 +134,11 @@ module _ {A B : Type 0} where
   map-at f [] i d e h = absurd (omega arith)
   map-at f (x ∷ l) zero d e h = refl
   map-at f (x ∷ l) (suc i) d e h = map-at f l i d e (omega arith)
+
+  -- two functions that agree on the members
+  pub map-same : (f g : A → B) (l : List A) → ((x : A) → In x l → f x ≡ g x) → map f l ≡ map g l
+  map-same f g [] h = refl
+  map-same f g (x ∷ l) h = ap₂ _∷_ (h x (here refl)) (map-same f g l (λ y i. h y (there i)))
 
   -- ---- joined: what is there is in the list of some member
 

@@ -1,5 +1,5 @@
--- Document 01, "The description": signed words as bytes and bytes to words, the length that the sizes give, the range of every word, decoding; refusals 1 to
--- 5.
+-- Document 01, "The description": signed words as bytes and bytes to words, the length that the sizes give, the range of every word,
+-- decoding; refusals 1 to 5.
 use mathlib.Core.Bool.{Bool, not, cond, _&&_, _||_}
 use mathlib.Core.List.{List, [], _∷_, map, _++_}
 use Prim.Native.Nat.{ℕ, suc, _+_, _*_, _-_, _/_, _%_}

@@ -52,14 +52,14 @@ fn turned_refused(f: Flow, written: bool) -> bool
 }
 
 // 15, or what comes after it.
-fn ordered(against: bool, late: u32) -> u32
+fn order_answer(against: bool, late: u32) -> u32
     ensures { λ r. ⌜ r ≡ cond against 15 late ⌝ }
 {
     if against { 15 } else { late }
 }
 
 // 11 or 13, or what comes after them.
-fn moved(rank: bool, wide: bool, later: u32) -> u32
+fn move_answer(rank: bool, wide: bool, later: u32) -> u32
     ensures { λ r. ⌜ r ≡ cond rank 11 (cond wide 13 later) ⌝ }
 {
     if rank {
@@ -70,7 +70,7 @@ fn moved(rank: bool, wide: bool, later: u32) -> u32
 }
 
 // 11, or 12.
-fn stopped(rank: bool) -> u32
+fn still_answer(rank: bool) -> u32
     ensures { λ r. ⌜ r ≡ cond rank 11 12 ⌝ }
 {
     if rank { 11 } else { 12 }
@@ -90,10 +90,10 @@ pub fn outlook_of(f: Flow, g: Ground, written: bool, walk: &[i8]) -> Outlook
     Outlook {
         line: line,
         moving: f.moving,
-        still: stopped(rank),
-        leap: moved(rank, wide, 14),
-        onward: moved(rank, wide, ordered(against, late)),
-        back: moved(rank, wide, ordered(turned, late)),
+        still: still_answer(rank),
+        leap: move_answer(rank, wide, 14),
+        onward: move_answer(rank, wide, order_answer(against, late)),
+        back: move_answer(rank, wide, order_answer(turned, late)),
     }
 }
 

@@ -6,8 +6,8 @@ use Prim.Native.Nat.{ℕ, suc, _+_, _≤_, _<_}
 use native.Mathlib.Decide.{ℕ-discrete}
 use native.Mathlib.Omega.{arith}
 use lib.Dec.{T}
-use lib.ListN.{length, getD, set, drop, drop-of-length-le}
-use lib.Seq.{drop-cons, getD-take, getD-set-same, getD-set-other}
+use lib.ListN.{length, getD, drop, drop-of-length-le}
+use lib.Seq.{drop-cons, getD-take}
 use lib.IntN.{pos}
 use borrow.Author.Tests.{eq-eqb, ne-eqb}
 use Rattle.integers.specs.Words.{eqZ}
@@ -42,18 +42,6 @@ FirstOutlooks d m os =
 
 abbrev pub OutlooksOf : Description → List Outlook → Type 0
 OutlooksOf d = FirstOutlooks d (d .sizes .streams)
-
-pub outlooks-next : (d : Description) {i : ℕ} (os : List Outlook) {o : Outlook} → i < length os → FirstOutlooks d i os
-    → OutlookOf (d .nest) (written d i) (getD (d .streams) i noStream) o → FirstOutlooks d (i + 1) (set os i o)
-outlooks-next d {i} os {o} l h e k lt = go (ℕ-discrete k i)
-  where
-    go : Dec (k ≡ i) → OutlookOf (d .nest) (written d k) (getD (d .streams) k noStream) (getD (set os i o) k noOutlook)
-    go (yes z) =
-        subst (λ (j : ℕ). OutlookOf (d .nest) (written d j) (getD (d .streams) j noStream) (getD (set os i o) j noOutlook)) (sym z)
-        (subst (OutlookOf (d .nest) (written d i) (getD (d .streams) i noStream)) (sym (getD-set-same os i o noOutlook l)) e)
-    go (no z) =
-        subst (OutlookOf (d .nest) (written d k) (getD (d .streams) k noStream)) (sym (getD-set-other os i k o noOutlook z))
-        (h k (omega arith))
 
 pub record ProspectOf (l : Limits) (d : Description) (p : Prospect) : Type 0 where
   pub increment-is : p .increment ≡ increment (d .nest)

@@ -87,7 +87,7 @@ pub fn own_survey(d: Description) -> Survey
     let n = d.nest;
     let streams = d.streams;
     let lines = d.lines;
-    survey::surveyed(Description {
+    survey::survey_of(Description {
         sizes: z,
         nest: own_nest(n),
         streams: streams,

@@ -21,6 +21,9 @@
 //   2.9   BenchBoard: `bench-board`: another board word is 33 for every call, and no other is; the gauge answers as before; the bench
 //         accepts what the gauge accepts and the bench can hold; every call answers and leaves the same on both boards whenever the bench
 //         does not refuse, and so for any limits up to others
+//   2.10  HowManyWork: `how-many-work`: which answer Step vectors gives; each count is the number of vectors for which Accept, told that
+//         board and the step coefficients replaced, answers so, over a list that has each vector once; together they make (2k+1) to the
+//         power r, and no answer occurs but 0, 8 and 10 to 17
 //
 // Beneath 2.1 and 2.5: RunsLoops (`runs-loops`: Plain run writes what the loops leave, line by line, by when it runs and what its operation
 // puts; the network finishes with Plain run's values); PlainLoops (`loops-exactly`); Operations (`puts-exactly`) and Guards

@@ -1,6 +1,6 @@
 -- What Step vectors answers and leaves, by its refusal. Assumes nothing.
-use mathlib.Core.Path.{_≡_, refl, sym, _∙_, ap, ap₂, subst}
-use mathlib.Core.List.{List, [], _∷_, map, List·Memᴰ as In, List·Memᴰ·head as here, List·Memᴰ·tail as there}
+use mathlib.Core.Path.{_≡_, refl, sym, _∙_, ap, subst}
+use mathlib.Core.List.{List, map}
 use Prim.Native.Nat.{ℕ, _≤_, _<_}
 use native.Mathlib.Omega.{arith}
 use lib.ListN.{length}
@@ -16,6 +16,7 @@ use Rattle.meaning.specs.Loops.{instances}
 use Rattle.meaning.specs.Description.{sizesOf, descriptionOf}
 use Rattle.meaning.specs.StepVectors.{vectors, answerTo, howMany, answerCount, vectorTests, stepVectors}
 use Rattle.meaning.specs.HowManyWork.{stepVector}
+use Rattle.lists.specs.Members.{map-same}
 use Rattle.choices.specs.Answers.{Passes, passes, laterTests, possible, possible-lt}
 use Rattle.choices.specs.Answers as Accept
 use Rattle.survey.specs.declared.Survey.{Survey}
@@ -23,10 +24,6 @@ use Rattle.prospect.specs.declared.Prospect.{Prospect}
 use Rattle.prospect.specs.Own.{Own, Laid, own-laid}
 use Rattle.prospect.specs.Prospects.{ProspectOf, answering, answerBy, answer-is}
 use Rattle.step_vectors.specs.Tally.{tallyOf, Tallying}
-
-same-on : {A B : Type 0} (f g : A → B) (l : List A) → ((x : A) → In x l → f x ≡ g x) → map f l ≡ map g l
-same-on f g [] h = refl
-same-on f g (x ∷ l) h = ap₂ _∷_ (h x (here refl)) (same-on f g l (λ y i. h y (there i)))
 
 pub loops-are : (s : List ℕ) {v : Survey} → Own (descriptionOf s) v → v .description .sizes .loops ≡ sizesOf s .loops
 unfolding descriptionOf
@@ -72,8 +69,9 @@ module _ (l : Limits) (s : List ℕ) (k : ℕ) (lent : List ℕ) where
           → (Done ≡ stepVectors l s k lent .answer) × (counts ≡ stepVectors l s k lent .counts)
       unfolding stepVectors
       counted-call e =
-          rw (eq-eqb _ 0 none)
-          (refl,
-          e ∙ ap (λ (answers : List ℕ). map (λ a. howMany a answers) (numbers answerCount))
-          (same-on (λ x. answerBy p (stepVector x)) (answerTo l s) (vectors k (sizesOf s .loops))
-          (λ x i. answer-at (stepVector x) ∙ sym (Accept.answer-is lets k few x i))))
+          rw (eq-eqb _ 0 none) (
+            refl,
+            e ∙ ap (λ (answers : List ℕ). map (λ a. howMany a answers) (numbers answerCount))
+                (map-same (λ x. answerBy p (stepVector x)) (answerTo l s) (vectors k (sizesOf s .loops))
+                (λ x i. answer-at (stepVector x) ∙ sym (Accept.answer-is lets k few x i))),
+          )

@@ -88,5 +88,5 @@ module _ (answers : List ℕ) where
   counted-all {j} {counts} l h =
       ext-getD 0 counts (map (λ a. howMany a answers) (numbers answerCount)) (h .long ∙ sym (length-numbers (λ a. howMany a answers) 0 18))
       (λ a m.
-          let b : a < answerCount = omega (arith, h .long) in
-          h .each a b ∙ ap (howMany a) (take-all j answers l) ∙ sym (getD-first (λ a. howMany a answers) 0 18 a b))
+      let b : a < answerCount = omega (arith, h .long) in
+      h .each a b ∙ ap (howMany a) (take-all j answers l) ∙ sym (getD-first (λ a. howMany a answers) 0 18 a b))

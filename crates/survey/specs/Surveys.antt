@@ -1,14 +1,12 @@
 -- What a survey holds: of the loops, of a stream, and of a description. Assumes nothing.
-use mathlib.Core.Path.{_≡_, refl, sym, subst, subst₂}
-use mathlib.Core.Bool.{Bool, true, false, not}
+use mathlib.Core.Path.{_≡_, sym, subst, subst₂}
+use mathlib.Core.Bool.{false, not}
 use mathlib.Core.List.{List, map}
-use Prim.Native.Nat.{ℕ, _+_, _-_, _<_}
+use Prim.Native.Nat.{ℕ, _-_, _<_}
 use native.Mathlib.Omega.{arith}
-use lib.Dec.{eqb}
 use lib.IntN.{pos}
-use lib.ListN.{length, getD, set, replicate, length-append, length-map}
-use lib.Seq.{getD-set-same, getD-set-other, length-take-le}
-use borrow.Author.Tests.{eqb-true, eqb-false}
+use lib.ListN.{length, getD, replicate, length-append, length-map}
+use lib.Seq.{length-take-le}
 use Rattle.integers.specs.Vectors.{zero2, zero3, neg2}
 use Rattle.meaning.specs.declared.Nest.{Nest}
 use Rattle.meaning.specs.declared.Stream.{Stream}
@@ -21,6 +19,7 @@ use Rattle.meaning.specs.Pipes.{backward}
 use Rattle.meaning.specs.Description.{sizesOf, streamOf, noStream, descriptionOf, streamsOf}
 use Rattle.lists.specs.Members.{numbers-length}
 use Rattle.vectors.specs.Within.{Within, Within2}
+use Rattle.decode.specs.Ranged.{Ranged, Decoded}
 use Rattle.numbering.specs.declared.Extent.{Extent}
 use Rattle.numbering.specs.Extents.{Spanning, boxed, box-spanning}
 use Rattle.counting.specs.Forms.{weigh}
@@ -101,19 +100,6 @@ noFlow =
 abbrev pub FirstFlows : Description → ℕ → List Flow → Type 0
 FirstFlows d m flows = (i : ℕ) → i < m → FlowOf (d .nest) (getD (d .streams) i noStream) (getD flows i noFlow)
 
-pub flows-next : (d : Description) {i : ℕ} (flows : List Flow) {f : Flow} → i < length flows → FirstFlows d i flows
-    → FlowOf (d .nest) (getD (d .streams) i noStream) f → FirstFlows d (i + 1) (set flows i f)
-flows-next d {i} flows {f} l h e k lt = go (eqb k i) refl
-  where
-    go : (b : Bool) → eqb k i ≡ b → FlowOf (d .nest) (getD (d .streams) k noStream) (getD (set flows i f) k noFlow)
-    go true q =
-        let z = eqb-true k i q in
-        subst (λ (j : ℕ). FlowOf (d .nest) (getD (d .streams) j noStream) (getD (set flows i f) j noFlow)) (sym z)
-        (subst (FlowOf (d .nest) (getD (d .streams) i noStream)) (sym (getD-set-same flows i f noFlow l)) e)
-    go false q =
-        let z = eqb-false k i q in
-        subst (FlowOf (d .nest) (getD (d .streams) k noStream)) (sym (getD-set-other flows i k f noFlow z)) (h k (omega arith))
-
 abbrev pub FlowsOf : Description → List Flow → Type 0
 FlowsOf d = FirstFlows d (d .sizes .streams)
 
@@ -142,6 +128,14 @@ streams-used s =
       length-map (numbers (z .streams)) (streamOf s z),
       numbers-length 0 (z .streams),
     ))
+
+-- what is decoded may be surveyed
+pub may-survey : {s : List ℕ} {d : Description} → Decoded s → d ≡ descriptionOf s
+    → Ranged d × (length (streamsOf d) ≡ d .sizes .streams)
+may-survey {s} h e = (
+  subst Ranged (sym e) (h .ranged),
+  subst (λ (d : Description). length (streamsOf d) ≡ d .sizes .streams) (sym e) (streams-used s),
+)
 
 -- of the bytes of a description
 pub record SurveyOf (s : List ℕ) (v : Survey) : Type 0 where

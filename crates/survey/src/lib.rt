@@ -24,10 +24,10 @@ ghost use Rattle.meaning.specs.Pipes.{backward};
 ghost use Rattle.meaning.specs.Description.{streamsOf};
 ghost use Rattle.meaning.specs.Accept.{small};
 ghost use Rattle.vectors.specs.Within.{Within, Within2};
-ghost use Rattle.decode.specs.Ranged.{Decoded, Ranged};
+ghost use Rattle.decode.specs.Ranged.{Ranged};
 ghost use Rattle.numbering.specs.Ranges.{Bounded};
 ghost use Rattle.survey.specs.InRange.{InRange};
-ghost use Rattle.survey.specs.Surveys.{GroundOf, FlowOf, FlowsOf, Surveyed, SurveyOf, noFlow};
+ghost use Rattle.survey.specs.Surveys.{GroundOf, FlowOf, FlowsOf, Surveyed, noFlow};
 use integers::Matrix;
 use integers::V2;
 use integers::V3;
@@ -248,7 +248,7 @@ pub fn flow_at(v: Survey, i: usize) -> Flow
 // ---- a description
 
 // The survey of a description whose words are in range.
-pub fn surveyed(d: Description) -> Survey
+pub fn survey_of(d: Description) -> Survey
     requires { ⌜ (Ranged d) × (length (streamsOf d) ≡ d .sizes .streams) ⌝ }
     ensures { λ r. ⌜ (r .description ≡ d) × (Surveyed r) ⌝ }
 {
@@ -260,14 +260,6 @@ pub fn surveyed(d: Description) -> Survey
         ground: g,
         flows: flows_of(d, g),
     }
-}
-
-// The survey of bytes that may be decoded.
-pub fn survey_of(s: &[u8]) -> Survey
-    requires { ⌜ Decoded (now s) ⌝ }
-    ensures { λ r. ⌜ SurveyOf (now (s .entry)) r ⌝ }
-{
-    surveyed(decode::description(s))
 }
 
 // The survey of bytes that may not: their refusal, and nothing besides.

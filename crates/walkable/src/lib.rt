@@ -45,7 +45,7 @@ fn nest_survey(s: &[u8], limits: Limits) -> Survey
 {
     let early = early_refusal(s, limits);
     if early == 0 {
-        let mut v = survey::survey_of(s);
+        let mut v = survey::survey_of(decode::description(s));
         let n = v.description.nest;
         let g = v.ground;
         v.refusal = refuse_nest::nest_refusal(n, g, limits);

@@ -21,30 +21,30 @@ turned-refused-requires c κs = search needs
 late-refusal-requires : tie.Need-late-refusal-requires
 late-refusal-requires c κs = search needs
 
-stopped-requires : tie.Need-stopped-requires
-stopped-requires c κs = search needs
+still-answer-requires : tie.Need-still-answer-requires
+still-answer-requires c κs = search needs
 
-moved-requires : tie.Need-moved-requires
-moved-requires c κs = search needs
+move-answer-requires : tie.Need-move-answer-requires
+move-answer-requires c κs = search needs
 
-ordered-requires : tie.Need-ordered-requires
-ordered-requires c κs = search needs
+order-answer-requires : tie.Need-order-answer-requires
+order-answer-requires c κs = search needs
 
-moved-requires-2 : tie.Need-moved-requires-2
-moved-requires-2 c κs = search needs
+move-answer-requires-2 : tie.Need-move-answer-requires-2
+move-answer-requires-2 c κs = search needs
 
-ordered-requires-2 : tie.Need-ordered-requires-2
-ordered-requires-2 c κs = search needs
+order-answer-requires-2 : tie.Need-order-answer-requires-2
+order-answer-requires-2 c κs = search needs
 
-moved-requires-3 : tie.Need-moved-requires-3
-moved-requires-3 c κs = search needs
+move-answer-requires-3 : tie.Need-move-answer-requires-3
+move-answer-requires-3 c κs = search needs
 
 -- what the callees answer, by what they ensure of their arguments
-moved-is : {r x x' : ℕ} {a a' b b' : Bool} → r ≡ cond a 11 (cond b 13 x) → a ≡ a' → b ≡ b' → x ≡ x' → r ≡ cond a' 11 (cond b' 13 x')
-moved-is e p q h = rw (p, q, h) at e
+move-is : {r x x' : ℕ} {a a' b b' : Bool} → r ≡ cond a 11 (cond b 13 x) → a ≡ a' → b ≡ b' → x ≡ x' → r ≡ cond a' 11 (cond b' 13 x')
+move-is e p q h = rw (p, q, h) at e
 
-ordered-is : {r x x' : ℕ} {a a' : Bool} → r ≡ cond a 15 x → a ≡ a' → x ≡ x' → r ≡ cond a' 15 x'
-ordered-is e p h = rw (p, h) at e
+order-is : {r x x' : ℕ} {a a' : Bool} → r ≡ cond a 15 x → a ≡ a' → x ≡ x' → r ≡ cond a' 15 x'
+order-is e p h = rw (p, h) at e
 
 returns : tie.Need-returns
 returns c =
@@ -61,13 +61,13 @@ returns c =
       line-is = s .pre .0 .flow .line-is;
       line-small = s .pre .0 .flow .line-small;
       moving-is = s .pre .0 .flow .moving-is;
-      still-is = rw rank at (c .before .before .before .before .before .stopped .ensures);
-      leap-is = moved-is (c .before .before .before .before .moved .ensures) rank wide refl;
+      still-is = rw rank at (c .before .before .before .before .before .still-answer .ensures);
+      leap-is = move-is (c .before .before .before .before .move-answer .ensures) rank wide refl;
       onward-is =
-          moved-is (c .before .before .moved2 .ensures) rank wide
-          (ordered-is (c .before .before .before .ordered .ensures) (o .order-refused .ensures) late);
+          move-is (c .before .before .move-answer2 .ensures) rank wide
+          (order-is (c .before .before .before .order-answer .ensures) (o .order-refused .ensures) late);
       back-is =
-          moved-is (c .moved3 .ensures) rank wide (ordered-is (c .before .ordered2 .ensures) (t .turned-refused .ensures) late);
+          move-is (c .move-answer3 .ensures) rank wide (order-is (c .before .order-answer2 .ensures) (t .turned-refused .ensures) late);
     }
 
 pub outlook-of-spec : {M : Type 1} → statement M
@@ -79,10 +79,10 @@ outlook-of-spec =
     order-refused-requires
     turned-refused-requires
     late-refusal-requires
-    stopped-requires
-    moved-requires
-    ordered-requires
-    moved-requires-2
-    ordered-requires-2
-    moved-requires-3
+    still-answer-requires
+    move-answer-requires
+    order-answer-requires
+    move-answer-requires-2
+    order-answer-requires-2
+    move-answer-requires-3
     returns)

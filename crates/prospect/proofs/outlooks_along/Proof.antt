@@ -1,17 +1,19 @@
 -- `prospect::outlooks_along` meets its contract: the outlooks are those of the first i streams. Assumes nothing.
 use mathlib.Core.Path.{_≡_, refl, sym, subst, subst₂}
 use mathlib.Core.Bool.{Bool}
-use Prim.Native.Nat.{_-_, _≤_, _<_}
+use Prim.Native.Nat.{ℕ, _-_, _≤_, _<_}
 use native.Mathlib.Omega.{arith}
 use lib.ListN.{length, getD, length-set}
 use Rattle.meaning.specs.declared.Nest.{Nest}
 use Rattle.meaning.specs.declared.Stream.{Stream}
-use Rattle.meaning.specs.Description.{noStream}
-use Rattle.outlook.specs.Outlooks.{OutlookOf}
+use Rattle.meaning.specs.Description.{noStream, written}
+use Rattle.lists.specs.Fills.{known-next}
+use Rattle.outlook.specs.declared.Outlook.{Outlook}
+use Rattle.outlook.specs.Outlooks.{OutlookOf, noOutlook}
 use Rattle.survey.specs.InRange.{in-range}
 use Rattle.survey.specs.Surveys.{GroundOf, charted, flow-is}
 use Rattle.walk.specs.Walked.{Along}
-use Rattle.prospect.specs.Prospects.{FirstOutlooks, outlooks-next}
+use Rattle.prospect.specs.Prospects.{FirstOutlooks}
 use borrow.Author.Needs.{needs}
 use Rattle.prospect.proofs.outlooks_along.Statement.{statement}
 use Rattle.prospect.proofs.outlooks_along.Tie as tie
@@ -81,7 +83,8 @@ loop-again c =
     let o = c .outlook-of .result in (
       omega (arith, t),
       simp length-set (l .inv .1),
-      outlooks-next d (l .out) (omega (arith, stream-lt c, l .inv .1)) (l .inv .2)
+      known-next (λ (k : ℕ) (o : Outlook). OutlookOf (d .nest) (written d k) (getD (d .streams) k noStream) o) noOutlook (l .out)
+          (omega (arith, stream-lt c, l .inv .1)) (l .inv .2)
           (subst (λ (b : Bool). OutlookOf (d .nest) b (getD (d .streams) (l .i) noStream) o) (w .written .ensures)
           (subst₂ (λ (n : Nest) (r : Stream). OutlookOf n (w .written .result) r o) (k .nest-is) (k .stream-is) (c .outlook-of .ensures))),
     )

@@ -21,24 +21,24 @@ in-range c =
     let m = c .own-nest .ensures in
     subst (λ (n : Nest). Ranged (withNest (s .args .d) n)) (sym (m .same)) (own-ranged (s .pre .0) (m .small))
 
-surveyed-requires : tie.Need-surveyed-requires
-surveyed-requires c κs = (in-range c, c .before .before .before .before .before .pre .1)
+survey-of-requires : tie.Need-survey-of-requires
+survey-of-requires c κs = (in-range c, c .before .before .before .before .before .pre .1)
 
 returns : tie.Need-returns
 returns c =
     let k = c .before in
     let s = k .before .before .before .before .before in
     let d = s .args .d in
-    let e = c .surveyed .ensures .0 in
+    let e = c .survey-of .ensures .0 in
     let m = k .own-nest .ensures in
     record {
       same =
           e ∙ ap (withNest d) (m .same)
           ∙ ap (λ (t : Description). withNest d (stepped (d .nest) (t .nest .step))) (sym e);
       ranged = subst Ranged (sym e) (in-range k);
-      surveyed = c .surveyed .ensures .1;
+      surveyed = c .survey-of .ensures .1;
       moves = λ r. ap (λ (t : Description). refused8 (t .nest)) e ∙ m .moves r;
     }
 
 pub own-survey-spec : {M : Type 1} → statement M
-own-survey-spec = tie.close (tie.spec own-nest-requires surveyed-requires returns)
+own-survey-spec = tie.close (tie.spec own-nest-requires survey-of-requires returns)

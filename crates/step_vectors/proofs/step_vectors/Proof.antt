@@ -65,7 +65,7 @@ returns-2 c =
     let lent = now (a .counts) in
     subst
     (λ (l : Limits). (Refused (v .survey-of .result .refusal) ≡ stepVectors l s (a .k) lent .answer)
-        × (lent ≡ stepVectors l s (a .k) lent .counts))
+    × (lent ≡ stepVectors l s (a .k) lent .counts))
     (l .limits-of .ensures .0)
     (declined-call (l .limits-of .result) s (a .k) lent (v .survey-of .ensures .refusal-is) (c .if1 .left))
 

@@ -1,13 +1,11 @@
 -- `step_vectors::survey_of` meets its contract: words that 1 to 5 do not refuse may be decoded and surveyed. Assumes nothing.
 use mathlib.Core.Path.{_≡_, sym, _∙_, ap, subst}
-use lib.ListN.{length}
 use denote.Ref.{now}
 use Rattle.meaning.specs.declared.Limits.{Limits}
 use Rattle.meaning.specs.declared.Description.{Description}
 use Rattle.meaning.specs.Tests.{refusal}
-use Rattle.meaning.specs.Description.{streamsOf}
-use Rattle.decode.specs.Ranged.{Ranged, Decoded}
-use Rattle.survey.specs.Surveys.{streams-used}
+use Rattle.decode.specs.Ranged.{Decoded}
+use Rattle.survey.specs.Surveys.{may-survey}
 use Rattle.prospect.specs.Own.{Own}
 use Rattle.step_vectors.specs.Stages.{earlyTests, early-decoded, early-stops, early-goes-on}
 use borrow.Author.Needs.{needs}
@@ -33,11 +31,7 @@ description-requires : tie.Need-description-requires
 description-requires c κs = may-decode c .sized
 
 own-survey-requires : tie.Need-own-survey-requires
-own-survey-requires c κs =
-    let e = sym (c .description .ensures) in (
-      subst Ranged e (may-decode (c .before) .ranged),
-      subst (λ (d : Description). length (streamsOf d) ≡ d .sizes .streams) e (streams-used _),
-    )
+own-survey-requires c κs = may-survey (may-decode (c .before)) (c .description .ensures)
 
 ground-refusal-requires : tie.Need-ground-refusal-requires
 ground-refusal-requires c κs = search needs

@@ -1,11 +1,14 @@
 -- `survey::flows_of` meets its contract: the flows are those of the first i streams. Assumes nothing.
 use mathlib.Core.Path.{_≡_, refl, subst}
-use Prim.Native.Nat.{_-_, _≤_, _<_}
+use Prim.Native.Nat.{ℕ, _-_, _≤_, _<_}
 use native.Mathlib.Omega.{arith}
-use lib.ListN.{length, length-set}
+use lib.ListN.{length, getD, length-set}
 use Rattle.meaning.specs.declared.Stream.{Stream}
+use Rattle.meaning.specs.Description.{noStream}
+use Rattle.lists.specs.Fills.{known-next}
 use Rattle.survey.specs.InRange.{in-range}
-use Rattle.survey.specs.Surveys.{FlowOf, FirstFlows, flows-next}
+use Rattle.survey.specs.declared.Flow.{Flow}
+use Rattle.survey.specs.Surveys.{FlowOf, FirstFlows, noFlow}
 use borrow.Author.Needs.{needs}
 use Rattle.survey.proofs.flows_of.Statement.{statement}
 use Rattle.survey.proofs.flows_of.Tie as tie
@@ -60,7 +63,8 @@ loop-again c =
     let d = s .args .d in (
       omega (arith, t),
       simp length-set (l .inv .1),
-      flows-next d (l .out) (omega (arith, t, l .inv .1, s .pre .0 .sized .most-streams)) (l .inv .2)
+      known-next (λ (k : ℕ) (f : Flow). FlowOf (d .nest) (getD (d .streams) k noStream) f) noFlow (l .out)
+          (omega (arith, t, l .inv .1, s .pre .0 .sized .most-streams)) (l .inv .2)
           (subst (λ (r : Stream). FlowOf (d .nest) r (c .flow-of .result)) (c .before .stream .ensures) (c .flow-of .ensures)),
     )
 

@@ -1,27 +1,19 @@
--- `survey::survey_of` meets its contract: words that may be decoded are in range. Assumes nothing.
-use mathlib.Core.Path.{_≡_, sym, _∙_, subst}
-use lib.ListN.{length}
-use Rattle.meaning.specs.declared.Description.{Description}
-use Rattle.meaning.specs.Description.{streamsOf}
-use Rattle.decode.specs.Ranged.{Ranged}
-use Rattle.survey.specs.Surveys.{streams-used}
-use borrow.Author.Needs.{needs}
+-- `survey::survey_of` meets its contract. Assumes nothing.
+use mathlib.Core.Path.{refl}
+use Rattle.survey.specs.InRange.{nest-bounded}
 use Rattle.survey.proofs.survey_of.Statement.{statement}
 use Rattle.survey.proofs.survey_of.Tie as tie
 
-description-requires : tie.Need-description-requires
-description-requires c κs = search needs
+ground-of-requires : tie.Need-ground-of-requires
+ground-of-requires c κs = nest-bounded (c .before .pre .0 .nest)
 
-surveyed-requires : tie.Need-surveyed-requires
-surveyed-requires c κs =
-    let e = sym (c .description .ensures) in (
-      subst Ranged e (c .before .before .pre .ranged),
-      subst (λ (d : Description). length (streamsOf d) ≡ d .sizes .streams) e (streams-used _),
-    )
+flows-of-requires : tie.Need-flows-of-requires
+flows-of-requires c κs = (c .before .before .pre .0, c .ground-of .ensures)
 
 returns : tie.Need-returns
 returns c =
-    record { description-is = c .surveyed .ensures .0 ∙ c .before .description .ensures; surveyed = c .surveyed .ensures .1 }
+    let p = c .before .before .before .pre in
+    (refl, record { in-use = p .1; ground = c .before .ground-of .ensures; flow = c .flows-of .ensures })
 
 pub survey-of-spec : {M : Type 1} → statement M
-survey-of-spec = tie.close (tie.spec description-requires surveyed-requires returns)
+survey-of-spec = tie.close (tie.spec ground-of-requires flows-of-requires returns)

@@ -8,7 +8,9 @@ use Rattle.meaning.specs.Description.{descriptionOf}
 use Rattle.geometry.specs.Tests.{numbered}
 use Rattle.numbering.specs.Ranges.{Bounded}
 use Rattle.survey.specs.InRange.{nest-bounded}
+use Rattle.decode.specs.Ranged.{Decoded}
 use Rattle.survey.specs.Accepted.{early-decoded}
+use Rattle.survey.specs.Surveys.{SurveyOf, may-survey}
 use Rattle.survey.specs.Stages.{layoutTests, earlyTests, walk-tests, goes-on, stops}
 use borrow.Author.Needs.{needs}
 use Rattle.walkable.proofs.nest_survey.Statement.{statement}
@@ -17,16 +19,27 @@ use Rattle.walkable.proofs.nest_survey.Tie as tie
 early-refusal-requires : tie.Need-early-refusal-requires
 early-refusal-requires c κs = search needs
 
-survey-of-requires : tie.Need-survey-of-requires
-survey-of-requires c κs =
+-- the words are in range
+may-decode : (c : tie.Then1) → Decoded (now (c .before .before .before .args .s))
+may-decode c =
     early-decoded (c .before .before .before .args .limits) _ (sym (c .before .early-refusal .ensures) ∙ c .if1 .taken)
+
+description-requires : tie.Need-description-requires
+description-requires c κs = may-decode c .sized
+
+survey-of-requires : tie.Need-survey-of-requires
+survey-of-requires c κs = may-survey (may-decode (c .before)) (c .description .ensures)
+
+-- what is surveyed
+survey-is : (c : tie.After-survey-of) → SurveyOf (now (c .before .before .before .before .before .args .s)) (c .survey-of .result)
+survey-is c =
+    record { description-is = c .survey-of .ensures .0 ∙ c .before .description .ensures; surveyed = c .survey-of .ensures .1 }
 
 nest-refusal-requires : tie.Need-nest-refusal-requires
 nest-refusal-requires c κs =
-    let v = c .before .before .survey-of .ensures in
-    let e = c .before .before .before .before in
-    let w = early-decoded (e .before .before .args .limits) _ (sym (e .early-refusal .ensures) ∙ c .before .before .before .if1 .taken) in (
-      subst (λ (d : Description). Bounded (d .nest)) (sym (v .description-is)) (nest-bounded (w .ranged .nest)),
+    let v = survey-is (c .before .before) in (
+      subst (λ (d : Description). Bounded (d .nest)) (sym (v .description-is))
+          (nest-bounded (may-decode (c .before .before .before .before) .ranged .nest)),
       v .surveyed .ground,
     )
 
@@ -36,13 +49,14 @@ refused-requires c κs = search needs
 returns : tie.Need-returns
 unfolding numbered
 returns c =
-    let v = c .before .before .before .survey-of .ensures in
-    let e = c .before .before .before .before .before in
+    let v = survey-is (c .before .before .before) in
+    let t = c .before .before .before .before .before in
+    let e = t .before in
     let a = e .before .before .args in
     let l = a .limits in
     let s = now (a .s) in (
       goes-on (earlyTests l s) (layoutTests l (descriptionOf s .nest)) tt (e .early-refusal .ensures)
-          (c .before .before .before .before .if1 .taken)
+          (t .if1 .taken)
           (c .nest-refusal .ensures ∙ ap (λ (d : Description). refusal (layoutTests l (d .nest))) (v .description-is))
           ∙ walk-tests l s,
       λ _. record {
@@ -68,6 +82,7 @@ nest-survey-spec =
     tie.close
     (tie.spec
     early-refusal-requires
+    description-requires
     survey-of-requires
     nest-refusal-requires
     refused-requires
