@@ -2,7 +2,7 @@
 use mathlib.Core.Path.{_≡_, refl, sym, _∙_, ap}
 use mathlib.Core.Logic.{_⊎_, inl, inr}
 use mathlib.Core.Bool.{Bool, true, false, cond}
-use mathlib.Core.List.{List, [], _∷_, _++_, map}
+use mathlib.Core.List.{List, [], _∷_, _++_}
 use Prim.Native.Nat.{ℕ, _+_, _*_, _-_, _^_, _≤_, _<_}
 use native.Mathlib.Omega.{arith}
 use lib.Dec.{eqb}
@@ -16,10 +16,8 @@ use borrow.Author.Tests.{eqb-true, eqb-false}
 use Rattle.integers.specs.Bytes.{bitsAt, wordAt}
 use Rattle.integers.specs.declared.V3.{V3}
 use Rattle.meaning.specs.declared.Sizes.{Sizes}
-use Rattle.meaning.specs.declared.Description.{Description}
-use Rattle.meaning.specs.Lists.{numbers}
 use Rattle.meaning.specs.Description.{bytes, sizesOf, leftAt, rightAt, directionAt, stepAt, placeAt, lineAt, wordsOf, vectorAt, nestOf}
-use Rattle.meaning.specs.Description.{streamOf, bodyLine, noStream, noLine, descriptionOf}
+use Rattle.meaning.specs.Description.{streamOf, bodyLine, noStream, noLine, decoded, descriptionOf}
 use Rattle.meaning.specs.Conditions.{SizesFit}
 use Rattle.meaning.specs.Parts.{vector-same, matrix-same, stream-same}
 use Rattle.meaning.specs.StepVectors.{withStep}
@@ -178,16 +176,6 @@ module _ (s : List ℕ) (v : List ℤ) (h : SizesFit (sizesOf s)) (long : length
         bits-other (lineAt z i + 5) (inr (o 5)),
         word-other (lineAt z i + 6) (inr (o 6)),
       )
-
-  -- of given sizes
-  abbrev decoded : List ℕ → Sizes → Description
-  decoded t z =
-      record {
-        sizes = z;
-        nest = nestOf t z;
-        streams = map (streamOf t z) (numbers (z .streams)) ++ replicate (6 - z .streams) noStream;
-        lines = map (bodyLine t z) (numbers (z .lines)) ++ replicate (8 - z .lines) noLine;
-      }
 
   pub description-is : descriptionOf (withStep s v) ≡ withNest (descriptionOf s) (stepped (descriptionOf s .nest) (stepVector v))
   unfolding descriptionOf

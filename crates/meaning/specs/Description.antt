@@ -165,15 +165,18 @@ noStream = record { map = record { top = zero3; low = zero3 }; loading = zero2 }
 abbrev pub noLine : Line
 noLine = record { operation = 0; target = 0; first = 0; second = 0; index = 0; comparison = 0; bound = pos 0 }
 
-unfoldable pub descriptionOf : List ℕ → Description
-descriptionOf s =
-    let z = sizesOf s in
+-- of given sizes, and of its own
+abbrev pub decoded : List ℕ → Sizes → Description
+decoded s z =
     record {
       sizes = z;
       nest = nestOf s z;
       streams = map (streamOf s z) (numbers (z .streams)) ++ replicate (6 - z .streams) noStream;
       lines = map (bodyLine s z) (numbers (z .lines)) ++ replicate (8 - z .lines) noLine;
     }
+
+unfoldable pub descriptionOf : List ℕ → Description
+descriptionOf s = decoded s (sizesOf s)
 
 -- the streams and lines in use
 abbrev pub streamsOf : Description → List Stream

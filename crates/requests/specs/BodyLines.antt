@@ -16,26 +16,16 @@ use Rattle.integers.specs.Differences.{le-out, le-in}
 use Rattle.integers.specs.Bytes.{bitsAt, wordAt}
 use Rattle.meaning.specs.declared.Sizes.{Sizes}
 use Rattle.meaning.specs.declared.Line.{Line}
-use Rattle.meaning.specs.declared.Description.{Description}
 use Rattle.meaning.specs.Lists.{numbers}
 use Rattle.meaning.specs.Points.{Between}
 use Rattle.meaning.specs.Operations.{lastOperation}
 use Rattle.meaning.specs.Guards.{lastComparison}
-use Rattle.meaning.specs.Description.{sizesOf, lineAt, nestOf, streamOf, bodyLine, noStream, noLine, descriptionOf, streamsOf, linesOf}
+use Rattle.meaning.specs.Description.{decoded, sizesOf, lineAt, streamOf, bodyLine, noStream, noLine, descriptionOf, streamsOf, linesOf}
 use Rattle.meaning.specs.Conditions.{SizesFit, WordsFit}
 use Rattle.lists.specs.Members.{map-in, in-numbers, numbers-in}
 use Rattle.lists.specs.Rows.{length-numbers, getD-first}
 
 -- ---- what bytes and sizes decode to
-
-abbrev pub decoded : List ℕ → Sizes → Description
-decoded u z =
-    record {
-      sizes = z;
-      nest = nestOf u z;
-      streams = map (streamOf u z) (numbers (z .streams)) ++ replicate (6 - z .streams) noStream;
-      lines = map (bodyLine u z) (numbers (z .lines)) ++ replicate (8 - z .lines) noLine;
-    }
 
 -- of n parts that are followed by others the first n are those, each at its number
 module _ {A : Type 0} (f : ℕ → A) (n : ℕ) (rest : List A) where

@@ -22,7 +22,7 @@ use Rattle.meaning.specs.Tests.{_if_, refusal}
 use Rattle.meaning.specs.Lists.{any, numbersFrom}
 use Rattle.meaning.specs.Description.{sizesOf, leftAt, rightAt, directionAt, stepAt, placeAt, lineAt}
 use Rattle.meaning.specs.Description.{wordsOf, inRange, nestOf, streamOf, bodyLine, noStream}
-use Rattle.meaning.specs.Description.{descriptionOf, streamsOf, written, refused1, refused2, refused3, refused4}
+use Rattle.meaning.specs.Description.{decoded, descriptionOf, streamsOf, written, refused1, refused2, refused3, refused4}
 use Rattle.meaning.specs.Accept.{refused33, nestTests, testsFrom, refusalOf, figures, divisors, accept}
 use Rattle.meaning.specs.Conditions.{SizesFit}
 use Rattle.meaning.specs.Parts.{vector-same, matrix-same, stream-same}
@@ -31,7 +31,7 @@ use Rattle.abstract_network.specs.Cases.{Order, less, atLeast, order}
 use Rattle.network.specs.Decide.{Says, says-true}
 use Rattle.guarantee.specs.Refusals.{Refuses, Refuses.met, Refuses.broken}
 use Rattle.guarantee.specs.WordConditions.{refuses2}
-use Rattle.requests.specs.BodyLines.{decoded, lines-are}
+use Rattle.requests.specs.BodyLines.{lines-are}
 
 -- ---- what Accept makes of a description
 
