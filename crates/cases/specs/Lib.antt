@@ -3,3 +3,4 @@ pub mod Cases
 pub mod Slanted
 pub mod Walks
 pub mod Boards
+pub mod Choices

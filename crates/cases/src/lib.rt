@@ -5,6 +5,7 @@
 //   Slanted           divisors above 1, and a run of a slanted grid
 //   Walks             walks beside the written order
 //   Boards            what each board holds, another board word, and a run whose calls are told different boards
+//   Choices           how many step vectors get each answer, beside the small cases in `meaning`
 pub fn one() -> usize {
     1
 }
