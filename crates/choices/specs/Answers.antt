@@ -97,15 +97,15 @@ laterTests l d v =
     ∷ testsFrom l (withNest d (stepped (d .nest) v)) 0 (streamsOf d)
 
 module _ (k r : ℕ) (few : k ≤ 3) {v : List ℤ} (i : In v (vectors k r)) where
-  pub vector-length : length v ≡ r
+  vector-length : length v ≡ r
   vector-length = vectors-are k r .exactly v .0 i .0
 
-  pub entry-small : (j : ℕ) → j < length v → Abs (getD v j (pos 0)) 3
+  entry-small : (j : ℕ) → j < length v → Abs (getD v j (pos 0)) 3
   entry-small j l =
       let b = vectors-are k r .exactly v .0 i .1 (getD v j (pos 0)) (getD-in v j (pos 0) l) in
       let a = Abs-range (getD v j (pos 0)) k (b .lo) (b .hi) in record { abs = omega (arith, a .abs) }
 
-  pub entry-fits : (j : ℕ) → j < length v → mag (getD v j (pos 0)) < 2 ^ 31
+  entry-fits : (j : ℕ) → j < length v → mag (getD v j (pos 0)) < 2 ^ 31
   entry-fits j l = fits tt (leaf (entry-small j l)) .sfits
 
 step-in-range : (w : ℤ) → Abs w 3 → within (negsuc 7 to pos 8) w ≡ true

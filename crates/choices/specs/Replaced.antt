@@ -113,7 +113,7 @@ module _ (s : List ℕ) (v : List ℤ) (h : SizesFit (sizesOf s)) (long : length
       byte : (k i : ℕ) → k ≡ at + i → i < 4 * z .loops → getD (withStep s v) k 0 ≡ getD (bytes v) i 0
       byte k i e m = ap (λ (n : ℕ). getD (withStep s v) n 0) e ∙ byte-in i m
 
-  pub word-in : (j : ℕ) → j < z .loops → wordAt (withStep s v) (stepAt z + j) ≡ getD v j (pos 0)
+  word-in : (j : ℕ) → j < z .loops → wordAt (withStep s v) (stepAt z + j) ≡ getD v j (pos 0)
   unfolding wordAt
   word-in j l =
       ap (toZ w32) (bits-in j l) ∙ bytes-word v j (omega (arith, count)) (small j (omega (arith, count)))

@@ -20,7 +20,7 @@ use Rattle.meaning.specs.declared.Stream.{Stream}
 use Rattle.meaning.specs.Tests.{refusal}
 use Rattle.meaning.specs.Loops.{instances, turn, shortOf, lineOf, increment}
 use Rattle.meaning.specs.Space.{eq2, boxOf}
-use Rattle.meaning.specs.Streams.{line, stationary, hop}
+use Rattle.meaning.specs.Streams.{line, stationary}
 use Rattle.meaning.specs.Accept.{small, against, refused8, refused10, refused11, refused13, refused14, refused15, refused16}
 use Rattle.meaning.specs.Accept.{refused17, streamTests}
 use Rattle.meaning.specs.HowManyWork.{stepped}
@@ -33,7 +33,7 @@ neg-neg3 : (u : V3) → neg3 (neg3 u) ≡ u
 neg-neg3 u = same3 (negℤ-negℤ (u .x)) (negℤ-negℤ (u .y)) (negℤ-negℤ (u .z))
 
 -- w is u, or u turned round
-pub data Either (w u : V3) : Type 0 where
+data Either (w u : V3) : Type 0 where
   same : w ≡ u → Either w u
   opposite : w ≡ neg3 u → Either w u
 
@@ -86,7 +86,7 @@ module _ (n : Nest) (v : V3) (m : Matrix) where
   either = either-turn (n .step) v (shortOf m .vector)
 
   -- its line's step, which is not negative
-  pub distance : up (dot v (lineOf (stepped n v) m)) ≡ natAbs (dot v (lineOf n m))
+  distance : up (dot v (lineOf (stepped n v) m)) ≡ natAbs (dot v (lineOf n m))
   unfolding lineOf
   distance = sym (up-abs _ (turn-ahead v (shortOf m .vector))) ∙ go either
     where
@@ -94,7 +94,7 @@ module _ (n : Nest) (v : V3) (m : Matrix) where
       go (same e) = ap (λ (u : V3). natAbs (dot v u)) e
       go (opposite e) = ap (λ (u : V3). natAbs (dot v u)) e ∙ ap natAbs (dot-neg v (lineOf n m)) ∙ abs-neg (dot v (lineOf n m))
 
-  pub still-same : eqZ (dot v (lineOf (stepped n v) m)) (pos 0) ≡ eqZ (dot v (lineOf n m)) (pos 0)
+  still-same : eqZ (dot v (lineOf (stepped n v) m)) (pos 0) ≡ eqZ (dot v (lineOf n m)) (pos 0)
   still-same = go either
     where
       go : Either (lineOf (stepped n v) m) (lineOf n m)

@@ -9,7 +9,6 @@ use lib.ListN.{length, getD, length-map}
 use lib.IntN.{ℤ, pos, negℤ, _+ℤ_, _-ℤ_, _*ℤ_}
 use Rattle.integers.specs.Differences.{gaps, parts, up}
 use Rattle.integers.specs.Variables.{linear}
-use Rattle.meaning.specs.Lists.{each}
 use Rattle.meaning.specs.Loops.{progression, loop}
 use Rattle.meaning.specs.Sorted.{Sorted.none, Sorted.more, Distinct}
 use Rattle.meaning.specs.Points.{Direction.onward, Between, Precedes}
@@ -34,7 +33,7 @@ module _ (k : ℕ) where
 
   -- ---- the entries
 
-  pub entries-length : length (entries k) ≡ width
+  entries-length : length (entries k) ≡ width
   entries-length = progression-length (negℤ (pos k)) (pos 1) width
 
   pub entry-at : (i : ℕ) → i < width → getD (entries k) i (pos 0) ≡ pos i -ℤ pos k

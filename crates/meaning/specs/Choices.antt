@@ -15,7 +15,7 @@ use Rattle.meaning.specs.Description.{nestOf, streamOf, bodyLine, descri
 use Rattle.meaning.specs.Accept.{testsFrom, refusalOf, accept}
 use Rattle.meaning.specs.Answers.{answerNumber}
 use Rattle.meaning.specs.StepVectors.{vectors, stepVectors}
-use Rattle.meaning.specs.Comparison.{Case, _is_, naturals, number, eqList, firstWrong, agree}
+use Rattle.meaning.specs.Comparison.{Case, _is_, naturals, eqList, firstWrong, agree}
 use Rattle.meaning.specs.Designs.{pair, polynomial, designOne}
 
 -- a call's number and its counts

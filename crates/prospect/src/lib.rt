@@ -14,7 +14,6 @@ ghost use Rattle.integers.specs.Vectors.{zero3, dot};
 ghost use Rattle.meaning.specs.Limits.{gaugeLimits, UpTo};
 ghost use Rattle.meaning.specs.Space.{processes};
 ghost use Rattle.meaning.specs.Description.{streamsOf};
-ghost use Rattle.meaning.specs.HowManyWork.{stepped, withNest};
 ghost use Rattle.vectors.specs.Within.{Within};
 ghost use Rattle.decode.specs.Ranged.{Ranged};
 ghost use Rattle.numbering.specs.Ranges.{Bounded};

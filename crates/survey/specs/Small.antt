@@ -17,7 +17,7 @@ use Rattle.lattice.specs.Shorten.{shortens, divisor-zero}
 use Rattle.meaning.specs.declared.Nest.{Nest}
 use Rattle.meaning.specs.Loops.{stepOf, lineOf, unshortened, divisor}
 use Rattle.meaning.specs.Pipes.{backward}
-use Rattle.meaning.specs.Accept.{isZero3, lowRank, small}
+use Rattle.meaning.specs.Accept.{isZero3, lowRank}
 use Rattle.geometry.specs.Lines.{turn-ahead}
 use Rattle.geometry.specs.Numbers.{eqZ-eq, and-left, and-right, up-abs}
 
