@@ -14,7 +14,7 @@ ghost use Rattle.answer_words.specs.Kept.{or_kept};
 use meaning::{Acceptance, Answer, Divisors, Figures, Made, Ran, Readiness};
 
 // An answer in words.
-#[derive(Drop)]
+#[derive(Clone, Copy)]
 pub struct Words {
     pub number: u32,
     pub first: u32,

@@ -199,7 +199,7 @@ fn print_refusal(number: u32) {
 // ---- the calls
 
 // What the lengths of the lists are made of: processes, elements, and whether all is printed.
-#[derive(Drop)]
+#[derive(Clone, Copy)]
 struct Extents {
     processes: usize,
     elements: usize,

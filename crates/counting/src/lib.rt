@@ -24,7 +24,7 @@ use meaning::Nest;
 use numbering::Extent;
 
 // Where each loop begins and ends, and which way it runs.
-#[derive(Drop)]
+#[derive(Clone, Copy)]
 pub struct Course {
     pub first: V3,
     pub last: V3,
@@ -32,7 +32,7 @@ pub struct Course {
 }
 
 // A row number as a form of the instance: so much for each index, less a base.
-#[derive(Drop)]
+#[derive(Clone, Copy)]
 pub struct Form {
     pub weight: V3,
     pub base: i32,

@@ -31,7 +31,7 @@ use lanes::LANES;
 use survey::{Flow, Survey};
 
 // Elements one after the other: the first one's number, how far on the next one's is, the first one's place, and how many they are.
-#[derive(Drop)]
+#[derive(Clone, Copy)]
 struct Run {
     number: i32,
     stride: i32,

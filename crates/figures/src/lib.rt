@@ -21,14 +21,14 @@ use meaning::Figures;
 use survey::{Flow, Survey};
 
 // Of a stream: how many pipes it has, and the steps that they take.
-#[derive(Drop)]
+#[derive(Clone, Copy)]
 struct Sums {
     pipes: u32,
     steps: u32,
 }
 
 // Of a stream: the places of its links, and these.
-#[derive(Drop)]
+#[derive(Clone, Copy)]
 struct Share {
     hop: u32,
     pipes: u32,
@@ -36,7 +36,7 @@ struct Share {
 }
 
 // Over streams: the words of a process, the pipes, their words, and the steps.
-#[derive(Drop)]
+#[derive(Clone, Copy)]
 struct Totals {
     words: u32,
     pipes: u32,

@@ -21,7 +21,7 @@ mag_abs (negsuc n) = omega arith
 
 -- a value in range, as the code holds it; the bound is in `.struct_told .given .1`, in `.fits` and in a call's `.ok`
 pub tower : (z : ℤ) → mag z < 2 ^ 31 → to_z w32 (of_z w32 z) ≡ z
-tower z h = to_z-of_z (record { sfits = h })
+tower z h = to_z-of_z {w = w32} (record { sfits = h })
 
 -- ---- building
 

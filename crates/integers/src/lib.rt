@@ -27,7 +27,7 @@ ghost use Rattle.std.proofs.Common.{to_z, of_z};
 ghost use Rattle.integers.specs.Bytes.{bits_at, word_at};
 
 // Three whole components: an instance of the loops, or the difference of two.
-#[derive(Drop)]
+#[derive(Clone, Copy)]
 pub struct V3 {
     pub x: i32,
     pub y: i32,
@@ -35,14 +35,14 @@ pub struct V3 {
 }
 
 // Two: a place, or an element of a stream.
-#[derive(Drop)]
+#[derive(Clone, Copy)]
 pub struct V2 {
     pub a: i32,
     pub b: i32,
 }
 
 // Two rows of three: place, or a stream's index map.
-#[derive(Drop)]
+#[derive(Clone, Copy)]
 pub struct Matrix {
     pub top: V3,
     pub low: V3,

@@ -9,7 +9,7 @@ ghost use Rattle.lattice.specs.Shorten.{divisor_of, Shortens};
 use integers::V3;
 
 // A vector divided by the greatest common divisor of its components, and that divisor. The zero vector stays, with divisor 0.
-#[derive(Drop)]
+#[derive(Clone, Copy)]
 pub struct Short {
     pub vector: V3,
     pub divisor: u32,

@@ -43,7 +43,7 @@ const BASE: u32 = 256;
 const LEAST: i32 = -64;
 
 // One coordinate of a box, of a point in it and of the way on from there.
-#[derive(Drop)]
+#[derive(Clone, Copy)]
 struct Ray {
     lo: i32,
     hi: i32,

@@ -17,7 +17,7 @@ const WORDS: u32 = 4096;
 const BYTES: u32 = 512;
 
 // A call.
-#[derive(Drop)]
+#[derive(Clone, Copy)]
 struct Record {
     call: u32,
     seed: u32,

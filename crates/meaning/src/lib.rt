@@ -83,7 +83,7 @@ pub const STATE_WORDS: usize = PROCESSES * (1 + STREAMS * (4 + HOP as usize))
     + PIPES * (2 + HOP as usize);
 
 // A description's three sizes: loops r, streams m, body lines b.
-#[derive(Drop)]
+#[derive(Clone, Copy)]
 pub struct Sizes {
     pub loops: u32,
     pub streams: u32,
@@ -91,14 +91,14 @@ pub struct Sizes {
 }
 
 // A range of words, from the least to the greatest.
-#[derive(Drop)]
+#[derive(Clone, Copy)]
 pub struct Range {
     pub least: i32,
     pub greatest: i32,
 }
 
 // The loops with their layout: left and right bounds, directions, step coefficients, place.
-#[derive(Drop)]
+#[derive(Clone, Copy)]
 pub struct Nest {
     pub left: V3,
     pub right: V3,
@@ -108,14 +108,14 @@ pub struct Nest {
 }
 
 // A stream: its index map and its loading vector.
-#[derive(Drop)]
+#[derive(Clone, Copy)]
 pub struct Stream {
     pub map: Matrix,
     pub loading: V2,
 }
 
 // A body line: operation, target, first and second operand; its guard: a loop number, a comparison and a bound.
-#[derive(Drop)]
+#[derive(Clone, Copy)]
 pub struct Line {
     pub operation: u32,
     pub target: u32,
@@ -127,7 +127,7 @@ pub struct Line {
 }
 
 // A decoded description. Streams and lines past the sizes are zero.
-#[derive(Drop)]
+#[derive(Clone, Copy)]
 pub struct Description {
     pub sizes: Sizes,
     pub nest: Nest,
@@ -136,7 +136,7 @@ pub struct Description {
 }
 
 // A board word, and that board's limits of refusals 6, 10 and 14.
-#[derive(Drop)]
+#[derive(Clone, Copy)]
 pub struct Limits {
     pub board: u32,
     pub instances: u32,
@@ -145,7 +145,7 @@ pub struct Limits {
 }
 
 // What Accept answers: processes, instances, elements of all streams, pipes, words of a state, steps of a whole run.
-#[derive(Drop)]
+#[derive(Clone, Copy)]
 pub struct Figures {
     pub processes: u32,
     pub instances: u32,
@@ -156,7 +156,7 @@ pub struct Figures {
 }
 
 // And the divisors that the shortening rule took out, of place and of each stream's index map; 0 past the streams in use.
-#[derive(Drop)]
+#[derive(Clone, Copy)]
 pub struct Divisors {
     pub place: u32,
     pub stream0: u32,
@@ -168,7 +168,7 @@ pub struct Divisors {
 }
 
 // A row of the table.
-#[derive(Drop)]
+#[derive(Clone, Copy)]
 pub struct Row {
     pub point: V2,
     pub count: u32,
@@ -179,42 +179,42 @@ pub struct Row {
 }
 
 // The answers of the calls; a refusal has document 01's number.
-#[derive(Drop)]
+#[derive(Clone, Copy)]
 pub enum Acceptance {
     Accepted(Figures, Divisors),
     Refused(u32),
 }
 
 // Of Table, Start, Step, Result, Plain run and Fill.
-#[derive(Drop)]
+#[derive(Clone, Copy)]
 pub enum Answer {
     Done,
     Refused(u32),
 }
 
 // Of Run: the steps done, and whether any is ready.
-#[derive(Drop)]
+#[derive(Clone, Copy)]
 pub enum Ran {
     Ran { steps: u32, ready: bool },
     Refused(u32),
 }
 
 // Of Ready: how many processes can take, fire or give, and the lowest (the number of processes when none).
-#[derive(Drop)]
+#[derive(Clone, Copy)]
 pub enum Readiness {
     Ready { count: u32, lowest: u32 },
     Refused(u32),
 }
 
 // Of Clocked run: the least and the greatest step of all instances.
-#[derive(Drop)]
+#[derive(Clone, Copy)]
 pub enum Clocked {
     Clocked { least: i32, greatest: i32 },
     Refused(u32),
 }
 
 // Of Make: the number of bytes.
-#[derive(Drop)]
+#[derive(Clone, Copy)]
 pub enum Made {
     Made { bytes: u32 },
     Refused(u32),

@@ -23,7 +23,7 @@ use integers::{Matrix, V2, V3};
 use meaning::Nest;
 
 // One loop of a nest.
-#[derive(Drop)]
+#[derive(Clone, Copy)]
 pub struct Loop {
     pub left: i32,
     pub right: i32,
@@ -31,7 +31,7 @@ pub struct Loop {
 }
 
 // How often each loop turns, or has turned.
-#[derive(Drop)]
+#[derive(Clone, Copy)]
 pub struct Turns {
     pub outer: u32,
     pub middle: u32,
@@ -39,7 +39,7 @@ pub struct Turns {
 }
 
 // The least and the greatest corner of a box.
-#[derive(Drop)]
+#[derive(Clone, Copy)]
 pub struct Extent {
     pub lo: V2,
     pub hi: V2,

@@ -25,7 +25,7 @@ use port_table::Size;
 use survey::Survey;
 
 // The number of the refusal, 0 for none, the size of the array, and the survey.
-#[derive(Drop)]
+#[derive(Clone, Copy)]
 pub struct Opening {
     pub refusal: u32,
     pub size: Size,

@@ -15,7 +15,7 @@ use survey::{Flow, Ground};
 
 // A stream's line as some step turned it, whether the stream moves, and its answers: where the line's step is 0, where it is over the limit
 // of hops, and else where it is positive and where it is negative.
-#[derive(Drop)]
+#[derive(Clone, Copy)]
 pub struct Outlook {
     pub line: V3,
     pub moving: bool,

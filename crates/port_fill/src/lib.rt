@@ -36,7 +36,7 @@ const PIPE_ROWS: u32 = port_table::PIPE_ROWS as u32;
 const END: u32 = port_table::END as u32;
 
 // Over the streams before one: their words in a process, their pipes, and the words of those pipes' ends.
-#[derive(Drop)]
+#[derive(Clone, Copy)]
 struct Sums {
     words: u32,
     pipes: u32,

@@ -24,7 +24,7 @@ use survey::Flow;
 
 // What the rows of a stream share: the places of its links, the words of a process, where the stream's words begin among them, and the
 // index of the first word of its first pipe's ends.
-#[derive(Drop)]
+#[derive(Clone, Copy)]
 pub struct Strand {
     pub hop: u32,
     pub stride: u32,
@@ -33,7 +33,7 @@ pub struct Strand {
 }
 
 // The link out of a port: indices of what was taken out of it and of its first place.
-#[derive(Drop)]
+#[derive(Clone, Copy)]
 struct Link {
     after: u32,
     room: u32,

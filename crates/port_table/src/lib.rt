@@ -31,7 +31,7 @@ pub const PORTS: usize = PIPE_ROWS + PIPES * END;
 const HIGH: usize = 131072;
 
 // How many processes, streams and pipes there are.
-#[derive(Drop)]
+#[derive(Clone, Copy)]
 pub struct Size {
     pub processes: usize,
     pub streams: usize,

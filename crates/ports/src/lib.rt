@@ -18,7 +18,7 @@ ghost use Rattle.ports.specs.Links.{filled, fill_at, moved_down};
 // A port. Indices: `at` of taken, with given, hand, keep and the places of the link into the port behind it; `before` of what was put into
 // that link; `after` of what was taken out of the link out of the port, and `room` of that link's first place; `fired` of the process's
 // firings. Then the places of a link, soak and count of the process, the elements of the pipe, and whether the process keeps one.
-#[derive(Drop)]
+#[derive(Clone, Copy)]
 pub struct Port {
     pub at: usize,
     pub before: usize,
@@ -35,7 +35,7 @@ pub struct Port {
 // The ends of a pipe. Indices, of the first link: `sent`, `after` of what was taken out of it, `room` of its first place; of the last one:
 // `before` of what was put into it, `received`, `last` of its first place. Then the places of a link, the elements of the pipe, and where
 // its part of a list begins.
-#[derive(Drop)]
+#[derive(Clone, Copy)]
 pub struct End {
     pub sent: usize,
     pub after: usize,

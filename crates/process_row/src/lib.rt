@@ -14,7 +14,7 @@ const DRAINS: usize = SPANS + PROCESSES;
 pub const COLUMNS: usize = SPANS + STREAMS * BLOCK;
 
 // What the rows need beside the columns: the refusal, 0 if there is none, the number of rows to fill, the loops and the process space.
-#[derive(Drop)]
+#[derive(Clone, Copy)]
 pub struct Shape {
     pub refusal: u32,
     pub rows: usize,

@@ -27,7 +27,7 @@ use survey::Survey;
 use walk::WALK;
 
 // The increment as some step turned it, whether there are too many processes, and the outlooks of the streams with the limit of hops.
-#[derive(Drop)]
+#[derive(Clone, Copy)]
 pub struct Prospect {
     pub increment: V3,
     pub crowded: bool,

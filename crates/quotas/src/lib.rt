@@ -15,7 +15,7 @@ ghost use Rattle.meaning.specs.Limits.{gauge_limits, state_words_most};
 ghost use Rattle.quotas.specs.Times.{Counted};
 
 // A tick, and so many ticks from one element of a pipe, or one firing of a process, to the next.
-#[derive(Drop)]
+#[derive(Clone, Copy)]
 pub struct Beat {
     pub tick: i32,
     pub pace: u32,

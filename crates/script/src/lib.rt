@@ -31,21 +31,21 @@ fn padded(bytes: u32) -> u64
 // ---- what was read
 
 // How many bytes may still be read of a script, and whether all that was to be read so far was there.
-#[derive(Drop)]
+#[derive(Clone, Copy)]
 pub struct Rest {
     pub left: u64,
     pub whole: bool,
 }
 
 // A word, and the script behind it.
-#[derive(Drop)]
+#[derive(Clone, Copy)]
 pub struct Word {
     pub value: u32,
     pub rest: Rest,
 }
 
 // A call: its number and three words; and whether it was there.
-#[derive(Drop)]
+#[derive(Clone, Copy)]
 pub struct Call {
     pub number: u32,
     pub a: u32,
@@ -211,7 +211,7 @@ pub fn read_values(r: Rest, count: u32, values: &mut [u32]) -> Rest {
 // ---- lent lists
 
 // The lengths at which the five lists are lent.
-#[derive(Drop)]
+#[derive(Clone, Copy)]
 pub struct Lent {
     pub waiting: u32,
     pub received: u32,

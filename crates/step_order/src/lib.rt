@@ -14,7 +14,7 @@ ghost use Rattle.step_order.specs.Ranks.{Sized, rank_count, name_at, process_nam
 use port_table::Size;
 
 // A step by its kind, its process or pipe, and its stream (0 where it has none).
-#[derive(Drop)]
+#[derive(Clone, Copy)]
 pub struct Name {
     pub kind: u32,
     pub number: usize,

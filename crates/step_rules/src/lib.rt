@@ -25,7 +25,7 @@ use survey::Survey;
 use take_give::{can_give, can_take, give, take};
 
 // What processes run: the loops, the increment, and the first `count` of the lines.
-#[derive(Drop)]
+#[derive(Clone, Copy)]
 pub struct Program {
     pub nest: Nest,
     pub increment: V3,

@@ -30,7 +30,7 @@ use meaning::{Description, Nest, STREAMS, Stream};
 use numbering::Extent;
 
 // Of the loops: how many instances and processes there are, the increment and its divisor, and the process space.
-#[derive(Drop)]
+#[derive(Clone, Copy)]
 pub struct Ground {
     pub instances: u32,
     pub processes: u32,
@@ -41,7 +41,7 @@ pub struct Ground {
 
 // A stream in its nest: its line with its divisor, and its hop; the process space and its own box; its move and index map times increment,
 // each also turned round; by how much its move changes a process's number; whether it moves, and whether its move leads back in row order.
-#[derive(Drop)]
+#[derive(Clone, Copy)]
 pub struct Flow {
     pub nest: Nest,
     pub stream: Stream,
@@ -60,7 +60,7 @@ pub struct Flow {
 }
 
 // The number by which a description is refused, 0 if it is not, and what is known of it.
-#[derive(Drop)]
+#[derive(Clone, Copy)]
 pub struct Survey {
     pub refusal: u32,
     pub description: Description,

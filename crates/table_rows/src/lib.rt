@@ -8,7 +8,7 @@ use integers::{V2, V3};
 use meaning::{Answer, PROCESSES, Row};
 
 // Table's answer, and the list afterwards.
-#[derive(Drop)]
+#[derive(Clone, Copy)]
 pub struct Listed {
     pub answer: Answer,
     pub rows: [Row; PROCESSES],

@@ -27,7 +27,7 @@ use meaning::Nest;
 use survey::{Flow, Ground};
 
 // The least and the greatest step of all instances.
-#[derive(Drop)]
+#[derive(Clone, Copy)]
 pub struct Ends {
     pub least: i32,
     pub greatest: i32,

@@ -25,7 +25,7 @@ use meaning::Limits;
 use survey::{Flow, Survey};
 
 // A pipe looked for: how many are still to be passed over, the elements of those that were, and once it is found its own.
-#[derive(Drop)]
+#[derive(Clone, Copy)]
 struct Search {
     left: u32,
     start: u32,
@@ -34,7 +34,7 @@ struct Search {
 }
 
 // The number by which the call is refused, 0 if it is not, and where the part begins and how long it is.
-#[derive(Drop)]
+#[derive(Clone, Copy)]
 pub struct Piece {
     pub refusal: u32,
     pub from: u32,
