@@ -19,6 +19,9 @@
 //   Claims      stretch, ready, finish for every reached state
 //
 // Cases is what these use.
+
+#![tactic(auto)]
+
 pub fn one() -> usize {
     1
 }

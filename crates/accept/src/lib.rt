@@ -1,4 +1,7 @@
 // Accept: the figures of a description and its divisors, or the number by which it is refused. In specs/, Call says what the call answers.
+
+#![tactic(auto)]
+
 ghost use Rattle.std.specs.Prelude.{◌≡◌};
 ghost use Rattle.meaning.specs.Limits.{limits_of};
 ghost use Rattle.meaning.specs.Accept.{accept};

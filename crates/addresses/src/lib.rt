@@ -10,6 +10,9 @@
 //   a pipe's ends      Ends: `taken-entry`, `link-entry`, `put-end`, `link-end`
 //   places of words    Indices: `firings-index`, `taken-index`, `sent-index`; `process-count`, `stream-count`, `stride-is`, `word_count`
 //   places of elements Orders: `found_at`, `element_place`; the list's length is `list_length` of geometry's PipeOrder
+
+#![tactic(auto)]
+
 pub fn one() -> usize {
     1
 }

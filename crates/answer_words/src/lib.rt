@@ -5,6 +5,9 @@
 //
 //   Words     what the words of an answer are
 //   Kept      what an answer leaves in lent words
+
+#![tactic(auto)]
+
 ghost use Rattle.std.specs.Prelude.{◌≡◌, [], ◌∷◌, set};
 ghost use Rattle.meaning.specs.Answers.{accept_number, accept_values, answer_number, ran_number, ran_values, ready_number, ready_values};
 ghost use Rattle.meaning.specs.Answers.{made_number, made_values};

@@ -1,5 +1,8 @@
 // The words that a program is told by its arguments, as decimal numerals. An argument that is no numeral of a word is 4,294,967,295, as is
 // one that is missing.
+
+#![tactic(auto)]
+
 ghost use Rattle.std.specs.Prelude.{◌≡◌, min};
 ghost use Rattle.argument.specs.Numeral.{with_digit, value_of, numeral_of};
 

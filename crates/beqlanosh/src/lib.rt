@@ -5,6 +5,9 @@
 // specs/, by file:
 //
 //   Kept      what Window leaves in lent words
+
+#![tactic(auto)]
+
 ghost use Rattle.std.specs.Prelude.{◌≡◌, length};
 ghost use Rattle.meaning.specs.Limits.{limits_of};
 ghost use Rattle.meaning.specs.Description.{sizes};

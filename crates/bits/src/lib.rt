@@ -7,6 +7,9 @@
 //   Tested            a word of a test, whose bits are the outcomes of 64 numbers
 //   Words             the sixteen words of a test; what clear, mark, count and lowest do to words
 //   Ready             the caller's loop, marked_to, with the laws for its invariant; its words, count and lowest are those of the call
+
+#![tactic(auto)]
+
 ghost use Rattle.std.specs.Prelude.{◌≡◌, ◌<◌, ◌≤◌, length, take};
 ghost use Rattle.meaning.specs.Limits.{gauge_limits};
 ghost use Rattle.bits.specs.Words.{cleared, marked, ones_of, lowest_from};

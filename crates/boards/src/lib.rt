@@ -1,4 +1,7 @@
 // The limits that a board word names, request 2.9.
+
+#![tactic(auto)]
+
 ghost use Rattle.std.specs.Prelude.{◌≡◌};
 ghost use Rattle.meaning.specs.Limits.{limits_of, gauge_limits, UpTo};
 

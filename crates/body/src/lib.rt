@@ -5,6 +5,9 @@
 //   Lines      the lines in turn; the first registers hold the body
 //   Store      gather and scatter in turn
 //   Execute    one instance on a store, as the plain run and as firing have it
+
+#![tactic(auto)]
+
 ghost use Rattle.std.specs.Prelude.{◌≡◌, length, take};
 ghost use Rattle.meaning.specs.Body.{run_line, run_lines, gather, scatter};
 ghost use Rattle.body.specs.Fit.{Within, Fit, Places, Runnable};

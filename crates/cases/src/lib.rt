@@ -6,6 +6,9 @@
 //   Walks             walks beside the written order
 //   Boards            what each board holds, another board word, and a run whose calls are told different boards
 //   Choices           how many step vectors get each answer, beside the small cases in `meaning`
+
+#![tactic(auto)]
+
 pub fn one() -> usize {
     1
 }

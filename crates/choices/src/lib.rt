@@ -5,6 +5,9 @@
 //   Replaced  `replaced`: the bytes of a description with other step coefficients, its words, and what it decodes to
 //   Turning   another step turns a line or leaves it: `stream-answer`, what Accept answers of a stream by its line as it was
 //   Answers   `answer-is`: Accept's answer to a vector is by 8, 10 and the streams; `possible`: the answers that there are
+
+#![tactic(auto)]
+
 pub fn one() -> usize {
     1
 }

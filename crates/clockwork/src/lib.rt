@@ -3,6 +3,9 @@
 // specs/, by file:
 //
 //   Timed     the times of a description's moves, as the files here use them
+
+#![tactic(auto)]
+
 pub fn one() -> usize {
     1
 }

@@ -6,6 +6,9 @@
 // number by which it declines, or 0, and the sum of its list, one row or word more than the call names. An array of at most 12 elements has
 // the walk's instances, its rows, values and final values printed as well. A description that is declined counts as one process and one
 // element.
+
+#![tactic(auto)]
+
 ghost use Rattle.std.specs.Prelude.{◌+◌, ◌*◌, ◌<◌, ◌≤◌, length};
 ghost use Rattle.meaning.specs.Limits.{gauge_limits, elements_most};
 

@@ -7,6 +7,9 @@
 //   Forms       a row number as a form of the instance: `form-number`
 //   Strides     row numbers counted on by the loops' strides: `counted-by`
 //   Numbers     the table of row numbers
+
+#![tactic(auto)]
+
 ghost use Rattle.std.specs.Prelude.{◌≡◌, List, ◌++◌, ℕ, ◌+◌, ◌*◌, ◌≤◌, ◌+ℤ◌, ◌*ℤ◌, length, drop};
 ghost use Rattle.integers.specs.Differences.{Abs, up};
 ghost use Rattle.integers.specs.Fill.{fill_by};

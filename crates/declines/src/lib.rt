@@ -1,5 +1,8 @@
 // The tests that the calls make of what they are lent once the description is accepted, in the documents' order: each function answers the
 // first number that applies, 0 if none does. Pure functions of lengths and truths; the calls cite them.
+
+#![tactic(auto)]
+
 ghost use Rattle.std.specs.Prelude.{◌≡◌};
 ghost use Rattle.meaning.specs.Tests.{refusal};
 ghost use Rattle.declines.specs.Tests.{table_lengths, plain_lengths, memory_lengths, state_tests, start_lengths, window_lengths};

@@ -7,6 +7,9 @@
 //   Ranges      what a word in its range is, by its magnitude and by its bits
 //   Refusals    the refusals 1 to 5 in stages, which the crate `refuse_words` tests
 //   Ranged      what a refusal of 0 says of a description, as one record of ranges
+
+#![tactic(auto)]
+
 ghost use Rattle.std.specs.Prelude.{◌≡◌, ◌≤◌, ◌<◌, get_or};
 ghost use Rattle.meaning.specs.Description.{sizes_of, map_at, loading_at, line_at, stream_of, body_line, no_stream, no_line, description_of};
 ghost use Rattle.meaning.specs.Description.{written};

@@ -1,4 +1,7 @@
 // Words to vectors, matrices and the loops with their layout. What two loops lack is filled in, so that all that follows is about three.
+
+#![tactic(auto)]
+
 ghost use Rattle.std.specs.Prelude.{◌≡◌, cond, ◌≤◌, eqb, pos};
 ghost use Rattle.integers.specs.Bytes.{word_at};
 ghost use Rattle.meaning.specs.Description.{vector_at, unit3, matrix_at, nest_of, loading_of};

@@ -4,6 +4,9 @@
 // answer is noted in three words (`answer_words`), and the part that Window hands back is copied.
 //
 // In specs/, Play says which calls words stand for, what they leave of all that is lent, and that demand 3 holds of it.
+
+#![tactic(auto)]
+
 ghost use Rattle.std.specs.Prelude.{◌≡◌, ◌+◌, ◌*◌, ◌/◌, ◌≤◌, length};
 ghost use Rattle.meaning.specs.declared.Answer.TheVariants.{Done};
 ghost use Rattle.meaning.specs.Limits.{limits_of};

@@ -1,4 +1,7 @@
 // The divisors that Accept answers beside the figures, of place and of each stream (request 2.7), as the survey has them.
+
+#![tactic(auto)]
+
 ghost use Rattle.std.specs.Prelude.{◌≡◌, ◌<◌};
 ghost use Rattle.meaning.specs.Accept.{stream_divisor, divisors};
 ghost use Rattle.survey.specs.Surveys.{Surveyed};

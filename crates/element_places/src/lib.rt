@@ -10,6 +10,9 @@
 //   Walked    those of a stationary pipe, process by process: `said-next`
 //   Lent      what the functions are lent, and what they find of a pipe
 //   Lines     what the walk along a line of processes is lent, and what it finds
+
+#![tactic(auto)]
+
 ghost use Rattle.std.specs.Prelude.{◌≡◌, true, ◌+◌, ◌≤◌, ◌<◌, T, length};
 ghost use Rattle.integers.specs.Differences.{up};
 ghost use Rattle.meaning.specs.Limits.{gauge_limits, elements_most};

@@ -4,6 +4,9 @@
 //
 //   Counts      streams of few elements; sums over the first streams
 //   Few         `elements-few`: no stream of an accepted description has more elements than there are instances
+
+#![tactic(auto)]
+
 ghost use Rattle.std.specs.Prelude.{◌≡◌, ◌≤◌};
 ghost use Rattle.meaning.specs.Limits.{elements_most};
 ghost use Rattle.meaning.specs.Description.{streams_of};

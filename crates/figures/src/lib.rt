@@ -5,6 +5,9 @@
 //
 //   Sums      sums over the entries of a stream, process by process, and their bounds
 //   Shares    sums over the streams, stream by stream, and the figures
+
+#![tactic(auto)]
+
 ghost use Rattle.std.specs.Prelude.{◌≡◌, true, ℕ, suc, ◌≤◌, ◌<◌, length, get_or, replicate};
 ghost use Rattle.meaning.specs.Pipes.{is_entry, entries};
 ghost use Rattle.meaning.specs.Accept.{figures};

@@ -3,6 +3,9 @@
 // specs/, by file:
 //
 //   Call      what it answers and leaves, by its refusal
+
+#![tactic(auto)]
+
 ghost use Rattle.std.specs.Prelude.{◌≡◌, suc, ◌≤◌, length};
 ghost use Rattle.integers.specs.Fill.{fill_by};
 ghost use Rattle.meaning.specs.Tests.{refusal};

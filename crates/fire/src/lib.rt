@@ -1,5 +1,8 @@
 // Document 01's rule of a process: fire, with whether its next instance can use the element of a stream and the run of the body on the
 // words that it uses. In specs/, Firing has the code as functions of lists, and FiringMeaning says that this is what document 01 says.
+
+#![tactic(auto)]
+
 ghost use Rattle.std.specs.Prelude.{◌≡◌, true, ◌+◌, ◌<◌, ◌≤◌, length, take, replicate};
 ghost use Rattle.body.specs.Fit.{Fit};
 ghost use Rattle.integers.specs.Fill.{fill_by};

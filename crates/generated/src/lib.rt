@@ -5,6 +5,9 @@
 //   Drawn     `direction-even`, `direction-odd`, `drawn-remainder`: what each word is; `drawn-in-range`, `drawn-by`: every word drawn is in
 //             its range, and every word of its range is drawn
 //   Made      bytes and words of a made description: `made-length`, `made-sizes`, `made_Word`
+
+#![tactic(auto)]
+
 pub fn one() -> usize {
     1
 }

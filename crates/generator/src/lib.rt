@@ -1,4 +1,7 @@
 // Request 2.3: a round of the generator, and a round back. That one undoes the other, both ways, is shown on bits in `generated`.
+
+#![tactic(auto)]
+
 ghost use Rattle.std.specs.Prelude.{◌≡◌};
 ghost use Rattle.meaning.specs.Generator.{round, previous};
 

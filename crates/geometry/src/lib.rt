@@ -28,6 +28,9 @@
 //
 // Sorting, Best, Numbers, Places, Reach and BoxLines are what these use; Tests is for the crates above. No theorem uses that an increment's
 // components lie in −1 to 1, nor, but for those of UpTo, a limit.
+
+#![tactic(auto)]
+
 pub fn one() -> usize {
     1
 }

@@ -19,6 +19,9 @@
 // Its other parts: Instances (by number, with process and firing), Stops (pipes, stops and elements by number), Ranks (which stops keep),
 // Touches (which elements instances touch, and in which order), Elements (the range of a stream's numbers), Times (steps as times). Sums is
 // what these use. No theorem but the two of Acceptance speaks of what a limit is.
+
+#![tactic(auto)]
+
 pub fn one() -> usize {
     1
 }

@@ -1,4 +1,7 @@
 // Whether the guard of a body line lets it run at an instance.
+
+#![tactic(auto)]
+
 ghost use Rattle.std.specs.Prelude.{◌≡◌};
 ghost use Rattle.meaning.specs.Guards.{index_of, compares, admits};
 

@@ -1,5 +1,8 @@
 // The instance that a process runs as its f-th: its first one, and f times the increment on from there. In specs/, Runs says when the
 // numbers fit.
+
+#![tactic(auto)]
+
 ghost use Rattle.std.specs.Prelude.{◌≡◌};
 ghost use Rattle.meaning.specs.Space.{first};
 ghost use Rattle.geometry.specs.Processes.{run_at};

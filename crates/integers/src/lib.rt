@@ -21,6 +21,9 @@
 //
 // In `ring n k` and `linear n k` the first n variables are vectors, the next k numbers; n and k are literals. A ring identity has any size;
 // a linear fact has at most 64 terms once multiplied out. Examples has one of each.
+
+#![tactic(auto)]
+
 ghost use Rattle.std.specs.Prelude.{◌≡◌, ◌<◌, nat_abs, get_or};
 ghost use Rattle.std.specs.Int.{w32};
 ghost use Rattle.std.proofs.Common.{to_z, of_z};

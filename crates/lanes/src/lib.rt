@@ -13,6 +13,9 @@
 //   Flow      what is known of a stream once and for all its processes: `Flows`
 //   All       the lanes of all streams, block by block: `LanesOf`
 //   Accepted  `laid-stream`: every stream of an accepted description is laid out as the functions ask
+
+#![tactic(auto)]
+
 ghost use Rattle.std.specs.Prelude.{◌≡◌, ◌<◌, length, get_or};
 ghost use Rattle.integers.specs.Vectors.{zero2};
 ghost use Rattle.meaning.specs.Limits.{gauge_limits};

@@ -1,6 +1,9 @@
 // Euclid's rule, and the rule that shortens a vector by the greatest common divisor of its components. specs/Lattice has what the shortened
 // cross product of two rows means: the shortest whole vector that both send to zero; specs/Values what its divisor means: how far apart the
 // values of the two rows lie; specs/Independence what a cross product of zero means.
+
+#![tactic(auto)]
+
 ghost use Rattle.std.specs.Prelude.{◌≡◌, ◌≤◌, ◌^◌, pos, neg_ℤ};
 ghost use Rattle.std.specs.Int.Signed.{quot_z};
 ghost use Rattle.lattice.specs.Gcd.{gcd_of};

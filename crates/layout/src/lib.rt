@@ -8,6 +8,9 @@
 //   Parts     what stands where a part of a list was replaced
 //   Codes     the coordinates of an instance in one word
 //   Spans     what the words say of the processes: `Spans`
+
+#![tactic(auto)]
+
 ghost use Rattle.std.specs.Prelude.{◌≡◌, ℕ, ◌+◌, ◌≤◌, ◌<◌, ◌/◌, length, get_or};
 ghost use Rattle.meaning.specs.Limits.{gauge_limits};
 ghost use Rattle.integers.specs.Fill.{fill_by};

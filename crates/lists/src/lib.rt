@@ -8,6 +8,9 @@
 //   Stores    a list of one value, and the values that `scatter` puts
 //   Fills     the first places of a list, stored by a loop
 //   Bytes     words as bytes, read again as written
+
+#![tactic(auto)]
+
 pub fn one() -> usize {
     1
 }

@@ -5,6 +5,9 @@
 // are at most 8. Any other call is Make of the sizes a, b and c into a list of 512 bytes. It prints `make` with the number by which it
 // declines, or 0, how many bytes the description has, 0 if it declines, and the sum of the lent places and the next; then `words` with all
 // of its words if there are at most 36. Every place is 7 before a call, and the last is never lent.
+
+#![tactic(auto)]
+
 ghost use Rattle.std.specs.Prelude.{◌<◌};
 
 use libc::STDIN_FILENO;

@@ -6,6 +6,9 @@
 //             description
 //   Ranges    the ranges that a word can be drawn from
 //   Call      what it answers and leaves, by its refusal
+
+#![tactic(auto)]
+
 ghost use Rattle.std.specs.Prelude.{◌≡◌, ◌+◌, ◌*◌, ◌≤◌, length};
 ghost use Rattle.std.specs.Int.{w32};
 ghost use Rattle.std.proofs.Common.{of_z};

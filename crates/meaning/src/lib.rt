@@ -45,6 +45,9 @@
 //
 // Two loops are three, the third running from 0 to 0: its direction is 1, its step coefficient 0; place and every index map get a second
 // row (0, 0, 1), and a loading vector a second component 0. Then one set of definitions serves both.
+
+#![tactic(auto)]
+
 use integers::{Matrix, V2, V3};
 
 // What each board holds (`Limits.limits_of`), and the longest hop.

@@ -5,6 +5,9 @@
 //
 //   Named     which names are those of a step
 //   Stepped   what is answered and left: `Stepped`
+
+#![tactic(auto)]
+
 ghost use Rattle.std.specs.Prelude.{◌≡◌, length};
 ghost use Rattle.meaning.specs.Description.{description_of};
 ghost use Rattle.meaning.specs.Array.{array_of};

@@ -5,6 +5,9 @@
 //            steps of the same pipe end or process; `stays`: after a ready step a, a step that is none of a's own and whose foreign word a
 //            does not count up is ready exactly if it was; `counter-below`
 //   Apart    `foreign_below`, `foreign-apart`: the foreign words of steps that move an element are words of the state, and different ones
+
+#![tactic(auto)]
+
 pub fn one() -> usize {
     1
 }

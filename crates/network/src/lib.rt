@@ -29,6 +29,9 @@
 //   Beyond      `call-beyond`: no call changes what stands past the words, on any memory
 //   Demand      `after-start`: demand 3 after every list of calls, from `Wired` and `Described`; `guarantee`: for every accepted
 //               description, from what geometry owes
+
+#![tactic(auto)]
+
 pub fn one() -> usize {
     1
 }

@@ -7,6 +7,9 @@
 //   Turns       an instance by how often each loop has turned; `instances-length`, `instance-is`
 //   Corners     a row is least and greatest at corners of the bounds: `box-corners`
 //   Extents     the bounds of the box around the images: `box-spanning`
+
+#![tactic(auto)]
+
 ghost use Rattle.std.specs.Prelude.{◌≡◌, ◌≤◌, ◌<◌, pos, ◌-ℤ◌, length, get_or};
 ghost use Rattle.integers.specs.Differences.{Abs, up};
 ghost use Rattle.integers.specs.Vectors.{zero3, dot};

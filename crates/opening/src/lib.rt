@@ -5,6 +5,9 @@
 //
 //   Opening   the refusals, and what holds once there is none
 //   Opened    what the rows of the port table then fit
+
+#![tactic(auto)]
+
 ghost use Rattle.std.specs.Prelude.{◌≡◌, not, [], ◌∷◌, ◌≤◌, length, replicate};
 ghost use Rattle.meaning.specs.Tests.{◌if◌, refusal};
 ghost use Rattle.meaning.specs.Limits.{limits_of, gauge_limits, UpTo};

@@ -1,4 +1,7 @@
 // What each operation of a body line puts, on words modulo 2^32.
+
+#![tactic(auto)]
+
 ghost use Rattle.std.specs.Prelude.{◌≡◌, ◌-◌, ◌*◌, ◌%◌, ◌≤◌};
 ghost use Rattle.meaning.specs.Operations.{modulus, fixed_product, operate};
 

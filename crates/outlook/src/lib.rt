@@ -1,5 +1,8 @@
 // What a stream answers to any step vector, request 2.10: a vector turns its line one way or the other, and by the step that it gives the
 // line the answer is one of four. In specs/, Outlooks says what these are, and that the answer is Accept's.
+
+#![tactic(auto)]
+
 ghost use Rattle.std.specs.Prelude.{◌≡◌, ◌&&◌, cond, ltb, nat_abs};
 ghost use Rattle.integers.specs.Differences.{Abs};
 ghost use Rattle.integers.specs.Vectors.{neg3};

@@ -6,6 +6,9 @@
 //   Entries   an entry of a pipe by the lanes
 //   Starts    the entries before a process, and the elements of their pipes
 //   Heads     what the heads say of a pipe, by its entry: `pipe-elements`
+
+#![tactic(auto)]
+
 ghost use Rattle.std.specs.Prelude.{◌≡◌, ◌&&◌, ◌≤◌, ◌<◌, length};
 ghost use Rattle.meaning.specs.Limits.{gauge_limits};
 ghost use Rattle.meaning.specs.Pipes.{is_entry, is_pipe};

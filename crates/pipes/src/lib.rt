@@ -4,6 +4,9 @@
 //
 //   Elements  the numbers of a pipe's elements, of those soaked and of those drained
 //   Passed    what a stream's words say: soak and drain at each process
+
+#![tactic(auto)]
+
 ghost use Rattle.std.specs.Prelude.{◌≡◌, false, ◌+◌, ◌≤◌, ◌<◌, T, length, get_or};
 ghost use Rattle.meaning.specs.Limits.{gauge_limits};
 ghost use Rattle.integers.specs.Vectors.{image};

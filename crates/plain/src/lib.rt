@@ -1,4 +1,7 @@
 // The call Plain run. In specs/, Call says what it answers and leaves; the loops are run in `written_order`.
+
+#![tactic(auto)]
+
 ghost use Rattle.std.specs.Prelude.{◌≡◌};
 ghost use Rattle.meaning.specs.Limits.{limits_of};
 ghost use Rattle.meaning.specs.Calls.{plain_run};

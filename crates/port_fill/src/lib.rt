@@ -7,6 +7,9 @@
 //   Widths    the rows of a stream fit words
 //   Strung    the rows of a stream, and what the functions are lent
 //   Filled    stream by stream, the rows are those of the array: `Filled-next`
+
+#![tactic(auto)]
+
 ghost use Rattle.std.specs.Prelude.{◌≡◌, ◌≤◌, length};
 ghost use Rattle.meaning.specs.Limits.{gauge_limits, process_words_most};
 ghost use Rattle.meaning.specs.Pipes.{entries};

@@ -6,6 +6,9 @@
 //   Fits        `rows_fit`: the rows' words lie in a state; `parts-fit`: the pipes' parts lie in the lists; `on_total`: a row on a pipe has
 //               elements
 //   Lines       `lines_fit`: the lines fit the registers; `lines_are`: they are the array's
+
+#![tactic(auto)]
+
 pub fn one() -> usize {
     1
 }

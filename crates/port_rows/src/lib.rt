@@ -4,6 +4,9 @@
 //
 //   Strands   what the rows of a stream share; the rows by numbers
 //   Rows      the rows are those of the array: `port-is`, `row_is`, `end_is`
+
+#![tactic(auto)]
+
 ghost use Rattle.std.specs.Prelude.{◌≡◌, not, ◌&&◌, ◌+◌, ◌*◌, ◌≤◌, ◌<◌, eqb, pos, length};
 ghost use Rattle.integers.specs.Vectors.{shift2};
 ghost use Rattle.meaning.specs.Limits.{end_words_most, state_words_most, gauge_limits};

@@ -6,6 +6,9 @@
 //   Pack      two numbers in a word
 //   Rows      the words of rows, and rows read off them
 //   PortsOf   the port table of an array; port tables whose rows' words lie in a state
+
+#![tactic(auto)]
+
 ghost use Rattle.std.specs.Prelude.{◌≡◌, ◌+◌, ◌≤◌, ◌<◌, length, get_or};
 ghost use Rattle.meaning.specs.Limits.{gauge_limits, pipes_most};
 ghost use Rattle.words.specs.Stored.{stored};

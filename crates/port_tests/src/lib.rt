@@ -1,5 +1,8 @@
 // Document 01's conditions of take and give over the numbers of a port: whether an element can be taken or given, and where it goes or
 // stands. In specs/, Allowed has them as definitions.
+
+#![tactic(auto)]
+
 ghost use Rattle.std.specs.Prelude.{◌≡◌, ◌<◌};
 ghost use Rattle.port_tests.specs.Allowed.{takes, takes_to, passes, releases, gives, gives_from};
 

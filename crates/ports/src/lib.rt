@@ -10,6 +10,9 @@
 //   Places           the pipe of a process and a stream, and the process's place on it
 //   Rows             the row of any process and stream, on a pipe or off every one
 //   LinksMeaning     links that are filled no further than their places: places, fill and moving down are document 01's
+
+#![tactic(auto)]
+
 ghost use Rattle.std.specs.Prelude.{◌≡◌, ◌+◌, ◌<◌, length, get_or};
 ghost use Rattle.ports.specs.Links.{filled, fill_at, moved_down};
 

@@ -1,6 +1,9 @@
 // The values that Fill writes, request 2.3: its arguments are a seed and n as decimal numerals; on standard output the values, one to a
 // line, or `refused` and the number. Its list has 65,536 places, so more values are refused by 31. An argument that is no numeral of a
 // word, or missing, is 4,294,967,295.
+
+#![tactic(auto)]
+
 use meaning::Answer;
 use text::PAGE;
 

@@ -1,6 +1,9 @@
 // The description that Make makes, request 2.3: its arguments are a seed and the sizes r, m and b as decimal numerals; its bytes go to
 // standard output. Where Make declines, nothing goes there and the line `refused` with the number goes to standard error. An argument that
 // is no numeral of a word, or missing, is 4,294,967,295.
+
+#![tactic(auto)]
+
 use libc::{STDERR_FILENO, STDOUT_FILENO};
 use meaning::{Made, Sizes};
 

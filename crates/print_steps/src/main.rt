@@ -2,6 +2,9 @@
 // for each answer with its count, or `refused` and the number. The first argument is K as a decimal numeral; one that is no numeral of a
 // word, or missing, is 4,294,967,295. The second names the board, 0 gauge or 1 bench; without one it is the gauge. It reads up to 65,536
 // bytes, more than any description has.
+
+#![tactic(auto)]
+
 use libc::STDIN_FILENO;
 use meaning::{ANSWERS, Answer};
 use text::PAGE;

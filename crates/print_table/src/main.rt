@@ -1,5 +1,8 @@
 // The table of a description: its bytes on standard input, document 01's text on standard output, or `refused` and the number. The first
 // argument names the board, 0 gauge or 1 bench; without one it is the gauge. It reads up to 65,536 bytes, more than any description has.
+
+#![tactic(auto)]
+
 use libc::STDIN_FILENO;
 use meaning::{Acceptance, Figures, PROCESSES, Row};
 use text::PAGE;

@@ -2,6 +2,9 @@
 // line for each instance as the walk comes to it, with its process's point (y), its step (t) and itself (x), or `refused` and the number,
 // 33 or 1 to 10. The first argument names the board, 0 gauge or 1 bench; without one it is the gauge. It reads up to 65,536 bytes, more
 // than any description has.
+
+#![tactic(auto)]
+
 ghost use Rattle.vectors.specs.Within.{Within};
 ghost use Rattle.numbering.specs.Ranges.{Bounded};
 ghost use Rattle.survey.specs.Surveys.{Surveyed};

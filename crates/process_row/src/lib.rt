@@ -1,4 +1,7 @@
 // One row of the table, read off the words of its columns. In specs/, Rows says where each word of a row stands there.
+
+#![tactic(auto)]
+
 ghost use Rattle.std.specs.Prelude.{◌≡◌, ◌<◌, ◌+◌, ◌*◌};
 ghost use Rattle.meaning.specs.Limits.{gauge_limits};
 ghost use Rattle.process_row.specs.Rows.{by_stream, row_from, Readable, column_words};

@@ -5,6 +5,9 @@
 //
 //   Own         the description at a step of its own, in range and laid out
 //   Prospects   what a prospect holds, and that its answer to a vector is Accept's
+
+#![tactic(auto)]
+
 ghost use Rattle.std.specs.Prelude.{◌≡◌, false, ℕ, ◌≤◌, ◌<◌, pos, length, get_or};
 ghost use Rattle.integers.specs.Vectors.{zero3, dot};
 ghost use Rattle.meaning.specs.Limits.{gauge_limits, UpTo};

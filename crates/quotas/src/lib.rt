@@ -9,6 +9,9 @@
 //   Capped    tables of quotas as they are filled: what a quota written leaves of the others
 //   Ports     the quotas of the steps at a port, and whether they are all over
 //   Filled    port by port and process by process
+
+#![tactic(auto)]
+
 ghost use Rattle.std.specs.Prelude.{◌≡◌, ◌≤◌, ◌<◌, T, length, get_or, set};
 ghost use Rattle.integers.specs.Differences.{Abs};
 ghost use Rattle.meaning.specs.Limits.{gauge_limits, state_words_most};

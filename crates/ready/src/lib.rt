@@ -1,5 +1,8 @@
 // The call Ready: the processes that can take, fire or give, as bits of sixteen words; how many they are, and the lowest. In specs/, Call
 // says what the call answers and leaves.
+
+#![tactic(auto)]
+
 ghost use Rattle.std.specs.Prelude.{◌≡◌, length};
 ghost use Rattle.meaning.specs.Limits.{limits_of};
 ghost use Rattle.meaning.specs.Rules.{memory_of};

@@ -8,6 +8,9 @@
 //   Firsts    the first number that passes a test
 //   Keeping   the list after a number is put
 //   Lowest    the lowest member found
+
+#![tactic(auto)]
+
 ghost use Rattle.std.specs.Prelude.{◌≡◌, Bool, not, ℕ, ◌+◌, ◌/◌, ◌<◌, ◌≤◌, length, get_or};
 ghost use Rattle.std.specs.Int.Count.{count_trailing_zeros};
 ghost use Rattle.meaning.specs.Lists.{position, numbers};

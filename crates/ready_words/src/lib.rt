@@ -4,6 +4,9 @@
 //
 //   Moves     whether a process can move, by the rows of a port table, as the code has it
 //   Meaning   by the port table of an array it is document 01's: `moves-is`
+
+#![tactic(auto)]
+
 ghost use Rattle.std.specs.Prelude.{◌≡◌, ◌≤◌, ◌<◌, length};
 ghost use Rattle.port_table.specs.PortsOf.{RowsFit};
 ghost use Rattle.bits.specs.Words.{cleared};

@@ -1,4 +1,7 @@
 // Document 01's refusals 6, 7, 8 and 10, of the loops and their layout; 9 is never given (request 2.2).
+
+#![tactic(auto)]
+
 ghost use Rattle.std.specs.Prelude.{◌≡◌, eqb, ltb};
 ghost use Rattle.meaning.specs.Tests.{refusal};
 ghost use Rattle.numbering.specs.Ranges.{Bounded};

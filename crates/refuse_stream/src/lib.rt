@@ -1,4 +1,7 @@
 // Document 01's refusals 11 to 17, of one stream; the words of the walk are lent.
+
+#![tactic(auto)]
+
 ghost use Rattle.std.specs.Prelude.{◌≡◌};
 ghost use Rattle.meaning.specs.Tests.{refusal};
 ghost use Rattle.meaning.specs.Accept.{refused17, stream_tests};

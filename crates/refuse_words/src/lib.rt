@@ -1,5 +1,8 @@
 // Document 01's refusals 1 to 5: lengths, sizes, ranges and bounds of the words of a description, whose tests are in `word_ranges`. The
 // definitions of the stages, and what a refusal of 0 leaves, stand with the parts of a description in `decode`.
+
+#![tactic(auto)]
+
 ghost use Rattle.std.specs.Prelude.{◌≡◌};
 ghost use Rattle.integers.specs.Bytes.{word_at};
 ghost use Rattle.meaning.specs.Tests.{refusal};

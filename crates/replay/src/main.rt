@@ -3,6 +3,9 @@
 // show the received list, 7 poke (word of the state, value), 8 lend (list, length); any other number ends the script. Several scripts stand
 // behind the word 2^32 - 1, each behind a word with its number of bytes, and what each prints stands below a line with `script` and its
 // number.
+
+#![tactic(auto)]
+
 use meaning::{Acceptance, Answer, Divisors, Figures, Ran, Readiness};
 use script::{Call, KEPT, Lent, Rest};
 

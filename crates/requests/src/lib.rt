@@ -34,6 +34,9 @@
 // Beneath 2.3: Fills (`fills`: every call of Fill), Makes (`makes`: every call of Make).
 // Beneath 2.5 and 2.8: Answered (`answered`: Accept's answer with the conditions that it stands for; `same_answer`: conditions that agree
 // give one answer; `alike`: then every call answers and leaves the same; `refused-declines`: what Accept refuses every call declines).
+
+#![tactic(auto)]
+
 pub fn one() -> usize {
     1
 }

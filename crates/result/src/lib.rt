@@ -5,6 +5,9 @@
 //   Out       all values are out: by the port table of an array, as document 01 says it
 //   Order     values read at their elements' places are in element order: `ordered`
 //   Call      the call's own refusals, and what it answers and leaves
+
+#![tactic(auto)]
+
 ghost use Rattle.std.specs.Prelude.{◌≡◌, ◌≤◌, length};
 ghost use Rattle.integers.specs.Fill.{fill_by};
 ghost use Rattle.meaning.specs.Lists.{every, numbers};

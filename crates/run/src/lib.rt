@@ -1,4 +1,7 @@
 // The call Run: so many steps, fewer only when none is ready, always the lowest ready one. In specs/, Call says what it answers and leaves.
+
+#![tactic(auto)]
+
 ghost use Rattle.std.specs.Prelude.{◌≡◌, length};
 ghost use Rattle.meaning.specs.Limits.{limits_of};
 ghost use Rattle.meaning.specs.Description.{description_of};

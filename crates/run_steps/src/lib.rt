@@ -7,6 +7,9 @@
 //   Going       a memory stays in order from step to step
 //   Runs        the steps that the loop does are those of Run
 //   Turn        one turn of the loop
+
+#![tactic(auto)]
+
 ghost use Rattle.meaning.specs.Rules.{memory_of};
 ghost use Rattle.run_steps.specs.Runs.{Started, Ended};
 

@@ -1,5 +1,8 @@
 // A replay script on standard input: the number of bytes of a description; its bytes, padded to a whole word; the board word; the number of
 // values; the values; then calls of four words. And the lengths at which a replay lends its lists.
+
+#![tactic(auto)]
+
 ghost use Rattle.std.specs.Prelude.{◌≤◌, ◌<◌, length};
 ghost use Rattle.io.specs.Counts.{IsPrefixLen};
 

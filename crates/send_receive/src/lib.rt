@@ -1,5 +1,8 @@
 // Document 01's rules of the two ends of a pipe: send and receive. In specs/, Moves has the code as functions of lists, and MovesMeaning
 // says that this is what document 01 says, where links are filled no further than their places.
+
+#![tactic(auto)]
+
 ghost use Rattle.std.specs.Prelude.{◌≡◌, true, ◌+◌, ◌≤◌, length};
 ghost use Rattle.ports.specs.Ends.{EndFits};
 ghost use Rattle.send_receive.specs.Moves.{below, can_send, sent, can_receive, received, received_list};

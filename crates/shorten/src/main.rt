@@ -1,5 +1,8 @@
 // Shortens vectors: three words a vector on standard input, a line `DIVISOR X Y Z` for each on standard output. It reads up to 65,536
 // bytes; what is left of them after the last whole vector is not looked at.
+
+#![tactic(auto)]
+
 ghost use Rattle.std.specs.Prelude.{◌<◌};
 
 use integers::V3;

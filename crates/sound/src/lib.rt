@@ -4,6 +4,9 @@
 //
 //   States    sound states by the rows of a port table, as the code tests them
 //   Meaning   by the port table of an array they are document 01's: `sound-is`
+
+#![tactic(auto)]
+
 ghost use Rattle.std.specs.Prelude.{◌≡◌, ◌<◌, length};
 ghost use Rattle.meaning.specs.Lists.{every, numbers};
 ghost use Rattle.port_table.specs.PortsOf.{RowsFit};

@@ -5,6 +5,9 @@
 //   SoundMeaning     a state is sound where every row is; the links of a sound state
 //   Rows             the rules and the tests by the rows of all processes and streams, on a pipe or off every one
 //   Steps            `ready` and `apply` of the five steps of a sound state are the tests and the lists of the code
+
+#![tactic(auto)]
+
 ghost use Rattle.std.specs.Prelude.{◌≡◌, ◌<◌, leb, length, get_or};
 ghost use Rattle.ports.specs.Ends.{EndFits};
 ghost use Rattle.ports.specs.Ports.{PortFits};

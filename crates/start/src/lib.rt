@@ -4,6 +4,9 @@
 //
 //   Values    values put at their elements' places are in pipe order: `gathered`; words cleared
 //   Call      the call's own refusals, and what it answers and leaves
+
+#![tactic(auto)]
+
 ghost use Rattle.std.specs.Prelude.{◌≡◌, ◌≤◌, length};
 ghost use Rattle.meaning.specs.Limits.{limits_of};
 ghost use Rattle.meaning.specs.Rules.{memory_of};

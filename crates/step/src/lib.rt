@@ -1,4 +1,7 @@
 // The call Step: one step, by its kind, a process or pipe number, and a stream. In specs/, Call says what it answers and leaves.
+
+#![tactic(auto)]
+
 ghost use Rattle.std.specs.Prelude.{◌≡◌};
 ghost use Rattle.meaning.specs.Limits.{limits_of};
 ghost use Rattle.meaning.specs.Rules.{memory_of};

@@ -8,6 +8,9 @@
 //             `rank-apart`
 //   Order     the steps of the ranks are Run's order: `in_order`, and the lowest ready step is that of the lowest rank: `lowest-some`,
 //             `lowest-none`
+
+#![tactic(auto)]
+
 ghost use Rattle.std.specs.Prelude.{◌≡◌, ◌≤◌, ◌<◌};
 ghost use Rattle.step_order.specs.Ranks.{Sized, rank_count, name_at, process_name, take_rank, fire_rank, give_rank};
 

@@ -6,6 +6,9 @@
 //   Steps     readiness and effect by the rows of a port table, as the code has them
 //   Fits      what the code is lent: port tables, programs and steps that fit
 //   Meaning   by the port table of an array they are document 01's: `can-is`, `act-is`
+
+#![tactic(auto)]
+
 ghost use Rattle.std.specs.Prelude.{◌≡◌, true, ◌<◌, length, take};
 ghost use Rattle.meaning.specs.Lists.{every};
 ghost use Rattle.meaning.specs.Rules.{memory_of};

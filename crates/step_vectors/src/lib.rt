@@ -6,6 +6,9 @@
 //   Places    the vector at a place of the list of all of them
 //   Tally     the counts as a loop makes them, answer by answer
 //   Call      what the call answers and leaves, by its refusal
+
+#![tactic(auto)]
+
 ghost use Rattle.std.specs.Prelude.{◌≡◌, [], ◌+◌, ◌*◌, ◌≤◌, ◌<◌, pos, ◌-ℤ◌, length, get_or};
 ghost use Rattle.meaning.specs.Limits.{limits_of};
 ghost use Rattle.meaning.specs.Tests.{refusal};

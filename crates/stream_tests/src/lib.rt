@@ -1,4 +1,7 @@
 // The tests of document 01's refusals 11 to 16 of one stream, over its vectors alone.
+
+#![tactic(auto)]
+
 ghost use Rattle.std.specs.Prelude.{◌≡◌};
 ghost use Rattle.meaning.specs.Accept.{refused11, refused12, refused13, refused14, refused15, refused16};
 ghost use Rattle.survey.specs.Surveys.{Charted};

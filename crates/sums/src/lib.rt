@@ -1,5 +1,8 @@
 // The sums that `compare` and `loads` print in place of long lists: s := 1664525 s + w + 1013904223 modulo 2^32 over the words of a list. A
 // sum tells lists apart that differ in one place.
+
+#![tactic(auto)]
+
 ghost use Rattle.std.specs.Prelude.{◌≤◌, length};
 
 // The sum with one word more.

@@ -11,6 +11,9 @@
 //   Stages      the refusals 33 and 6 to 17 in stages, each a test or two and the stage after them; lists of tests one after the other
 //   Accepted    `accepted-within`: what a refusal of 0 leaves of ranges, instances, processes, moves and hops
 //   StateWords  `process-words`, `end-words`: how many words processes and pipes have at most
+
+#![tactic(auto)]
+
 ghost use Rattle.std.specs.Prelude.{◌≡◌, ◌&&◌, cond, ◌<◌, pos, nat_abs, length, get_or};
 ghost use Rattle.integers.specs.Words.{eq_z};
 ghost use Rattle.integers.specs.Vectors.{zero2};

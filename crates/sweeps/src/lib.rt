@@ -8,6 +8,9 @@
 //   Met         instances counted, and the one met first or last, as the pass finds it
 //   Turns       one turn of the pass; `swept`: what it leaves, point by point
 //   Tables      document 01's words: `counts-are`, `firsts-are`, `Lasts-are`, `ends-absent`
+
+#![tactic(auto)]
+
 ghost use Rattle.std.specs.Prelude.{◌≡◌, ◌+◌, ◌^◌, ◌≤◌, ◌<◌, length, get_or, take};
 ghost use Rattle.integers.specs.Fill.{fill_by};
 ghost use Rattle.sweeps.specs.Sweep.{Listed};

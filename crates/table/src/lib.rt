@@ -5,6 +5,9 @@
 //   Blocks      the words, block by block: the processes' and each stream's
 //   Columns     what the columns hold; `columns-rows`: the rows read off them are document 01's
 //   Drawable    what a refusal of 0 leaves for the columns; the refusal of the call
+
+#![tactic(auto)]
+
 ghost use Rattle.std.specs.Prelude.{◌≡◌, ℕ, ◌<◌, ◌≤◌, length, get_or, replicate};
 ghost use Rattle.integers.specs.Fill.{fill_by};
 ghost use Rattle.meaning.specs.Limits.{limits_of, gauge_limits, UpTo};

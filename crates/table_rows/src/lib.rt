@@ -1,4 +1,7 @@
 // The call Table on a local list, handed out by value: whoever calls it here needs no proof by hand.
+
+#![tactic(auto)]
+
 ghost use Rattle.std.specs.Prelude.{◌≡◌, ◌++◌, ◌≤◌, ◌-◌, min, replicate};
 ghost use Rattle.meaning.specs.Limits.{limits_of, gauge_limits};
 ghost use Rattle.meaning.specs.Calls.{table};

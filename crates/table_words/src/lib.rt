@@ -4,6 +4,9 @@
 //
 //   Words     rows of the table as words
 //   Lent      what Table leaves in lent words
+
+#![tactic(auto)]
+
 ghost use Rattle.std.specs.Prelude.{◌≡◌, ℕ, ◌*◌, ◌≤◌, ◌<◌, length};
 ghost use Rattle.meaning.specs.Limits.{limits_of};
 ghost use Rattle.process_row.specs.Rows.{row_from, Readable};

@@ -1,5 +1,8 @@
 // Document 01's rules of a port, a process and a stream on a pipe: take and give. In specs/, Moves has the code as functions of lists, and
 // MovesMeaning says that this is what document 01 says, where links are filled no further than their places.
+
+#![tactic(auto)]
+
 ghost use Rattle.std.specs.Prelude.{◌≡◌, true, length};
 ghost use Rattle.ports.specs.Ports.{PortFits};
 ghost use Rattle.take_give.specs.Moves.{can_take, taken, can_give, given};

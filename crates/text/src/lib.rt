@@ -1,5 +1,8 @@
 // Lines of text on standard output: names, numbers, points and instances. A line is collected in a page, which is printed when it is full
 // and at the line's end.
+
+#![tactic(auto)]
+
 ghost use Rattle.std.specs.Prelude.{◌≤◌};
 
 use integers::{V2, V3};

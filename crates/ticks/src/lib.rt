@@ -5,6 +5,9 @@
 //
 //   Starts    the ticks of a pipe's elements at a process, by that of the first
 //   Ends      the least and the greatest step
+
+#![tactic(auto)]
+
 ghost use mathlib.Core.Path.{◌≡◌};
 ghost use Prim.Native.Nat.{◌≤◌, ◌<◌};
 ghost use lib.Dec.{T};

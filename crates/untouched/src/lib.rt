@@ -4,6 +4,9 @@
 //
 //   Touched   the search for a number that is not among those passed, with marks
 //   Search    `refusal_is`: the search along the walk is refusal 17; `too_many`: more elements than instances
+
+#![tactic(auto)]
+
 ghost use Rattle.std.specs.Prelude.{◌≡◌};
 ghost use Rattle.untouched.specs.Touched.{Misses};
 ghost use Rattle.untouched.specs.Search.{number_on, Numberable, Searching};

@@ -2,6 +2,9 @@
 // the board, and its number of bytes. It reads up to 65,536 descriptions; more than 508 bytes are taken as 508, and bytes that are missing
 // as 0; three words that are not whole end the program. For each it prints `steps` with the number by which the call declines, or 0, and
 // the counts, every one of which is 7 before the call.
+
+#![tactic(auto)]
+
 use libc::STDIN_FILENO;
 use meaning::ANSWERS;
 use text::PAGE;

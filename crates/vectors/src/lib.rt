@@ -1,5 +1,8 @@
 // Vectors of small words, as the tests of Accept use them: dot and cross product, the image under a matrix, a vector some steps on, line
 // and divisor of a matrix, and whether a vector leads back in the written order.
+
+#![tactic(auto)]
+
 ghost use Rattle.std.specs.Prelude.{◌≡◌, ◌≤◌, pos, ◌-ℤ◌, ◌*ℤ◌};
 ghost use Rattle.integers.specs.Differences.{Abs};
 ghost use Rattle.integers.specs.Vectors.{dot, cross, neg3, neg2, shift3, shift2, image};

@@ -10,6 +10,9 @@
 //   Owned       the ranks of a step's own steps
 //   Refreshed   the flags after a step
 //   Meaning     by the port table of an array no two steps look at the same word: `apart`; and readiness changes nowhere else: `local`
+
+#![tactic(auto)]
+
 ghost use Rattle.std.specs.Prelude.{◌≡◌, false, List, ℕ, ◌+◌, ◌≤◌, ◌<◌, length, replicate};
 ghost use Rattle.meaning.specs.Limits.{state_words_most};
 ghost use Rattle.port_table.specs.PortsOf.{RowsFit};

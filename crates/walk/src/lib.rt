@@ -5,6 +5,9 @@
 //
 //   Words     instances as words of 8 bits, and lines of them stored one after the other
 //   Walked    what the words of a walk say: `Walked`; the walk stored process by process
+
+#![tactic(auto)]
+
 ghost use Rattle.std.specs.Prelude.{◌+◌, ◌*◌, ◌<◌, ◌≡◌, length, pos};
 ghost use Rattle.integers.specs.Vectors.{shift3};
 ghost use Rattle.meaning.specs.Space.{count};

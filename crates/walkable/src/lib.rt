@@ -1,5 +1,8 @@
 // Refusals 33 and 1 to 10, those in which no stream has a part: what none of them refuses has a walk. The survey of a description is made
 // here, once a call, and the words of its processes and of its walk are filled. In specs/, Walkable says what is then known of its loops.
+
+#![tactic(auto)]
+
 ghost use Rattle.std.specs.Prelude.{◌≡◌, [], ◌∷◌};
 ghost use Rattle.meaning.specs.Tests.{◌if◌, refusal};
 ghost use Rattle.meaning.specs.Limits.{limits_of, gauge_limits, UpTo};

@@ -3,6 +3,9 @@
 //
 //   Runs              states stopped in the middle, and other orders
 //   GuardedRuns       runs under guards, plainly and in two orders
+
+#![tactic(auto)]
+
 pub fn one() -> usize {
     1
 }

@@ -4,6 +4,9 @@
 //
 //   Search    a pipe looked for by its number, over the pipes' numbers of elements
 //   Pieces    where a pipe's part lies; the call's own refusals, and what it answers
+
+#![tactic(auto)]
+
 ghost use Rattle.std.specs.Prelude.{◌≡◌, cond, ◌+◌, ◌-◌, ◌≤◌, eqb, ltb, length, take, drop};
 ghost use Rattle.meaning.specs.Limits.{limits_of, gauge_limits, UpTo};
 ghost use Rattle.meaning.specs.Tests.{refusal};

@@ -1,4 +1,7 @@
 // The part that Window hands back, copied into a lent list, and its answer in words.
+
+#![tactic(auto)]
+
 ghost use Rattle.std.specs.Prelude.{◌≡◌, [], min};
 ghost use Rattle.meaning.specs.Limits.{limits_of};
 ghost use Rattle.meaning.specs.Calls.{window};

@@ -9,6 +9,9 @@
 //   Touches    which elements instances touch, and in which order
 //   Elements   the range of a stream's numbers
 //   Times      steps as times
+
+#![tactic(auto)]
+
 pub fn one() -> usize {
     1
 }

@@ -1,4 +1,7 @@
 // The tests of document 01's refusals 2, 4 and 5, over numbers alone: sizes, the range of a word, which Make draws from too, bounds.
+
+#![tactic(auto)]
+
 ghost use Rattle.std.specs.Prelude.{◌≡◌, not, ◌&&◌, ◌≤◌, leb, pos};
 ghost use Rattle.std.specs.Int.Signed.{lt_z};
 ghost use Rattle.meaning.specs.Description.{◌to◌, within, line_range, range_at, is_direction, in_range, refused2, refused5};

@@ -1,4 +1,7 @@
 // Words: a truth as a word, a word as one of 64 bits, and words written into a list.
+
+#![tactic(auto)]
+
 ghost use Rattle.std.specs.Prelude.{◌≡◌, cond, ◌+◌, ◌≤◌, ◌<◌, length};
 ghost use Rattle.words.specs.Stored.{stored};
 

@@ -5,6 +5,9 @@
 //   Columns     a list in rows of six, filled column by column
 //   Places      the numbers of the elements that each instance touches, as a table holds them; `columns-table`, `runnable`
 //   Run         the run instance by instance
+
+#![tactic(auto)]
+
 ghost use Rattle.std.specs.Prelude.{◌≡◌, ◌<◌, length, get_or};
 ghost use Rattle.integers.specs.Vectors.{zero3};
 ghost use Rattle.meaning.specs.Loops.{instances};

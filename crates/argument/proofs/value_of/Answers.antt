@@ -1,0 +1,22 @@
+-- `argument::value_of` meets its contract: the value so far, with the characters that are left, has the value of all. Assumes nothing.
+use mathlib.Core.Path.{◌≡◌, ◌∙◌, ap}
+use Prim.Native.Nat.{ℕ, ◌+◌, ◌-◌, ◌≤◌}
+use native.Mathlib.Omega.{arith}
+use lib.ListN.{length, drop}
+use borrow.Author.Rules.{rules}
+use Rattle.argument.specs.Numeral.{value_of, value_next, value_end}
+use Rattle.argument.proofs.value_of.Goals as goal
+
+pub loop-i-preserved : goal.loop-i-preserved
+loop-i-preserved c =
+    let b = c in
+    let ds = b.args.digits.now in
+    let i = b.loop-i.i in (
+      omega arith,
+      ap (λ (v : ℕ). value_of v (drop (i + 1) ds)) c.with_digit-value.ensures ∙ value_next ds i b.loop-i.value (omega arith)
+          ∙ b.loop-i.invariant.1,
+    )
+
+pub returns : goal.returns
+returns c =
+    let b = c in value_end b.args.digits.now b.loop-i.i b.loop-i.value (omega arith) ∙ b.loop-i.invariant.1

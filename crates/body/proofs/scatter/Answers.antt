@@ -1,0 +1,35 @@
+-- `body::scatter` meets its contract: what is left from turn i on gives the whole. Assumes nothing.
+use mathlib.Core.Path.{◌≡◌, refl, sym, ◌∙◌}
+use Prim.Native.Nat.{◌≤◌, ◌<◌, ◌-◌}
+use native.Mathlib.Omega.{arith}
+use lib.ListN.{length, drop, length-set}
+use borrow.Author.Rules.{rules}
+use Rattle.meaning.specs.Body.{scatter}
+use Rattle.body.specs.Store.{scatter_next, scatter_end}
+use Rattle.body.proofs.scatter.Goals as goal
+
+pub loop-i-init : goal.loop-i-init
+loop-i-init c = (omega arith, refl, refl)
+
+pub overflow_cast-place : goal.overflow_cast-place
+overflow_cast-place c = omega (arith, c.shared_slice_known-1.given c.loop-i.i)
+
+pub offset_bounds-store-place : goal.offset_bounds-store-place
+offset_bounds-store-place c = omega (arith, c.requires.within _ c.loop-i-test.true)
+
+pub bounds-store-place : goal.bounds-store-place
+bounds-store-place c = omega (arith, c.requires.within _ c.loop-i-test.true)
+
+pub loop-i-preserved : goal.loop-i-preserved
+loop-i-preserved c =
+    let q = c in
+    let s = q in
+    let l : length s.args.t3 ≡ 8 = search rules in
+    let n : q.loop-i.i < length s.args.t3 = omega (arith, s.requires.streams) in
+    let next = scatter_next q.loop-i.store s.args.places.now s.args.t3 q.loop-i.i c.loop-i-test.true n in
+    (omega arith, simp length-set q.loop-i.invariant.1, sym next ∙ q.loop-i.invariant.2)
+
+pub returns : goal.returns
+returns c =
+    let q = c in
+    sym (scatter_end q.loop-i.store q.args.places.now _ q.loop-i.i c.loop-i-test.false) ∙ q.loop-i.invariant.2

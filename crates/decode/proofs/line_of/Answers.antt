@@ -1,0 +1,21 @@
+-- `decode::line_of` meets its contract. Assumes nothing.
+use Rattle.integers.specs.Words.{held}
+use Rattle.meaning.specs.Description.{body_line}
+use borrow.Author.Rules.{rules}
+use Rattle.decode.proofs.line_of.Goals as goal
+
+pub returns : goal.returns
+unfolding body_line
+returns c =
+    let b = c in
+    let at = b.line_at_lem.ensures.0 in
+    rw (
+      b.bits_at.ensures,
+      b.bits_at-2.ensures,
+      b.bits_at-3.ensures,
+      b.bits_at-4.ensures,
+      c.bits_at-5.ensures,
+      c.bits_at-6.ensures,
+      held c.word_at.type_inv c.word_at.ensures,
+      at,
+    )

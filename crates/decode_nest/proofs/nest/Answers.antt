@@ -1,0 +1,16 @@
+-- `decode_nest::nest` meets its contract. Assumes nothing.
+use Rattle.meaning.specs.Description.{nest_of}
+use borrow.Author.Rules.{rules}
+use Rattle.decode_nest.proofs.nest.Goals as goal
+
+pub returns : goal.returns
+unfolding nest_of
+returns c =
+    let b = c in
+    rw (
+      b.vector.ensures,
+      b.vector-2.ensures,
+      c.vector-3.ensures,
+      c.vector-4.ensures,
+      c.matrix.ensures,
+    )

@@ -1,0 +1,81 @@
+-- `element_places::fill_places` meets its contract: the places of the elements of the first i streams stand. Assumes nothing.
+use borrow.Author.Rules.{rules}
+use mathlib.Core.Path.{◌≡◌}
+use Prim.Native.Nat.{ℕ, ◌+◌, ◌*◌, ◌-◌, ◌≤◌, ◌<◌}
+use native.Mathlib.Omega.{arith}
+use lib.ListN.{length, get_or}
+use Rattle.meaning.specs.Description.{streams_of}
+use Rattle.meaning.specs.Body.{stream_start}
+use Rattle.lanes.specs.All.{part_lanes}
+use Rattle.figures.specs.Shares.{start_all}
+use Rattle.element_places.specs.Order.{place_of_element, none_before}
+use Rattle.element_places.specs.Lent.{saying_at, right_at_lem}
+use Rattle.element_places.proofs.fill_places.Goals as goal
+
+pub loop-i-init : goal.loop-i-init
+loop-i-init c = let s = c in (omega arith, s.requires.5, λ e l. absurd (none_before s.args.v.description e l))
+
+pub flow_at-f-requires : goal.flow_at-f-requires
+flow_at-f-requires c =
+    let p = c.requires.0 in
+    omega (arith, c.loop-i-test.true, p.described.few.ranged.sized.most_streams)
+
+pub elements_in-first-requires : goal.elements_in-first-requires
+elements_in-first-requires c =
+    let p = c.requires in
+    (p.0.described.few, p.1, omega (arith, c.loop-i-test.true))
+
+-- stream i is one of six
+stream_lt : (c : goal.After-elements_in-first invariant_loop decreases_loop) → c.loop-i.i < 6
+stream_lt c =
+    let p = c.requires.0 in
+    omega (arith, c.loop-i-test.true, p.described.few.ranged.sized.most_streams)
+
+pub overflow_cast-a : goal.overflow_cast-a
+overflow_cast-a c = omega (arith, stream_lt c)
+
+pub overflow_mul-a : goal.overflow_mul-a
+overflow_mul-a c = omega (arith, stream_lt c)
+
+pub overflow_add-e : goal.overflow_add-e
+overflow_add-e c = omega (arith, stream_lt c)
+
+pub offset_bounds-lanes-a : goal.offset_bounds-lanes-a
+offset_bounds-lanes-a c = omega (arith, stream_lt c)
+
+-- OLD NEED slice-bounds-fill-stream-end
+part_fill_stream_end : tie.Need-slice-bounds-fill-stream-end invariant_loop decreases_loop
+part_fill_stream_end c = omega (arith, stream_lt c, c.requires.4.words)
+
+pub fill_stream-requires : goal.fill_stream-requires
+fill_stream-requires c =
+    let l = c in
+    let p = l.requires in
+    let t = c.loop-i-test.true in
+    let i = l.loop-i.i in
+    let a = 3072 * i in
+    saying_at p.0 p.1 i t c.flow_at-f.ensures c.elements_in-first.ensures p.2 p.3
+    (part_lanes p.4 i t {k = a + 3072 - a} (omega arith)) l.loop-i.invariant.1
+
+pub overflow_add-i : goal.overflow_add-i
+overflow_add-i c =
+    let l = c in
+    let p = l.requires.0 in
+    record { fits = omega (arith, l.loop-i-test.true, p.described.few.ranged.sized.most_streams) }
+
+pub loop-i-preserved : goal.loop-i-preserved
+loop-i-preserved c =
+    let k = c in
+    let l = k in
+    let p = l.requires in
+    let t = k.loop-i-test.true in
+    let n = right_at_lem p.0 p.1 l.loop-i.i t k.flow_at-f.ensures k.elements_in-first.ensures l.loop-i.places _
+    c.fill_stream.ensures l.loop-i.invariant.1 l.loop-i.invariant.2 in
+    (omega (arith, t), n.0, n.1)
+
+pub returns : goal.returns
+returns c =
+    let d = c.args.v.description in
+    let l = c.loop-i in
+    let z : l.i ≡ d.sizes.streams = omega (arith, c.loop-i-test.false, l.invariant.0) in
+    record { places = λ e b. l.invariant.2 e (omega (arith, b, start_all d l.i z)) }

@@ -1,0 +1,21 @@
+-- `elements::element_count` meets its contract: the elements of all streams are those before where a further one would begin; at most six
+-- streams have at most 4,096 each. Assumes nothing.
+use mathlib.Core.Path.{◌∙◌}
+use native.Mathlib.Omega.{arith}
+use Rattle.elements.specs.Counts.{start_most, start_all}
+use borrow.Author.Rules.{rules}
+use Rattle.elements.proofs.element_count.Goals as goal
+
+pub returns : goal.returns
+returns c =
+    let a = c in
+    let d = a.args.v.description in
+    let u = a.requires.1.in_use in (
+      c.elements_in.ensures ∙ start_all d u a.requires.0,
+      omega (
+        arith,
+        c.elements_in.ensures,
+        start_most d u a.requires.0 d.sizes.streams (omega arith),
+        a.requires.0.ranged.sized.most_streams,
+      ),
+    )

@@ -1,0 +1,20 @@
+-- `elements::elements_in` meets its contract: after i turns the sum is the number of stream i's first element. Assumes nothing.
+use mathlib.Core.Path.{◌≡◌, refl, ◌∙◌, ap}
+use Prim.Native.Nat.{ℕ, ◌+◌, ◌-◌, ◌≤◌, ◌<◌}
+use native.Mathlib.Omega.{arith}
+use lib.ListN.{length}
+use Rattle.meaning.specs.Lists.{total}
+use Rattle.meaning.specs.Space.{Box, points}
+use Rattle.meaning.specs.Description.{streams_of}
+use Rattle.meaning.specs.Body.{stream_start}
+use Rattle.survey.specs.InRange.{in_range_lem}
+use Rattle.survey.specs.Surveys.{flow_is, charted, spans}
+use Rattle.elements.specs.Counts.{start_next, start_most}
+use borrow.Author.Rules.{rules}
+use Rattle.elements.proofs.elements_in.Given as goal
+
+abbrev pub invariant-loop-i : goal.invariant-loop-i
+invariant-loop-i l = let v = l.v in let sum = l.sum in (l.i ≤ l.count) × (sum ≡ stream_start v.description.nest (streams_of v.description) l.i)
+
+abbrev pub decreases-loop-i : goal.decreases-loop-i
+decreases-loop-i l = l.count - l.i

@@ -1,0 +1,28 @@
+-- `figures::sums_of` meets its contract: the sums are those of the pipes that begin before process p. Assumes nothing.
+use mathlib.Core.Path.{◌≡◌, ◌∙◌, ap}
+use Prim.Native.Nat.{suc, ◌+◌, ◌-◌, ◌≤◌}
+use native.Mathlib.Omega.{arith}
+use borrow.Author.Rules.{rules}
+use Rattle.figures.specs.Sums.{sums_at, sums_zero, sums_all}
+use Rattle.figures.proofs.sums_of.Goals as goal
+
+pub loop-p-init : goal.loop-p-init
+loop-p-init c = let f = c.args.f in (omega arith, sums_zero f.nest f.stream)
+
+pub added-sums-requires : goal.added-sums-requires
+added-sums-requires c =
+    let s = c in
+    (record { seen = s.requires.seen; lt = omega (arith, s.requires.counted, c.loop-p-test.true) }, c.loop-p.invariant.1, s.requires.small)
+
+pub loop-p-preserved : goal.loop-p-preserved
+loop-p-preserved c =
+    let f = c.args.f in
+    let l = c.loop-p in
+    let e : suc l.p ≡ l.p + 1 = omega arith in
+    (omega (arith, c.loop-p-test.true), c.added-sums.ensures ∙ ap (sums_at f.nest f.stream) e)
+
+pub returns : goal.returns
+returns c =
+    let s = c in
+    let l = c.loop-p in
+    l.invariant.1 ∙ sums_all s.args.f.nest s.args.f.stream l.p (omega (arith, c.loop-p-test.false, l.invariant.0, s.requires.counted))

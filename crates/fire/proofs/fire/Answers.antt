@@ -1,0 +1,45 @@
+-- `fire::fire` meets its contract: a process that can fire has fired less often than its count, so that one more fits 32 bits; the words
+-- that it uses lie in the state. Assumes nothing.
+use mathlib.Core.Path.{◌≡◌}
+use native.Mathlib.Omega.{arith}
+use lib.ListN.{length}
+use borrow.Author.Rules.{rules}
+use Rattle.fire.specs.Firing.{used_fit, used_list, runnable, fire_facts}
+use Rattle.fire.proofs.fire.Goals as goal
+
+pub word-f-requires : goal.word-f-requires
+word-f-requires c = let s = c in (s.requires.0.ports 0 s.requires.0.some).fired
+
+pub used_words-words-requires : goal.used_words-words-requires
+used_words-words-requires c = let s = c in used_fit _ _ _ s.requires.0
+
+pub execute-requires : goal.execute-requires
+execute-requires c =
+    let s = c in
+    let l : length s.args.t2 ≡ 6 = search rules in
+    let e = c.used_words-words.ensures in
+    rw (e, used_list s.args.t2 s.args.streams s.requires.0.most l) (runnable _ _ _ _ _ s.requires.0 l s.requires.1)
+
+pub overflow_cast-state : goal.overflow_cast-state
+overflow_cast-state c =
+    let s = c in
+    let k = s.requires.0.ports 0 s.requires.0.some in
+    omega (arith, k.count, fire_facts s.args.state.now s.args.t2 s.args.streams s.requires.2)
+
+pub offset_bounds-state-at : goal.offset_bounds-state-at
+offset_bounds-state-at c =
+    let s = c in
+    omega (arith, (s.requires.0.ports 0 s.requires.0.some).fired)
+
+pub bounds-state-at : goal.bounds-state-at
+bounds-state-at c =
+    let s = c in
+    omega (arith, (s.requires.0.ports 0 s.requires.0.some).fired)
+
+pub returns : goal.returns
+returns c =
+    let s = c in
+    let l : length s.args.t2 ≡ 6 = search rules in
+    let u = c in
+    let e = used_list s.args.t2 s.args.streams s.requires.0.most l in
+    rw (c.execute.ensures, u.used_words-words.ensures, u.word-f.ensures.0, e)

@@ -1,0 +1,12 @@
+-- `instances::first_of` meets its contract: the words of the processes hold the code of its first instance. Assumes nothing.
+use mathlib.Core.Path.{◌∙◌, subst, sym}
+use borrow.Author.Rules.{rules}
+use Rattle.vectors.specs.Within.{Within}
+use Rattle.instances.proofs.first_of.Goals as goal
+
+pub returns : goal.returns
+returns c =
+    let s = c in
+    let e = c.first_at.ensures in
+    let h = s.requires.held in
+    let l = s.requires.process in (e ∙ h.firsts s.args.p l, subst (Within 64) (sym e) (h.first_small s.args.p l))

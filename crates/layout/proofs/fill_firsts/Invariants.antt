@@ -1,0 +1,20 @@
+-- `layout::fill_firsts` meets its contract: the first p words are codes, and the others as they were. Assumes nothing.
+use mathlib.Core.Path.{◌≡◌, refl, sym, ◌∙◌, ap, ap₂}
+use mathlib.Core.List.{List}
+use Prim.Native.Nat.{ℕ, ◌≤◌, ◌-◌}
+use native.Mathlib.Nat.{le_refl}
+use native.Mathlib.Omega.{arith}
+use lib.ListN.{length, get_or, set, length-set}
+use borrow.Author.Rules.{rules}
+use Rattle.integers.specs.Fill.{fill_by, fill_zero, fill_step, fill_past, fill_done}
+use Rattle.meaning.specs.declared.Nest.{Nest}
+use Rattle.layout.specs.Codes.{code_of}
+use Rattle.layout.specs.Spans.{numbered}
+use Rattle.layout.proofs.fill_firsts.Given as goal
+
+abbrev pub invariant-loop-p : goal.invariant-loop-p
+invariant-loop-p l =
+    (l.p ≤ l.processes) × (length l.firsts ≡ length l.initial.firsts) × (l.firsts ≡ fill_by (code_in l.n l.initial.firsts) l.p l.initial.firsts)
+
+abbrev pub decreases-loop-p : goal.decreases-loop-p
+decreases-loop-p l = l.processes - l.p

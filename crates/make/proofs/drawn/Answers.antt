@@ -1,0 +1,25 @@
+-- `make::drawn` meets its contract. Assumes nothing.
+use mathlib.Core.Path.{sym, ◌∙◌, ap, subst}
+use borrow.Author.Rules.{rules}
+use Rattle.integers.specs.Words.{held}
+use Rattle.meaning.specs.declared.Range.{Range}
+use Rattle.meaning.specs.Generator.{drawn_from}
+use Rattle.make.specs.Ranges.{Drawable, drawable}
+use Rattle.make.proofs.drawn.Goals as goal
+
+pub drawn_from-requires : goal.drawn_from-requires
+drawn_from-requires c =
+    let s = c in
+    subst Drawable (sym c.range_at.ensures) (drawable s.args.z s.requires s.args.k)
+
+pub returns-then-is_direction : goal.returns-then-is_direction
+returns-then-is_direction c =
+    rw (sym c.is_direction.ensures ∙ c.if-is_direction.true)
+    (held c.drawn_direction.type_inv c.drawn_direction.ensures)
+
+pub returns-else-is_direction : goal.returns-else-is_direction
+returns-else-is_direction c =
+    let w = c in
+    let x = w.args.x in
+    rw (sym w.is_direction.ensures ∙ c.if-is_direction.false)
+    (held c.drawn_from.type_inv (c.drawn_from.ensures ∙ ap (λ (r : Range). drawn_from r x) c.range_at.ensures))

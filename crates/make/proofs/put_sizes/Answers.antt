@@ -1,0 +1,15 @@
+-- `make::put_sizes` meets its contract. Assumes nothing.
+use mathlib.Core.Path.{◌∙◌, ap}
+use borrow.Author.Rules.{rules}
+use Rattle.meaning.specs.Description.{bytes_of}
+use Rattle.words.specs.Stored.{stored}
+use Rattle.make.proofs.put_sizes.Goals as goal
+
+pub returns : goal.returns
+returns c =
+    let third = c in
+    let second = third in
+    let first = second in
+    let z = first.args.z in
+    third.put_word-3.ensures
+    ∙ ap (stored (bytes_of z.lines) 8 4) (second.put_word-2.ensures ∙ ap (stored (bytes_of z.streams) 4 4) first.put_word.ensures)

@@ -1,0 +1,25 @@
+-- `numbering::instance_count` meets its contract: each loop has as many values as turns, from 1 to 129, and the instances are their
+-- combinations. Assumes nothing.
+use mathlib.Core.Path.{◌∙◌, ap, sym}
+use Prim.Native.Nat.{◌*◌}
+use native.Mathlib.Omega.{arith}
+use borrow.Author.Rules.{rules}
+use Rattle.numbering.specs.declared.Turns.{Turns}
+use Rattle.numbering.specs.Turns.{turning, plane_most, all_some, all_most, instances_length}
+use Rattle.numbering.proofs.instance_count.Goals as goal
+
+pub overflow_mul-result : goal.overflow_mul-result
+overflow_mul-result c =
+    let s = c in record { fits = omega (arith, plane_most (turning s.args.n c.turns_of-t.ensures s.requires)) }
+
+pub overflow_mul-result-2 : goal.overflow_mul-result-2
+overflow_mul-result-2 c =
+    let s = c in
+    record { fits = omega (arith, all_most (turning s.args.n c.turns_of-t.ensures s.requires)) }
+
+pub returns : goal.returns
+returns c =
+    let s = c in
+    let e = c.turns_of-t.ensures in
+    let h = turning s.args.n e s.requires in
+    (ap (λ (t : Turns). t.outer * (t.middle * t.inner)) e ∙ sym (instances_length s.args.n), all_some h, all_most h)

@@ -1,0 +1,13 @@
+-- `numbering::turns_of` meets its contract. Assumes nothing.
+use mathlib.Core.Path.{◌∙◌, ap}
+use borrow.Author.Rules.{rules}
+use Rattle.numbering.specs.Ranges.{turns}
+use Rattle.numbering.specs.Turns.{same_turns}
+use Rattle.numbering.proofs.turns_of.Goals as goal
+
+pub returns : goal.returns
+returns c =
+    let y = c in
+    let x = y in
+    same_turns (x.turn_count.ensures ∙ ap turns x.outer.ensures.0)
+    (y.turn_count-2.ensures ∙ ap turns y.middle.ensures.0) (c.turn_count-3.ensures ∙ ap turns c.inner.ensures.0)

@@ -1,0 +1,10 @@
+-- `opening::open` meets its contract: its lanes come as zeros. Assumes nothing.
+use borrow.Author.Rules.{rules}
+use mathlib.Core.Path.{refl}
+use Rattle.opening.proofs.open.Goals as goal
+
+pub open_with_lanes-requires : goal.open_with_lanes-requires
+open_with_lanes-requires c = (refl, c.requires)
+
+pub returns : goal.returns
+returns c = c.open_with_lanes.ensures.0

@@ -1,0 +1,17 @@
+-- `outlook::leaps` meets its contract. Assumes nothing.
+use mathlib.Core.Path.{refl, ◌∙◌, ap}
+use lib.Dec.{ltb}
+use lib.IntN.{nat_abs}
+use Rattle.integers.specs.Words.{at}
+use Rattle.survey.specs.Small.{and_goes, and_stops}
+use borrow.Author.Rules.{rules}
+use Rattle.outlook.proofs.leaps.Goals as goal
+
+pub returns-then-moving : goal.returns-then-moving
+returns-then-moving c =
+    let s = c in
+    and_goes refl c.if-moving.true
+    (ap (ltb s.args.hop) (c.magnitude.ensures ∙ ap nat_abs (at tt s.requires).eq))
+
+pub returns-else-moving : goal.returns-else-moving
+returns-else-moving c = and_stops _ refl c.if-moving.false

@@ -1,0 +1,25 @@
+-- `pipes::fill_soaks` meets its contract: the first p entries are filled. Assumes nothing.
+use mathlib.Core.Path.{◌≡◌, refl, sym}
+use Prim.Native.Nat.{◌≤◌, ◌-◌}
+use native.Mathlib.Omega.{arith}
+use lib.ListN.{length, length-set}
+use borrow.Author.Rules.{rules}
+use Rattle.integers.specs.Fill.{fill_by, fill_zero, fill_step, fill_done}
+use Rattle.meaning.specs.Array.{row_soak}
+use Rattle.layout.specs.Spans.{process_of}
+use Rattle.pipes.proofs.fill_soaks.Goals as goal
+
+pub loop-p-init : goal.loop-p-init
+loop-p-init c = (omega arith, refl, sym (fill_zero _ _))
+
+pub soak_of-requires : goal.soak_of-requires
+soak_of-requires c = let p = c.requires in record { seen = p.seen; lt = omega (arith, p.counted) }
+
+pub bounds-out-p : goal.bounds-out-p
+bounds-out-p c = omega (arith, c.loop-p.invariant.1, c.requires.room)
+
+pub loop-p-preserved : goal.loop-p-preserved
+loop-p-preserved c = let v = c.loop-p.invariant in (omega arith, simp length-set v.1, rw (fill_step, v.2, c.soak_of.ensures))
+
+pub returns : goal.returns
+returns c = fill_done _ _ _ _ c.loop-p.invariant.2 (omega arith)

@@ -1,0 +1,23 @@
+-- `port_fill::fill_ports` meets its contract. Assumes nothing.
+use borrow.Author.Rules.{rules}
+use Rattle.port_fill.proofs.fill_ports.Goals as goal
+
+pub stride_of-stride-requires : goal.stride_of-stride-requires
+stride_of-stride-requires c = let p = c.requires in (p.0, p.2)
+
+pub fill_streams-requires : goal.fill_streams-requires
+fill_streams-requires c =
+    let k = c in
+    let p = k.requires in (
+      record {
+        described = p.0;
+        laid = p.1;
+        narrow = k.stride_of-stride.ensures.1;
+        strides = k.stride_of-stride.ensures.0;
+        of_spans = p.3;
+        long = p.4;
+      },
+      p.2,
+      p.5,
+      p.6,
+    )

@@ -1,0 +1,39 @@
+-- `port_fill::fill_stream` meets its contract: the heads are filled at all processes before the rows that are made of them, and the first
+-- rows leave the table its length. Assumes nothing.
+use borrow.Author.Rules.{rules}
+use mathlib.Core.Path.{refl}
+use native.Mathlib.Omega.{arith}
+use Prim.Native.Nat.{ℕ}
+use lib.ListN.{length-replicate}
+use Rattle.lanes.specs.All.{seen_of}
+use Rattle.port_fill.specs.Strung.{ends_fillable, ports_fillable, ends_length, strung}
+use Rattle.port_fill.proofs.fill_stream.Goals as goal
+
+pub put_ends-pipes-requires : goal.put_ends-pipes-requires
+put_ends-pipes-requires c =
+    let s = c in
+    let f = s.requires.0.flowing in (
+      ends_fillable s.requires.0 (seen_of f.flows refl refl f.of_spans f.long s.requires.1),
+      length-replicate {A = ℕ} 2048 0,
+      s.requires.2,
+    )
+
+pub put_ports-requires : goal.put_ports-requires
+put_ports-requires c =
+    let u = c in
+    let s = u in
+    let f = s.requires.0.flowing in (
+      ports_fillable s.requires.0 (seen_of f.flows refl refl f.of_spans f.long s.requires.1) u.put_ends-pipes.ensures.1,
+      omega (
+        arith,
+        s.requires.2,
+        ends_length _ _ s.args.g s.args.first s.args.base _ s.args.ports.now u.put_ends-pipes.ensures.2,
+      ),
+    )
+
+pub returns : goal.returns
+returns c =
+    let u = c in
+    let s = u in
+    let o = u.put_ends-pipes.ensures in
+    (o.0, strung s.requires.0 s.args.ports.now o.2 c.put_ports.ensures)

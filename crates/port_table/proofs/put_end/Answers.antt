@@ -1,0 +1,14 @@
+-- `port_table::put_end` meets its contract. Assumes nothing.
+use borrow.Author.Rules.{rules}
+use mathlib.Core.Path.{◌∙◌, ap}
+use mathlib.Core.List.{List}
+use Prim.Native.Nat.{ℕ}
+use lib.ListN.{length}
+use Rattle.words.specs.Stored.{stored}
+use Rattle.port_table.proofs.put_end.Goals as goal
+
+pub returns : goal.returns
+returns c =
+    let s = c in
+    c.store.ensures ∙ ap (λ (row : List ℕ). stored row s.args.at (length row) s.args.ports.now)
+    c.end_words_lem.ensures

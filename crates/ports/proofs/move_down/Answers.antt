@@ -1,0 +1,27 @@
+-- `ports::move_down` meets its contract: what is left to move from turn i on gives the whole. Assumes nothing.
+use mathlib.Core.Path.{◌≡◌, refl, sym, ◌∙◌}
+use Prim.Native.Nat.{◌≤◌, ◌+◌, ◌-◌}
+use native.Mathlib.Numerals.{unary_clauses}
+use native.Mathlib.Omega.{arith}
+use lib.ListN.{length, length-set}
+use borrow.Author.Rules.{rules}
+use Rattle.ports.specs.Links.{moved_down, move_next, move_end}
+use Rattle.ports.proofs.move_down.Goals as goal
+
+pub loop-i-init : goal.loop-i-init
+loop-i-init c = (omega arith, refl, simp unary_clauses)
+
+pub loop-i-preserved : goal.loop-i-preserved
+loop-i-preserved c =
+    let q = c in
+    let s = q in (
+      omega arith,
+      simp length-set q.loop-i.invariant.1,
+      sym (move_next q.loop-i.state s.args.first q.loop-i.i s.args.n c.loop-i-test.true) ∙ q.loop-i.invariant.2,
+    )
+
+pub returns : goal.returns
+returns c =
+    let q = c in
+    let s = q in
+    sym (move_end q.loop-i.state s.args.first q.loop-i.i s.args.n (omega arith)) ∙ q.loop-i.invariant.2

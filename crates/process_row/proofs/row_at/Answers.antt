@@ -1,0 +1,14 @@
+-- `process_row::row_at` meets its contract: p is below 1024, so the words of all six streams at it lie within the columns. Assumes nothing.
+use borrow.Author.Rules.{rules}
+use Rattle.process_row.proofs.row_at.Goals as goal
+
+pub returns : goal.returns
+returns c =
+    let f = c in
+    rw (
+      c.by_stream-2.ensures,
+      c.by_stream_lem.ensures,
+      c.instance_numbered.ensures.0,
+      f.first_at.ensures,
+      f.point_at.ensures,
+    )

@@ -1,0 +1,40 @@
+-- `prospect::own_survey` meets its contract: nothing but the step of the loops is another. Assumes nothing.
+use mathlib.Core.Path.{sym, ◌∙◌, ap, subst}
+use Rattle.meaning.specs.declared.Nest.{Nest}
+use Rattle.meaning.specs.declared.Description.{Description}
+use Rattle.meaning.specs.Accept.{refused8}
+use Rattle.meaning.specs.HowManyWork.{stepped, with_nest}
+use Rattle.decode.specs.Ranged.{Ranged}
+use Rattle.survey.specs.InRange.{nest_bounded}
+use Rattle.prospect.specs.Own.{own_ranged}
+use Rattle.prospect.proofs.own_survey.Goals as goal
+
+pub own_nest-requires : goal.own_nest-requires
+own_nest-requires c = nest_bounded c.requires.0.nest
+
+-- what is surveyed is in range
+in_range_lem : (c : goal.After-own_nest)
+    → Ranged (with_nest c.args.d c.own_nest.result)
+in_range_lem c =
+    let s = c in
+    let m = c.own_nest.ensures in
+    subst (λ (n : Nest). Ranged (with_nest s.args.d n)) (sym m.same) (own_ranged s.requires.0 m.small)
+
+pub survey_of-requires : goal.survey_of-requires
+survey_of-requires c = (in_range_lem c, c.requires.1)
+
+pub returns : goal.returns
+returns c =
+    let k = c in
+    let s = k in
+    let d = s.args.d in
+    let e = c.survey_of.ensures.0 in
+    let m = k.own_nest.ensures in
+    record {
+      same =
+          e ∙ ap (with_nest d) m.same
+          ∙ ap (λ (t : Description). with_nest d (stepped d.nest t.nest.step)) (sym e);
+      ranged = subst Ranged (sym e) (in_range_lem k);
+      surveyed = c.survey_of.ensures.1;
+      moves = λ r. ap (λ (t : Description). refused8 t.nest) e ∙ m.moves r;
+    }

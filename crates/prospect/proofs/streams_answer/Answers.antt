@@ -1,0 +1,67 @@
+-- `prospect::streams_answer` meets its contract: what is left of the streams has the first answer of all. Assumes nothing.
+use mathlib.Core.Path.{◌≡◌, refl, sym, ◌∙◌, ap, subst}
+use Prim.Native.Nat.{ℕ, ◌-◌, ◌<◌}
+use native.Mathlib.Numerals.{add-one}
+use native.Mathlib.Omega.{arith}
+use lib.ListN.{length, get_or, drop}
+use Rattle.outlook.specs.declared.Outlook.{Outlook}
+use Rattle.outlook.specs.Outlooks.{no_outlook}
+use Rattle.vectors.specs.Within.{Within}
+use Rattle.prospect.specs.Prospects.{first_by, used, used_length, used_at_lem, first_end, first_here, first_next}
+use borrow.Author.Rules.{rules}
+use Rattle.prospect.proofs.streams_answer.Goals as goal
+
+pub loop-i-init : goal.loop-i-init
+loop-i-init c = refl
+
+pub outlook_at-requires : goal.outlook_at-requires
+outlook_at-requires c = let s = c in omega (arith, c.loop-i-test.true, s.requires.1)
+
+pub answer_to-a-requires : goal.answer_to-a-requires
+answer_to-a-requires c =
+    let s = c in (
+      subst (λ (o : Outlook). Within 200 o.line) (sym c.outlook_at.ensures)
+          (s.requires.2 c.loop-i.i c.loop-i-test.true),
+      s.requires.0,
+    )
+
+-- stream i is one in use, and its outlook was read
+module _ (c : goal.After-answer_to-a invariant_loop decreases_loop) where
+  in_use : c.loop-i.i < length (used c.args.p)
+  in_use =
+      let s = c in omega (arith, c.loop-i-test.true, used_length s.args.p)
+
+  was_read : let s = c in
+      c.outlook_at.result ≡ get_or (used s.args.p) c.loop-i.i no_outlook
+  was_read =
+      let s = c in
+      c.outlook_at.ensures ∙ sym (used_at_lem s.args.p c.loop-i.i c.loop-i-test.true)
+
+pub returns-then-a-ne0 : goal.returns-then-a-ne0
+returns-then-a-ne0 c =
+    let l = c.loop-i in
+    let s = c in
+    first_here s.args.p.hop s.args.v (used s.args.p) l.i (in_use c) (was_read c)
+    c.answer_to-a.ensures c.if-a-ne0.true
+    ∙ l.invariant
+
+pub overflow_add-i : goal.overflow_add-i
+overflow_add-i c =
+    let s = c in
+    record { fits = omega (arith, c.loop-i-test.true, s.requires.1) }
+
+pub loop-i-preserved : goal.loop-i-preserved
+loop-i-preserved c =
+    let l = c.loop-i in
+    let s = c in
+    let a = s.args in
+    ap (λ (k : ℕ). first_by a.p.hop a.v (drop k (used a.p))) (add-one l.i)
+    ∙ first_next a.p.hop a.v (used a.p) l.i (in_use c) (was_read c) c.answer_to-a.ensures
+    c.if-a-ne0.false
+    ∙ l.invariant
+
+pub returns-then-a-ne0 : goal.returns
+returns-then-a-ne0 c =
+    let l = c.loop-i in
+    let a = c.args in
+    first_end a.p.hop a.v (used a.p) l.i (omega (arith, c.loop-i-test.false, used_length a.p)) ∙ l.invariant

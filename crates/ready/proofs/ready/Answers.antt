@@ -1,0 +1,17 @@
+-- `ready::ready` meets its contract: the memory's refusal, or the call on an opened memory. Assumes nothing.
+use borrow.Author.Rules.{rules}
+use Rattle.ready.specs.Call.{opened_fits, memory_refused, readies}
+use Rattle.ready.proofs.ready.Goals as goal
+
+pub ready_opened-requires : goal.ready_opened-requires
+ready_opened-requires c =
+    let i = c in opened_fits _ _ (i.«open».ensures.opened i.if-r-eq0.true)
+
+pub returns-then-r-eq0 : goal.returns-then-r-eq0
+returns-then-r-eq0 c =
+    let i = c in
+    let o = i.«open».ensures in
+    readies _ _ _ _ o.refused i.if-r-eq0.true (o.opened i.if-r-eq0.true) c.ready_opened.ensures
+
+pub returns-else-r-eq0 : goal.returns-else-r-eq0
+returns-else-r-eq0 c = memory_refused _ _ _ _ c.«open».ensures.refused c.if-r-eq0.false

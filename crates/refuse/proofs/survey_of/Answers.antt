@@ -1,0 +1,15 @@
+-- `refuse::survey_of` meets its contract. Assumes nothing.
+use mathlib.Core.Path.{ap, ◌∙◌}
+use Rattle.meaning.specs.declared.Limits.{Limits}
+use Rattle.meaning.specs.Accept.{refusal_of}
+use borrow.Author.Rules.{rules}
+use Rattle.refuse.proofs.survey_of.Goals as goal
+
+pub survey_within-requires : goal.survey_within-requires
+survey_within-requires c = c.Limits-of.ensures.1
+
+pub returns : goal.returns
+returns c =
+    let s = c.args.s.now in
+    let h = c.survey_within.ensures in
+    (h.0 ∙ ap (λ (l : Limits). refusal_of l s) c.Limits-of.ensures.0, h.1)

@@ -1,0 +1,59 @@
+-- `refuse_nest::nest_refusal` meets its contract: the first of the tests 6, 7, 8 and 10 that applies gives the number; one that does not
+-- leaves it to those after it. Assumes nothing.
+use mathlib.Core.Path.{◌≡◌}
+use mathlib.Core.List.{[], ◌∷◌}
+use Prim.Native.Nat.{ℕ}
+use Rattle.meaning.specs.Tests.{◌if◌, refusal}
+use Rattle.meaning.specs.Accept.{refused10}
+use Rattle.decode.specs.Refusals.{accepts}
+use Rattle.survey.specs.Grounds.{six, seven, eight, ten}
+use Rattle.survey.specs.Stages.{layout_tests, applies, skips}
+use borrow.Author.Rules.{rules}
+use Rattle.refuse_nest.proofs.nest_refusal.Goals as goal
+
+pub returns-then-instances_refused : goal.returns-then-instances_refused
+returns-then-instances_refused c =
+    let s = c in
+    applies 6 _ (six s.requires.1 s.args.limits c.instances_refused.ensures) c.if-instances_refused.true
+
+pub returns-then-low_rank : goal.returns-then-low_rank
+returns-then-low_rank c =
+    let b = c in
+    let s = b in
+    skips 6 _ (six s.requires.1 s.args.limits b.instances_refused.ensures) b.if-instances_refused.false
+    (applies 7 _ (seven s.requires.1 c.low_rank.ensures) c.if-low_rank.true)
+
+pub returns-then-still : goal.returns-then-still
+returns-then-still c =
+    let b = c in
+    let a = b in
+    let s = a in
+    skips 6 _ (six s.requires.1 s.args.limits a.instances_refused.ensures) a.if-instances_refused.false
+    (skips 7 _ (seven s.requires.1 b.low_rank.ensures) b.if-low_rank.false
+    (applies 8 _ (eight s.requires.1 c.still.ensures) c.if-still.true))
+
+-- none of 6, 7 and 8 applies: 10 decides
+to_ten : {r : ℕ} (c : goal.After-processes_refused)
+    → let s = c.args in
+    r ≡ refusal ((10 if refused10 s.limits s.n) ∷ []) → r ≡ refusal (layout_tests s.limits s.n)
+to_ten c e =
+    let t = c in
+    let b = t in
+    let a = b in
+    let s = a in
+    skips 6 _ (six s.requires.1 s.args.limits a.instances_refused.ensures) a.if-instances_refused.false
+    (skips 7 _ (seven s.requires.1 b.low_rank.ensures) b.if-low_rank.false
+    (skips 8 _ (eight s.requires.1 t.still.ensures) t.if-still.false e))
+
+pub returns-then-processes_refused : goal.returns-then-processes_refused
+returns-then-processes_refused c =
+    let s = c in
+    to_ten c (applies 10 _ (ten s.requires.1 s.args.limits c.processes_refused.ensures) c.if-processes_refused.true)
+
+pub returns-else-processes_refused : goal.returns-else-processes_refused
+returns-else-processes_refused c =
+    let s = c in
+    to_ten c (skips 10 _ (ten s.requires.1 s.args.limits c.processes_refused.ensures) c.if-processes_refused.false accepts)
+
+pub still-requires : goal.still-requires
+still-requires c = let s = c in (s.requires.0.step, s.requires.1.increment_small)

@@ -1,0 +1,6 @@
+-- `refuse_nest::processes_refused` meets its contract. Assumes nothing.
+use mathlib.Core.Path.{refl}
+use Rattle.refuse_nest.proofs.processes_refused.Goals as goal
+
+pub returns : goal.returns
+returns c = refl

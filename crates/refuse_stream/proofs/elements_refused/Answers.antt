@@ -1,0 +1,41 @@
+-- `refuse_stream::elements_refused` meets its contract: with more elements than instances one is untouched; else there are at most 4096, so
+-- each has its mark. Assumes nothing.
+use mathlib.Core.Bool.{false}
+use Prim.Native.Nat.{◌≤◌}
+use native.Mathlib.Omega.{arith}
+use lib.ListN.{get_or-replicate}
+use Rattle.untouched.specs.Search.{box_sized, size_is, searching_by, refusal_by, too_many}
+use Rattle.survey.specs.Surveys.{spans}
+use borrow.Author.Rules.{rules}
+use Rattle.refuse_stream.proofs.elements_refused.Goals as goal
+
+pub size_of-elements-requires : goal.size_of-elements-requires
+size_of-elements-requires c = spans c.requires.0
+
+pub returns-then-instances-elements : goal.returns-then-instances-elements
+returns-then-instances-elements c =
+    let s = c in
+    let f = s.args.f in
+    let z = box_sized f.stream s.requires.0.flow.elements_is s.requires.1.instances_is c.size_of_lem.ensures.0 in
+    too_many f.stream s.requires.0.in_range_lem.nest.directed (omega (arith, size_is z, z.counted, c.if-instances-elements.true))
+
+pub form_of-form-requires : goal.form_of-form-requires
+form_of-form-requires c = let p = c.requires.0 in (p.in_range_lem.map, spans p)
+
+pub untouched-requires : goal.untouched-requires
+untouched-requires c =
+    let k = c in
+    let s = k in
+    let f = s.args.f in
+    let p = s.requires.0.in_range_lem in
+    let z = box_sized f.stream s.requires.0.flow.elements_is s.requires.1.instances_is k.size_of_lem.ensures.0 in
+    let b : k.size_of_lem.result ≤ 4096 = omega (arith, z.counted, s.requires.2.few, c.if-instances-elements.false) in
+    searching_by z c.form_of-form.ensures p.nest s.requires.2 p.map b
+    (λ e h. get_or-replicate 4096 e false false (omega (arith, b, h)))
+
+pub returns-then-instances-elements : goal.returns
+returns-then-instances-elements c =
+    let k = c in
+    let s = k in
+    let z = box_sized s.args.f.stream s.requires.0.flow.elements_is s.requires.1.instances_is k.size_of_lem.ensures.0 in
+    refusal_by z c.form_of-form.ensures s.requires.0.in_range_lem.nest s.requires.2 c.untouched.ensures

@@ -1,0 +1,22 @@
+-- `result::fill_output` meets its contract: the place of an element lies within the received values, and reading each value at its
+-- element's place puts them in element order. Assumes nothing.
+use borrow.Author.Rules.{rules}
+use native.Mathlib.Omega.{arith}
+use Rattle.result.specs.Order.{readable, ordered}
+use Rattle.result.proofs.fill_output.Goals as goal
+
+pub fill_places-requires : goal.fill_places-requires
+fill_places-requires c = let p = c.requires in (p.0, p.1, p.4, p.5, p.6, omega arith)
+
+pub put_in_order-requires : goal.put_in_order-requires
+put_in_order-requires c =
+    let f = c in
+    let p = f.requires in
+    readable p.0 f.fill_places.ensures _ _ p.2 p.3 (omega (arith, f.fill_places.auto.places))
+
+pub returns : goal.returns
+returns c =
+    let f = c in
+    let s = f in
+    ordered s.requires.0 f.fill_places.ensures s.args.received.now s.args.output.now s.requires.2 s.requires.3
+    c.put_in_order.ensures

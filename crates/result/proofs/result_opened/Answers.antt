@@ -1,0 +1,32 @@
+-- `result::result_opened` meets its contract: where neither 25 nor 28 applies the output has a word for each element, so it can be filled;
+-- else it stays. Assumes nothing.
+use borrow.Author.Rules.{rules}
+use Rattle.result.specs.Out.{asked}
+use Rattle.result.specs.Call.{fillable, call_done, call_refused}
+use Rattle.result.proofs.result_opened.Goals as goal
+
+pub all_out-out-requires : goal.all_out-out-requires
+all_out-out-requires c = asked c.requires.0.rows
+
+pub fill_output-requires : goal.fill_output-requires
+fill_output-requires c =
+    let r = c in
+    let s = r in
+    let v = s.requires.1 in
+    let f = fillable s.requires.0 s.args.output.now r.all_out_lem.ensures r.of_result-r.ensures c.if-r-eq0.true
+    v.description_is in
+    (f.0, v.surveyed, f.1, f.2, rw v.description_is s.requires.2, s.requires.3, rw v.description_is s.requires.4)
+
+pub returns-then-r-eq0 : goal.returns-then-r-eq0
+returns-then-r-eq0 c =
+    let i = c in
+    let r = i in
+    let s = r in
+    call_done s.requires.0 s.args.output.now r.all_out_lem.ensures r.of_result-r.ensures i.if-r-eq0.true
+    s.requires.1.description_is c.fill_output.ensures
+
+pub returns-else-r-eq0 : goal.returns-else-r-eq0
+returns-else-r-eq0 c =
+    let r = c in
+    let s = r in
+    call_refused s.requires.0 s.args.output.now r.all_out_lem.ensures r.of_result-r.ensures c.if-r-eq0.false

@@ -1,0 +1,26 @@
+-- `send_receive::send` meets its contract: an end that may send has sent less than its total and has a free place, so the count and the
+-- place are in range. Assumes nothing.
+use native.Mathlib.Omega.{arith}
+use borrow.Author.Rules.{rules}
+use Rattle.send_receive.specs.Moves.{send_facts}
+use Rattle.send_receive.proofs.send.Goals as goal
+
+pub bounds-waiting-offset : goal.bounds-waiting-offset
+bounds-waiting-offset c =
+    let s = c in
+    omega (arith, send_facts s.args.state.now s.args.e s.requires.2)
+
+pub bounds-state-room : goal.bounds-state-room
+bounds-state-room c =
+    let s = c in
+    omega (arith, send_facts s.args.state.now s.args.e s.requires.2)
+
+pub overflow_cast-state : goal.overflow_cast-state
+overflow_cast-state c =
+    let s = c in
+    omega (arith, send_facts s.args.state.now s.args.e s.requires.2)
+
+pub returns : goal.returns
+returns c =
+    let x = c in
+    rw (x.word-x.ensures.0, x.fill-n.ensures)

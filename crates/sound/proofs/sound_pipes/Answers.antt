@@ -1,0 +1,46 @@
+-- `sound::sound_pipes` meets its contract: the pipes from q on say what all say. Assumes nothing.
+use mathlib.Core.Path.{◌≡◌, sym, ◌∙◌, ap}
+use Prim.Native.Nat.{◌≤◌, ◌<◌, ◌-◌}
+use native.Mathlib.Omega.{arith}
+use borrow.Author.Rules.{rules}
+use Rattle.meaning.specs.Lists.{every, numbers}
+use Rattle.lists.specs.Loops.{every_left, every_start, every_turn, every_stop, every_end}
+use Rattle.sound_rows.specs.Sound.{end_sound}
+use Rattle.sound.specs.States.{pipe_sound}
+use Rattle.sound.proofs.sound_pipes.Goals as goal
+
+pub loop-q-init : goal.loop-q-init
+loop-q-init c = (omega arith, every_start _ _)
+
+pub sound_end-requires : goal.sound_end-requires
+sound_end-requires c =
+    let q = c in
+    let a = q in
+    rw c.end.ensures (a.requires.ends q.loop-q.q (omega (arith, c.loop-q-test.true)))
+
+pub loop-q-preserved : goal.loop-q-preserved
+loop-q-preserved c =
+    let q = c in
+    let a = q in
+    let f = pipe_sound a.args.ports.now a.args.state.now in
+    let l : q.loop-q.q < a.args.z.pipes = omega (arith, c.loop-q-test.true) in
+    let e = ap (end_sound a.args.state.now) c.end.ensures in (
+      omega arith,
+      q.loop-q.invariant.1 ∙ every_turn f a.args.z.pipes q.loop-q.q l (sym (c.sound_end.ensures ∙ e) ∙ c.if-sound_end.true),
+    )
+
+pub returns-else-sound_end : goal.returns-else-sound_end
+returns-else-sound_end c =
+    let q = c in
+    let a = q in
+    let f = pipe_sound a.args.ports.now a.args.state.now in
+    let l : q.loop-q.q < a.args.z.pipes = omega (arith, c.loop-q-test.true) in
+    let e = ap (end_sound a.args.state.now) c.end.ensures in
+    sym (q.loop-q.invariant.1 ∙ every_stop f a.args.z.pipes q.loop-q.q l (sym (c.sound_end.ensures ∙ e) ∙ c.if-sound_end.false))
+
+pub returns-else-sound_end : goal.returns
+returns-else-sound_end c =
+    let q = c in
+    let a = q in
+    let l : a.args.z.pipes ≤ q.loop-q.q = omega (arith, c.loop-q-test.false) in
+    sym (q.loop-q.invariant.1 ∙ every_end (pipe_sound a.args.ports.now a.args.state.now) a.args.z.pipes q.loop-q.q l)

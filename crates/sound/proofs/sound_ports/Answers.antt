@@ -1,0 +1,52 @@
+-- `sound::sound_ports` meets its contract: the ports from i on say what all say. Assumes nothing.
+use mathlib.Core.Path.{◌≡◌, sym, ◌∙◌, ap}
+use mathlib.Core.Bool.{Bool}
+use mathlib.Core.List.{List}
+use Prim.Native.Nat.{ℕ, ◌≤◌, ◌-◌}
+use native.Mathlib.Omega.{arith}
+use borrow.Author.Rules.{rules}
+use Rattle.sound_rows.specs.Sound.{port_sound}
+use Rattle.port_table.specs.PortsOf.{port_at}
+use Rattle.lists.specs.Loops.{every_left, every_start, every_turn, every_stop, every_end}
+use Rattle.sound.specs.States.{ports_sound}
+use Rattle.sound.proofs.sound_ports.Goals as goal
+
+-- whether port i is sound
+abbrev one : List ℕ → List ℕ → ℕ → ℕ → Bool
+one b st p i = port_sound st (port_at b p i)
+
+pub loop-i-init : goal.loop-i-init
+loop-i-init c = (omega arith, every_start _ _)
+
+pub sound_port-requires : goal.sound_port-requires
+sound_port-requires c =
+    let q = c in
+    let a = q in
+    rw c.port.ensures (a.requires.0.ports a.args.p q.loop-i.i a.requires.1 c.loop-i-test.true)
+
+pub loop-i-preserved : goal.loop-i-preserved
+loop-i-preserved c =
+    let q = c in
+    let a = q in
+    let f = one a.args.ports.now a.args.state.now a.args.p in
+    let l = c.loop-i-test.true in
+    let e = ap (port_sound a.args.state.now) c.port.ensures in (
+      omega arith,
+      q.loop-i.invariant.1 ∙ every_turn f a.args.z.streams q.loop-i.i l (sym (c.sound_port.ensures ∙ e) ∙ c.if-sound_port.true),
+    )
+
+pub returns-else-sound_port : goal.returns-else-sound_port
+returns-else-sound_port c =
+    let q = c in
+    let a = q in
+    let f = one a.args.ports.now a.args.state.now a.args.p in
+    let l = c.loop-i-test.true in
+    let e = ap (port_sound a.args.state.now) c.port.ensures in
+    sym (q.loop-i.invariant.1 ∙ every_stop f a.args.z.streams q.loop-i.i l (sym (c.sound_port.ensures ∙ e) ∙ c.if-sound_port.false))
+
+pub returns-else-sound_port : goal.returns
+returns-else-sound_port c =
+    let q = c in
+    let a = q in
+    let f = one a.args.ports.now a.args.state.now a.args.p in
+    sym (q.loop-i.invariant.1 ∙ every_end f a.args.z.streams q.loop-i.i c.loop-i-test.false)

@@ -1,0 +1,18 @@
+-- `sound::sound_ports` meets its contract: the ports from i on say what all say. Assumes nothing.
+use mathlib.Core.Path.{◌≡◌, sym, ◌∙◌, ap}
+use mathlib.Core.Bool.{Bool}
+use mathlib.Core.List.{List}
+use Prim.Native.Nat.{ℕ, ◌≤◌, ◌-◌}
+use native.Mathlib.Omega.{arith}
+use borrow.Author.Rules.{rules}
+use Rattle.sound_rows.specs.Sound.{port_sound}
+use Rattle.port_table.specs.PortsOf.{port_at}
+use Rattle.lists.specs.Loops.{every_left, every_start, every_turn, every_stop, every_end}
+use Rattle.sound.specs.States.{ports_sound}
+use Rattle.sound.proofs.sound_ports.Given as goal
+
+abbrev pub invariant-loop-i : goal.invariant-loop-i
+invariant-loop-i l = let ports = l.ports in let state = l.state in let z = l.z in let i = l.i in (i ≤ z.streams) × (ports_sound ports state z.streams l.p ≡ every_left (one ports state l.p) z.streams i)
+
+abbrev pub decreases-loop-i : goal.decreases-loop-i
+decreases-loop-i l = l.z.streams - l.i

@@ -1,0 +1,21 @@
+-- `survey::backward` meets its contract. Assumes nothing.
+use mathlib.Core.Path.{sym, ◌∙◌, ap}
+use lib.IntN.{ℤ, pos}
+use lib.Signed.{lt_z}
+use borrow.Author.Tests.{eq-eqb, ne_eqb}
+use Rattle.integers.specs.Words.{at}
+use Rattle.vectors.specs.Within.{zero_bits}
+use Rattle.survey.specs.Small.{back_level, back_steep}
+use Rattle.survey.proofs.backward.Goals as goal
+
+pub returns-then-v-eq0 : goal.returns-then-v-eq0
+returns-then-v-eq0 c =
+    let s = c in
+    ap (λ (z : ℤ). lt_z z (pos 0)) (at tt s.requires.second).eq
+    ∙ back_level s.args.v (sym (zero_bits tt s.requires.first) ∙ eq-eqb _ _ c.if-v-eq0.true)
+
+pub returns-else-v-eq0 : goal.returns-else-v-eq0
+returns-else-v-eq0 c =
+    let s = c in
+    ap (λ (z : ℤ). lt_z z (pos 0)) (at tt s.requires.first).eq
+    ∙ back_steep s.args.v (sym (zero_bits tt s.requires.first) ∙ ne_eqb _ _ c.if-v-eq0.false)

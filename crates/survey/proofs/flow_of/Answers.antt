@@ -1,0 +1,80 @@
+-- `survey::flow_of` meets its contract: a stream is stationary exactly if place sends its line to zero, by which document 01 chooses move
+-- and hop; the step of a line is not negative, so its magnitude is the step itself. Assumes nothing.
+use mathlib.Core.Path.{refl, sym, ◌∙◌, ap, ap₂, subst}
+use mathlib.Core.Bool.{Bool, not, cond}
+use lib.IntN.{nat_abs}
+use Rattle.integers.specs.Words.{held}
+use Rattle.integers.specs.Vectors.{zero2, neg2, image}
+use Rattle.integers.specs.declared.V2.{V2}
+use Rattle.integers.specs.declared.V3.{V3}
+use Rattle.meaning.specs.Loops.{step_of}
+use Rattle.meaning.specs.Space.{Box, eq2}
+use Rattle.meaning.specs.Streams.{line, stationary}
+use Rattle.meaning.specs.Pipes.{backward}
+use Rattle.vectors.specs.Within.{rows_wider}
+use Rattle.numbering.specs.Extents.{Spanning, box_spanning}
+use Rattle.counting.specs.Forms.{weigh}
+use Rattle.survey.specs.Small.{step_up}
+use borrow.Author.Rules.{rules}
+use Rattle.survey.proofs.flow_of.Goals as goal
+
+pub image_of-across-requires : goal.image_of-across-requires
+image_of-across-requires c =
+    let l = c in
+    (rows_wider tt l.requires.0.nest.place, l.line_of_lem.ensures.1)
+
+pub image_of-pass-requires : goal.image_of-pass-requires
+image_of-pass-requires c =
+    let p = c.requires in
+    (rows_wider tt p.0.map, p.1.increment_small)
+
+pub stride_of-requires : goal.stride_of-requires
+stride_of-requires c =
+    let w = c in
+    let p = w.requires in (
+      subst Spanning (sym p.1.space_is) (box_spanning p.0.nest p.0.nest.place),
+      w.Way-of.ensures.1,
+    )
+
+pub returns : goal.returns
+returns c =
+    let t = c in
+    let g = t in
+    let b = g in
+    let e = b in
+    let h = e in
+    let i = h in
+    let w = i in
+    let z = w in
+    let a = z in
+    let l = a in
+    let s = l in
+    let n = s.args.n in
+    let r = s.args.s in
+    let on = l.line_of_lem.ensures.0 in
+    let across = a.image_of-across.ensures.0 ∙ ap (image n.place) on in
+    let still = z.zero2-stationary.ensures ∙ ap (λ (v : V2). eq2 v zero2) across in
+    let way = w.Way-of.ensures.0 ∙ ap₂ (λ (b : Bool) (v : V2). cond b r.loading v) still across in
+    let pass = i.image_of-pass.ensures.0 ∙ ap (image r.map) s.requires.1.increment_is in
+    let weighs = ap₂ (λ (k : Box) (v : V2). weigh k v.a v.b) s.requires.1.space_is way in
+    record {
+      nest_is = refl;
+      stream_is = refl;
+      line_is = on;
+      line_small = l.line_of_lem.ensures.1;
+      divisor_is = l.line_of_lem.ensures.2;
+      hop_is = h.hop_of.ensures ∙ ap₂ (λ (b : Bool) (v : V3). cond b 1 (nat_abs (step_of n v))) still on
+          ∙ ap (cond (stationary n r) 1) (step_up n r.map);
+      space_is = s.requires.1.space_is;
+      elements_is = e.extent_of.ensures.0;
+      way_is = way;
+      way_small = w.Way-of.ensures.1;
+      back_is = b.opposite.ensures.0 ∙ ap neg2 way;
+      pass_is = pass;
+      pass_small = i.image_of-pass.ensures.1;
+      against_is = g.opposite-2.ensures.0 ∙ ap neg2 pass;
+      against_small = g.opposite-2.ensures.1;
+      step_is = held t.stride_of.type_inv (t.stride_of.ensures ∙ weighs);
+      moving_is = ap not still;
+      turned_is = c.backward.ensures ∙ ap backward way;
+    }

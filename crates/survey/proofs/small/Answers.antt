@@ -1,0 +1,14 @@
+-- `survey::small` meets its contract. Assumes nothing.
+use mathlib.Core.Path.{◌∙◌, ap}
+use Prim.Native.Nat.{ℕ}
+use lib.Dec.{leb}
+use lib.IntN.{nat_abs}
+use Rattle.integers.specs.Words.{tower}
+use Rattle.geometry.specs.Numbers.{small_is}
+use borrow.Author.Rules.{rules}
+use Rattle.survey.proofs.small.Goals as goal
+
+pub returns : goal.returns
+returns c =
+    let a = c in
+    ap (λ (n : ℕ). leb n 1) (c.magnitude.ensures ∙ ap nat_abs (tower a.args.c a.ranges.c.sfits)) ∙ small_is a.args.c

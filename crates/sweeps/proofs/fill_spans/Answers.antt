@@ -1,0 +1,62 @@
+-- `sweeps::fill_spans` meets its contract: the pass over the instances that are left gives the whole pass. Assumes nothing.
+use mathlib.Core.Path.{◌≡◌, refl, sym, ◌∙◌, ap, subst}
+use Prim.Native.Nat.{◌≤◌, ◌-◌}
+use native.Mathlib.Omega.{arith}
+use lib.ListN.{length, take, drop}
+use borrow.Author.Rules.{rules}
+use Rattle.sweeps.specs.Sweep.{sweep, sweep_step, sweep_done, taken_length}
+use Rattle.sweeps.specs.Turns.{turn, turn_length, Most, most_zero, most_turn, swept}
+use Rattle.sweeps.proofs.fill_spans.Goals as goal
+
+pub clear-requires : goal.clear-requires
+clear-requires c = omega (arith, c.requires.words)
+
+pub loop-k-init : goal.loop-k-init
+loop-k-init c =
+    let s = c in
+    let w = s.requires in (
+      omega arith,
+      refl,
+      subst (Most 0 s.args.points) (sym c.clear.ensures) (most_zero _ _ w.few w.words),
+      refl,
+    )
+
+pub point_of-p-requires : goal.point_of-p-requires
+point_of-p-requires c = (c.requires.table, omega arith)
+
+pub meet-requires : goal.meet-requires
+meet-requires c =
+    let l = c.loop-k in
+    let w = c in
+    let s = w in
+    let p = c.point_of-p in
+    record {
+      point = omega (arith, p.ensures.1, s.requires.few);
+      words = l.invariant.1 ∙ w.clear.auto.out ∙ s.requires.words;
+      number = omega arith;
+      before = l.invariant.2.at p.result p.ensures.1;
+    }
+
+pub loop-k-preserved : goal.loop-k-preserved
+loop-k-preserved c =
+    let e = c.meet.ensures in
+    let p = c.point_of-p in
+    let l = c.loop-k in
+    let w = c in
+    let s = w in
+    let h = taken_length s.requires.table in (
+      omega arith,
+      ap length e ∙ turn_length s.args.back l.k p.result l.spans ∙ l.invariant.1,
+      rw e (most_turn s.args.back p.result s.requires.few p.ensures.1 (l.invariant.1 ∙ w.clear.auto.out ∙ s.requires.words) l.invariant.2),
+      rw (e, p.ensures.0) (sweep_step (turn s.args.back) _ _ _ (omega arith)) ∙ l.invariant.3,
+    )
+
+pub returns : goal.returns
+returns c =
+    let w = c in
+    let s = w in
+    let a = s.args in
+    let h = taken_length s.requires.table in
+    swept a.back s.requires
+    (sym (sweep_done (turn a.back) _ _ _ (omega arith)) ∙ c.loop-k.invariant.3
+    ∙ ap (sweep (turn a.back) 0 (take a.instances a.numbers.now)) w.clear.ensures)

@@ -1,0 +1,40 @@
+-- `table::draw` meets its contract: the words of the processes lie before those of all streams, so copying them there leaves the streams'
+-- as they were filled. Assumes nothing.
+use mathlib.Core.Path.{◌≡◌, sym, subst}
+use mathlib.Core.List.{List}
+use Prim.Native.Nat.{ℕ, ◌≤◌, ◌<◌}
+use native.Mathlib.Omega.{arith}
+use lib.ListN.{length, get_or}
+use Rattle.meaning.specs.Description.{streams_of}
+use Rattle.table.specs.Blocks.{Streamed, zeros_length, front_copied, streamed_copied}
+use borrow.Author.Rules.{rules}
+use Rattle.table.proofs.draw.Goals as goal
+
+pub copy_spans-requires : goal.copy_spans-requires
+copy_spans-requires c =
+    let f = c in
+    let s = f in (s.requires.3, omega (arith, f.fill_streams.auto.words, zeros_length s.requires.4))
+
+pub returns : goal.returns
+returns c =
+    let k = c in
+    let f = k in
+    let s = f in
+    let d = s.args.v.description in
+    let g = s.requires.0 in
+    let es = s.args.spans.now in
+    let w = f.fill_streams.new.words in
+    let l : 3072 ≤ length w = omega (arith, f.fill_streams.auto.words, zeros_length s.requires.4) in (
+      c.shape_of.ensures.refusal,
+      record {
+        shaped = c.shape_of.ensures;
+        bounded = g.bounded;
+        few = g.processes;
+        most = omega (arith, s.requires.1.in_use, g.most);
+        front = es;
+        spans = s.requires.2;
+        copied = subst (λ (v : List ℕ). (j : ℕ) → j < 3072 → get_or v j 0 ≡ get_or es j 0) (sym k.copy_spans.ensures) (front_copied es w l);
+        streams = subst (Streamed d.nest (streams_of d) _) (sym k.copy_spans.ensures)
+            (streamed_copied es w l f.fill_streams.ensures);
+      },
+    )

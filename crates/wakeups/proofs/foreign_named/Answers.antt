@@ -1,0 +1,77 @@
+-- `wakeups::foreign_named` meets its contract: the word of each kind by its row. Assumes nothing.
+use mathlib.Core.Path.{refl}
+use mathlib.Core.Logic.{inl, inr}
+use Prim.Native.Nat.{◌<◌}
+use native.Mathlib.Omega.{arith}
+use borrow.Author.Tests.{lt-ltb, le-ltb}
+use Rattle.step_rules.specs.Steps.{by_last}
+use Rattle.wakeups.proofs.foreign_named.Goals as goal
+
+pub end-e-requires : goal.end-e-requires
+end-e-requires c =
+    let p = c.requires in (p.0.words, omega (arith, p.0.pipes, p.1.pipe (inl c.in-0.keys1)))
+
+pub port-k-requires : goal.port-k-requires
+port-k-requires c =
+    let p = c.requires in
+    let k = c.in-1.keys2 in (
+      p.0.words,
+      omega (arith, p.0.processes, p.1.process (omega arith) (omega arith)),
+      omega (arith, p.0.streams, p.1.port (inl k)),
+    )
+
+pub port-k-requires-in-3 : goal.port-k-requires-in-3
+port-k-requires-in-3 c =
+    let p = c.requires in
+    let k = c.in-3.keys4 in (
+      p.0.words,
+      omega (arith, p.0.processes, p.1.process (omega arith) (omega arith)),
+      omega (arith, p.0.streams, p.1.port (inr k)),
+    )
+
+pub end-e-requires-in_default : goal.end-e-requires-in_default
+end-e-requires-in_default c =
+    let p = c.requires in (p.0.words, omega (arith, p.0.pipes, p.1.pipe (inr (omega arith))))
+
+pub returns-in-0 : goal.returns-in-0
+returns-in-0 c =
+    let p = c.requires in
+    let k = c.in-0.keys1 in
+    rw (k, c.end-e.ensures) (refl, omega (arith, (p.0.ends _ (p.1.pipe (inl k))).after))
+
+pub returns-then-k-gt0 : goal.returns-then-k-gt0
+returns-then-k-gt0 c =
+    let p = c.requires in
+    let k = c.in-1.keys2 in
+    let e = c.port-k.ensures in
+    let s = p.0.ports _ _ (p.1.process (omega arith) (omega arith)) (p.1.port (inl k)) in
+    rw (k, e, lt-ltb 0 _ (rw e at c.if-k-gt0.true)) (refl, omega (arith, s.before))
+
+pub returns-else-k-gt0 : goal.returns-else-k-gt0
+returns-else-k-gt0 c =
+    let k = c.in-1.keys2 in
+    let e = c.port-k.ensures in
+    rw (k, le-ltb 0 _ (rw e at c.if-k-gt0.false)) (refl, omega arith)
+
+pub returns-in-2 : goal.returns-in-2
+returns-in-2 c = rw c.in-2.keys3 (refl, omega arith)
+
+pub returns-then-k-gt0-2 : goal.returns-then-k-gt0-2
+returns-then-k-gt0-2 c =
+    let p = c.requires in
+    let k = c.in-3.keys4 in
+    let e = c.port-k-in-3.ensures in
+    let s = p.0.ports _ _ (p.1.process (omega arith) (omega arith)) (p.1.port (inr k)) in
+    rw (k, e, lt-ltb 0 _ (rw e at c.if-k-gt0-2.true)) (refl, omega (arith, s.after))
+
+pub returns-else-k-gt0-2 : goal.returns-else-k-gt0-2
+returns-else-k-gt0-2 c =
+    let k = c.in-3.keys4 in
+    let e = c.port-k-in-3.ensures in
+    rw (k, le-ltb 0 _ (rw e at c.if-k-gt0-2.false)) (refl, omega arith)
+
+pub returns-in_default : goal.returns-in_default
+returns-in_default c =
+    let s = c in
+    let k : 3 < s.args.kind = omega arith in
+    rw (by_last s.args.kind k, c.end-e-in_default.ensures) (refl, omega (arith, (s.requires.0.ends _ (s.requires.1.pipe (inr k))).before))

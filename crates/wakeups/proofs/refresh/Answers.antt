@@ -1,0 +1,40 @@
+-- `wakeups::refresh` meets its contract: own steps are tested, and the one that looks at the counted word. Assumes nothing.
+use native.Mathlib.Omega.{arith}
+use borrow.Author.Rules.{rules}
+use Rattle.step_order.specs.Ranks.{steps_most}
+use Rattle.wakeups.specs.Refreshed.{refreshed_some, refreshed_none}
+use Rattle.wakeups.proofs.refresh.Goals as goal
+
+pub overflow_cast-w : goal.overflow_cast-w
+overflow_cast-w c =
+    let p = c.requires in
+    omega (arith, p.3.ranks c.counter_of-at.result, steps_most p.2, p.2.pipes)
+
+pub retest-requires : goal.retest-requires
+retest-requires c =
+    let k = c in
+    let p = k.requires in
+    let o = k in
+    (p.0, p.2, omega (arith, p.3.ranks k.counter_of-at.result, c.if-w-ne0.true), o.retest_own.ensures.words)
+
+pub returns-then-w-ne0 : goal.returns-then-w-ne0
+returns-then-w-ne0 c =
+    let k = c in
+    let o = k in
+    let a = o.args in
+    let f = c.retest.ensures in (
+      f.words,
+      refreshed_some a.ports.now a.state.now a.wakeups.now a.z a.r k.counter_of-at.result k.counter_of-at.ensures.0
+          o.retest_own.ensures f,
+    )
+
+pub returns-else-w-ne0 : goal.returns-else-w-ne0
+returns-else-w-ne0 c =
+    let k = c in
+    let o = k in
+    let a = o.args in
+    let f = o.retest_own.ensures in (
+      f.words,
+      refreshed_none a.ports.now a.state.now a.wakeups.now a.z a.r k.counter_of-at.result k.counter_of-at.ensures.0
+          (omega (arith, c.if-w-ne0.false)) f,
+    )

@@ -1,0 +1,11 @@
+-- `walkable::board_refusal` meets its contract. Assumes nothing.
+use native.Mathlib.Omega.{arith}
+use borrow.Author.Tests.{lt-ltb, le-ltb}
+use Rattle.decode.specs.Refusals.{refuses, passes, accepts}
+use Rattle.walkable.proofs.board_refusal.Goals as goal
+
+pub returns-then-limits-gt1 : goal.returns-then-limits-gt1
+returns-then-limits-gt1 c = refuses 33 _ (lt-ltb 1 c.args.limits.board (omega arith))
+
+pub returns-else-limits-gt1 : goal.returns-else-limits-gt1
+returns-else-limits-gt1 c = passes 33 _ (le-ltb 1 c.args.limits.board (omega arith)) accepts

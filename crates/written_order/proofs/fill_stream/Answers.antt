@@ -1,0 +1,22 @@
+-- `written_order::fill_stream` meets its contract: the elements of stream i begin where those before it end, and all their numbers are
+-- below 24,576. Assumes nothing.
+use native.Mathlib.Omega.{arith}
+use borrow.Author.Rules.{rules}
+use Rattle.written_order.specs.Places.{filling, column_is}
+use Rattle.written_order.proofs.fill_stream.Goals as goal
+
+pub flow_at-f-requires : goal.flow_at-f-requires
+flow_at-f-requires c = omega (arith, c.requires.2, c.requires.0.few.ranged.sized.most_streams)
+
+pub fill_column-requires : goal.fill_column-requires
+fill_column-requires c =
+    let f = c in
+    let s = f in
+    filling s.requires.0 s.requires.1 s.args.i s.requires.2 f.flow_at-f.ensures c.elements_in-start.ensures
+
+pub returns : goal.returns
+returns c =
+    let f = c in
+    let s = f in
+    column_is s.requires.0 s.requires.1 s.args.i s.requires.2 f.flow_at-f.ensures c.elements_in-start.ensures
+    s.args.table.now c.fill_column.ensures
