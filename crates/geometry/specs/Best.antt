@@ -85,7 +85,7 @@ module _ {A : Type 0} where
     unfolding best
     best_first x {l = []} s = refl
     best_first x {l = y ∷ l} (more h (more k s)) =
-        ap (λ (b : Bool). best better (cond b y x) l) (h y (here refl)) ∙ best_first x (more (λ z i. h z (there i)) s)
+        ap (λ (b : Bool). best better (cond b y x) l) (h y (here refl)) ∙ best_first x {l = l} (more (λ z i. h z (there i)) s)
 
     -- where each member is better than all before it the last is the best, where none is, the first
     pub best_or_end : (last : Bool) (d : A) {l : List A} → Sorted (λ u v. better v u ≡ last) l → best_or d better l ≡ end_or last d l

@@ -69,6 +69,7 @@ by_step_in n (x ∷ l) {z} i = go (insert_in n x (by_step n l) i) (by_step_in n 
 
 in_by_step : (n : Nest) (l : List V3) {z : V3} → In z l → In z (by_step n l)
 unfolding by_step
+in_by_step n [] {z = z} i = elim i [ ]
 in_by_step n (x ∷ l) (here e) = in_insert n x (by_step n l) (here e)
 in_by_step n (x ∷ l) (there k) = in_insert n x (by_step n l) (there (in_by_step n l k))
 

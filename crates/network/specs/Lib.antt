@@ -21,6 +21,8 @@ pub mod States
 pub mod Kept
 pub mod Finish
 pub mod Same
+pub mod Occasions
+pub mod Sweeps
 pub mod Calls
 pub mod Declined
 pub mod Plain

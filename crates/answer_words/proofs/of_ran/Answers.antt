@@ -4,7 +4,7 @@ use borrow.Author.Rules.{rules}
 use Rattle.answer_words.proofs.of_ran.Goals as goal
 
 pub returns-in-Ran : goal.returns-in-Ran
-returns-in-Ran c = rw (c.answer-1.given.1, c.flag.ensures) refl
+returns-in-Ran c = rw (c.in-Ran.is, c.flag.ensures) refl
 
 pub returns-in-Refused : goal.returns-in-Refused
-returns-in-Refused c = rw c.answer-in-Refused-1.given.1 refl
+returns-in-Refused c = rw c.in-Refused.is refl

@@ -4,7 +4,7 @@ use borrow.Author.Rules.{rules}
 use Rattle.answer_words.proofs.of_readiness.Goals as goal
 
 pub returns-in-Ready : goal.returns-in-Ready
-returns-in-Ready c = rw c.answer-1.given.1 refl
+returns-in-Ready c = rw c.in-Ready.is refl
 
 pub returns-in-Refused : goal.returns-in-Refused
-returns-in-Refused c = rw c.answer-in-Refused-1.given.1 refl
+returns-in-Refused c = rw c.in-Refused.is refl

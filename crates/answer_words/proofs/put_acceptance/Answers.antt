@@ -5,4 +5,4 @@ use borrow.Author.Rules.{rules}
 use Rattle.answer_words.proofs.put_acceptance.Goals as goal
 
 pub returns-in-Accepted : goal.returns-in-Accepted
-returns-in-Accepted c = accepted_left _ c.answer-1.given.1 c.put_figures.ensures
+returns-in-Accepted c = accepted_left _ c.in-Accepted.is c.put_figures.ensures

@@ -5,4 +5,4 @@ use borrow.Author.Rules.{rules}
 use Rattle.answer_words.proofs.put_made.Goals as goal
 
 pub returns-in-Made : goal.returns-in-Made
-returns-in-Made c = made_left _ c.answer-1.given.1
+returns-in-Made c = made_left _ c.in-Made.is

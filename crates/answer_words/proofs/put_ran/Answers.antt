@@ -5,4 +5,4 @@ use borrow.Author.Rules.{rules}
 use Rattle.answer_words.proofs.put_ran.Goals as goal
 
 pub returns-in-Ran : goal.returns-in-Ran
-returns-in-Ran c = ran_left _ c.answer-1.given.1 c.flag.ensures
+returns-in-Ran c = ran_left _ c.in-Ran.is c.flag.ensures

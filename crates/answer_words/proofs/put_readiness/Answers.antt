@@ -5,4 +5,4 @@ use borrow.Author.Rules.{rules}
 use Rattle.answer_words.proofs.put_readiness.Goals as goal
 
 pub returns-in-Ready : goal.returns-in-Ready
-returns-in-Ready c = ready_left _ c.answer-1.given.1
+returns-in-Ready c = ready_left _ c.in-Ready.is

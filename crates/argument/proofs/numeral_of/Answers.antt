@@ -7,5 +7,5 @@ use Rattle.argument.proofs.numeral_of.Goals as goal
 pub returns-then-digits-eq0 : goal.returns-then-digits-eq0
 returns-then-digits-eq0 c = rw (eq-eqb _ 0 c.if-digits-eq0.true) refl
 
-pub returns-then-digits-eq0 : goal.returns
-returns-then-digits-eq0 c = rw (ne_eqb _ 0 c.if-digits-eq0.false) c.value_of_lem.ensures
+pub returns : goal.returns
+returns c = rw (ne_eqb _ 0 c.if-digits-eq0.false) c.value_of.ensures

@@ -13,8 +13,8 @@ pub returns-then-c-gt57 : goal.returns-then-c-gt57
 returns-then-c-gt57 c =
     let k = c.args.c in rw (le-ltb k 48 c.if-c-lt48.false, lt-ltb 57 k c.if-c-gt57.true) refl
 
-pub returns-then-c-lt48 : goal.returns
-returns-then-c-lt48 c =
+pub returns : goal.returns
+returns c =
     let w = c in
     let k = w.args.c in
     rw (le-ltb k 48 w.if-c-lt48.false, le-ltb 57 k w.if-c-gt57.false)

@@ -45,9 +45,9 @@ loop-k-preserved c =
           ∙ ap (lowest_from a.none l.k) (sym (left words l.k (omega arith) (omega arith))) ∙ l.invariant.1,
     )
 
-pub returns-then-w-ne0 : goal.returns
+pub returns : goal.returns
 unfolding lowest_from
-returns-then-w-ne0 c =
+returns c =
     let a = c.args in
     let words = a.words.now in
     let e : 16 ≡ c.loop-k.k = omega arith in

@@ -12,8 +12,8 @@ pub returns-then-values-e : goal.returns-then-values-e
 returns-then-values-e c = let a = c.args in
     refuses 20 _ (ap (λ (b : Bool). not b || not (eqb a.waiting a.f.elements)) (ne_eqb _ _ c.if-values-e.true))
 
-pub returns-then-values-e : goal.returns
-returns-then-values-e c =
+pub returns : goal.returns
+returns c =
     let a = c.args in
     c.of_memory.ensures
     ∙ start_memory a.f.elements a.f.words a.values a.waiting a.received a.state c.if-values-e.false

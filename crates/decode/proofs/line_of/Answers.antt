@@ -8,7 +8,7 @@ pub returns : goal.returns
 unfolding body_line
 returns c =
     let b = c in
-    let at = b.line_at_lem.ensures.0 in
+    let at = b.line_at-k.ensures.0 in
     rw (
       b.bits_at.ensures,
       b.bits_at-2.ensures,

@@ -14,7 +14,7 @@ loop-i-init c = (omega arith, refl, rw c.no_stream-out.ensures (sym (fill_zero _
 
 pub loop-i-preserved : goal.loop-i-preserved
 loop-i-preserved c =
-    let v = c.loop-i.invariant in (omega arith, simp length-set v.1, rw (fill_step, c.stream_of_lem.ensures, v.2))
+    let v = c.loop-i.invariant in (omega arith, simp length-set v.1, rw (fill_step, c.stream_of.ensures, v.2))
 
 pub returns : goal.returns
 returns c = fill_done _ _ _ _ c.loop-i.invariant.2 (omega arith) ∙ fill_is _ _ _ _ (omega arith)

@@ -60,7 +60,7 @@ loop-j-preserved c =
     (ne_eqb _ _ c.if-line-i.false)
     ∙ b.loop-j.invariant
 
-pub returns-then-line-i : goal.returns
-returns-then-line-i c =
+pub returns : goal.returns
+returns c =
     let b = c in
     let a = b in ends a.args.d a.args.i a.requires (eight b) b.loop-j.j (omega arith) ∙ b.loop-j.invariant

@@ -16,7 +16,7 @@ use borrow.Author.Rules.{rules}
 use Rattle.decode.proofs.written.Given as goal
 
 abbrev pub invariant-loop-j : goal.invariant-loop-j
-invariant-loop-j l = any (λ l. eqb l.target l.i) (drop l.j (lines_of l.d)) ≡ written l.d l.i
+invariant-loop-j w = any (λ l. eqb l.target w.i) (drop w.j (lines_of w.d)) ≡ written w.d w.i
 
 abbrev pub decreases-loop-j : goal.decreases-loop-j
 decreases-loop-j l = l.n - l.j

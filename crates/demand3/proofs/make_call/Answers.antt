@@ -10,25 +10,25 @@ use Rattle.demand3.proofs.make_call.Goals as goal
 pub returns-in-0 : goal.returns-in-0
 returns-in-0 c =
     let r = c in
-    rw r.in-0.keys1
+    rw r.in-0.is
     (same_made r.step.ensures.1 refl refl refl (c.of_answer.ensures ∙ ap of_answer r.step.ensures.0))
 
 pub returns-in-1 : goal.returns-in-1
 returns-in-1 c =
     let r = c in
-    rw r.in-1.keys2
+    rw r.in-1.is
     (same_made r.run.ensures.1 refl refl refl (c.of_ran.ensures ∙ ap of_ran r.run.ensures.0))
 
 pub returns-in-2 : goal.returns-in-2
 returns-in-2 c =
     let r = c in
-    rw r.in-2.keys3
+    rw r.in-2.is
     (same_made refl r.ready.ensures.1 refl refl (c.of_readiness.ensures ∙ ap of_readiness r.ready.ensures.0))
 
 pub returns-in-3 : goal.returns-in-3
 returns-in-3 c =
     let r = c in
-    rw r.in-3.keys4 (same_made refl refl refl r.see.ensures.0 r.see.ensures.1)
+    rw r.in-3.is (same_made refl refl refl r.see.ensures.0 r.see.ensures.1)
 
 pub returns-in_default : goal.returns-in_default
 returns-in_default c =

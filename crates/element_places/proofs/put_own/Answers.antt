@@ -47,8 +47,8 @@ bounds-places-e c =
       s.requires.words,
     )
 
-pub returns-then-spans-q-eq0 : goal.returns
-returns-then-spans-q-eq0 c =
+pub returns : goal.returns
+returns c =
     let s = c in
     let a = s.args in
     let g = c.if-spans-q-eq0.false in

@@ -13,28 +13,28 @@ pub put_moving-requires : goal.put_moving-requires
 put_moving-requires c =
     let i = c in
     let s = i in
-    (s.requires, subst T (sym c.if-f.true) tt, sym i.is_entry_lem.ensures ∙ i.if-is_entry.true)
+    (s.requires, subst T (sym c.if-f.true) tt, sym i.is_entry.ensures ∙ i.if-is_entry.true)
 
 pub put_still-requires : goal.put_still-requires
 put_still-requires c =
     let i = c in
-    walking i.requires (sym i.is_entry_lem.ensures ∙ i.if-is_entry.true) c.if-f.false
+    walking i.requires (sym i.is_entry.ensures ∙ i.if-is_entry.true) c.if-f.false
 
 pub returns-then-f : goal.returns-then-f
 returns-then-f c =
     let i = c in
     let a = i.args in
-    said_entering a.f a.first a.start a.p a.places.now (sym i.is_entry_lem.ensures ∙ i.if-is_entry.true)
+    said_entering a.f a.first a.start a.p a.places.now (sym i.is_entry.ensures ∙ i.if-is_entry.true)
     c.put_moving.ensures
 
 pub returns-else-f : goal.returns-else-f
 returns-else-f c =
     let i = c in
     let a = i.args in
-    said_entering a.f a.first a.start a.p a.places.now (sym i.is_entry_lem.ensures ∙ i.if-is_entry.true)
+    said_entering a.f a.first a.start a.p a.places.now (sym i.is_entry.ensures ∙ i.if-is_entry.true)
     c.put_still.ensures
 
 pub returns-else-is_entry : goal.returns-else-is_entry
 returns-else-is_entry c =
     let a = c.args in
-    said_none a.f a.first a.start a.p a.places.now (sym c.is_entry_lem.ensures ∙ c.if-is_entry.false)
+    said_none a.f a.first a.start a.p a.places.now (sym c.is_entry.ensures ∙ c.if-is_entry.false)

@@ -34,7 +34,7 @@ put_own-place-requires c =
     let s = l in
     let low : l.loop-k.place ≤ 30208 =
     omega (arith, next_most l.loop-k.invariant.2, s.requires.low, c.loop-k-test.true, l.reach_of-reach.ensures.1) in
-    owning s.requires.own c.process_on_lem.ensures.0 low l.loop-k.invariant.1
+    owning s.requires.own c.process_on-q.ensures.0 low l.loop-k.invariant.1
 
 pub overflow_add-place : goal.overflow_add-place
 overflow_add-place c =
@@ -48,7 +48,7 @@ overflow_add-place c =
       c.loop-k-test.true,
       l.reach_of-reach.ensures.1,
       c.put_own-place.ensures.0,
-      one_most n (process_of n c.process_on_lem.result),
+      one_most n (process_of n c.process_on-q.result),
     )
 
 pub overflow_add-k : goal.overflow_add-k
@@ -61,7 +61,7 @@ loop-k-preserved c =
     let l = c in
     let s = l in
     let t = c.loop-k-test.true in
-    let q = c.process_on_lem.ensures in
+    let q = c.process_on-q.ensures in
     let own = c.put_own-place in (
       omega (arith, t),
       omega (arith, own.auto, l.loop-k.invariant.1),

@@ -34,7 +34,7 @@ overflow_add-sum c =
     let d = s.args.v.description in
     let t : l.i < d.sizes.streams = omega (arith, c.loop-i-test.true, s.requires.2) in
     let k = flow_is s.requires.1 l.i t c.flow_at-f.ensures in
-    let e = c.size_of_lem.ensures.0 ∙ ap (λ (b : Box). length (points b)) k.elements_is in
+    let e = c.size_of-sum.ensures.0 ∙ ap (λ (b : Box). length (points b)) k.elements_is in
     omega (
       arith,
       l.invariant.1,
@@ -50,9 +50,9 @@ loop-i-preserved c =
     let d = s.args.v.description in
     let t : l.i < d.sizes.streams = omega (arith, c.loop-i-test.true, s.requires.2) in
     let k = flow_is s.requires.1 l.i t c.flow_at-f.ensures in
-    let e = c.size_of_lem.ensures.0 ∙ ap (λ (b : Box). length (points b)) k.elements_is in (
+    let e = c.size_of-sum.ensures.0 ∙ ap (λ (b : Box). length (points b)) k.elements_is in (
       omega (arith, c.loop-i-test.true),
-      ap (λ (n : ℕ). n + c.size_of_lem.result) l.invariant.1 ∙ start_next d s.requires.1.in_use s.requires.0 l.i t refl e,
+      ap (λ (n : ℕ). n + c.size_of-sum.result) l.invariant.1 ∙ start_next d s.requires.1.in_use s.requires.0 l.i t refl e,
     )
 
 pub returns : goal.returns

@@ -19,13 +19,13 @@ pipe_steps-requires c =
     let s = c in
     let n = s.args.f.nest in (
       s.requires.0,
-      entering_entry n s.args.f.stream (process_of n s.args.p) (sym c.is_entry_lem.ensures ∙ c.if-is_entry.true),
+      entering_entry n s.args.f.stream (process_of n s.args.p) (sym c.is_entry.ensures ∙ c.if-is_entry.true),
     )
 
 pub overflow_add-result-then-is_entry : goal.overflow_add-result-then-is_entry
 overflow_add-result-then-is_entry c =
     let s = c in
-    let e = sym c.is_entry_lem.ensures ∙ c.if-is_entry.true in
+    let e = sym c.is_entry.ensures ∙ c.if-is_entry.true in
     omega (
       arith,
       ap (λ (r : Sums). r.steps) s.requires.1,
@@ -36,10 +36,10 @@ overflow_add-result-then-is_entry c =
 pub returns-then-is_entry : goal.returns-then-is_entry
 returns-then-is_entry c =
     let s = c in
-    let e = sym c.is_entry_lem.ensures ∙ c.if-is_entry.true in
+    let e = sym c.is_entry.ensures ∙ c.if-is_entry.true in
     sums_yes _ _ s.args.p s.requires.0.lt e (ap (λ (r : Sums). r.pipes + 1) s.requires.1)
     (omega (arith, ap (λ (r : Sums). r.steps) s.requires.1, c.pipe_steps.ensures))
 
 pub returns-else-is_entry : goal.returns-else-is_entry
 returns-else-is_entry c = let s = c in
-    s.requires.1 ∙ sums_no _ _ s.args.p s.requires.0.lt (sym c.is_entry_lem.ensures ∙ c.if-is_entry.false)
+    s.requires.1 ∙ sums_no _ _ s.args.p s.requires.0.lt (sym c.is_entry.ensures ∙ c.if-is_entry.false)

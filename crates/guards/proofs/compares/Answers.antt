@@ -7,13 +7,13 @@ use borrow.Author.Rules.{rules}
 use Rattle.guards.proofs.compares.Goals as goal
 
 pub returns-in-0 : goal.returns-in-0
-returns-in-0 c = rw c.in-0.keys1 refl
+returns-in-0 c = rw c.in-0.is refl
 
 pub returns-in-1 : goal.returns-in-1
-returns-in-1 c = let a = c in rw c.in-1.keys2 (eq_bits a.args.v a.args.bound a.ranges.v.sfits a.ranges.bound.sfits)
+returns-in-1 c = let a = c in rw c.in-1.is (eq_bits a.args.v a.args.bound a.ranges.v.sfits a.ranges.bound.sfits)
 
 pub returns-in-2 : goal.returns-in-2
-returns-in-2 c = rw c.in-2.keys3 (search rules)
+returns-in-2 c = rw c.in-2.is (search rules)
 
 pub returns-in_default : goal.returns-in_default
 returns-in_default c = let k = c.args.c in rw (ne_eqb k 0 (omega arith), ne_eqb k 1 (omega arith), ne_eqb k 2 (omega arith)) (search rules)

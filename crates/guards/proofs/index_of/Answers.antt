@@ -5,10 +5,10 @@ use Rattle.integers.specs.Words.{tower}
 use Rattle.guards.proofs.index_of.Goals as goal
 
 pub returns-in-0 : goal.returns-in-0
-returns-in-0 c = rw c.in-0.keys1 (tower _ c.struct_told-1.given.0.1)
+returns-in-0 c = rw c.in-0.is (tower _ c.struct_told-1.given.0.1)
 
 pub returns-in-1 : goal.returns-in-1
-returns-in-1 c = rw c.in-1.keys2 (tower _ c.struct_told-in-1-1.given.1.0.1)
+returns-in-1 c = rw c.in-1.is (tower _ c.struct_told-in-1-1.given.1.0.1)
 
 pub returns-in_default : goal.returns-in_default
 returns-in_default c = let k = c.args.i in

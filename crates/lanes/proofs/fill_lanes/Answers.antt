@@ -46,7 +46,7 @@ visit-requires c =
     let f = s.requires.flowing in
     let l = c.loop-p in
     let t = c.loop-p-test.true in
-    let e = c.entry_number_lem in
+    let e = c.entry_number-e in
     record {
       words = l.invariant.1.words;
       process = omega (arith, t, f.counted, f.flows.laid.processes);
@@ -73,7 +73,7 @@ loop-p-preserved c =
     let s = c in
     let f = s.requires.flowing in
     let l = c.loop-p in
-    let e = c.entry_number_lem in
+    let e = c.entry_number-e in
     let t = c.loop-p-test.true in (
       omega (arith, t),
       lanes_step _ _ (omega (arith, f.counted, f.flows.laid.processes)) t l.invariant.1 e.result e.ensures.0

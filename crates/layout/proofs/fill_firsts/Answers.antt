@@ -39,7 +39,7 @@ loop-p-preserved c =
     let l = i.loop-p in
     let s = i in
     let n = s.args.n in
-    let e = c.code_of_lem.ensures ∙ ap code_of i.instance_numbered.ensures.0
+    let e = c.code_of.ensures ∙ ap code_of i.instance_numbered.ensures.0
     ∙ ap (λ (k : ℕ). code_of (numbered n k)) (kept n s.args.firsts.now l.p l.invariant.2) in
     (omega arith, simp length-set l.invariant.1, ap₂ (λ (w : List ℕ) (x : ℕ). set w l.p x) l.invariant.2 e ∙ sym (fill_step _ l.p _))
 

@@ -14,17 +14,17 @@ small x n e k = let h : 0 < n = omega arith in omega (arith, mod-lt x h)
 
 pub overflow_cast-result : goal.overflow_cast-result
 overflow_cast-result c =
-    let h = c.size_of_lem.ensures in record { sfits = omega (arith, small c.args.x c.size_of_lem.result h.0 h.1) }
+    let h = c.size_of-size.ensures in record { sfits = omega (arith, small c.args.x c.size_of-size.result h.0 h.1) }
 
 pub overflow_add-result : goal.overflow_add-result
 overflow_add-result c =
     let s = c in
-    let h = s.size_of_lem.ensures in fits tt (add (at tt s.requires.least) (bits {n = 128} tt (small _ _ h.0 h.1)))
+    let h = s.size_of-size.ensures in fits tt (add (at tt s.requires.least) (bits {n = 128} tt (small _ _ h.0 h.1)))
 
 pub returns : goal.returns
 returns c =
     let s = c in
     let a = s.args in
-    let h = s.size_of_lem.ensures in
+    let h = s.size_of-size.ensures in
     (box tt (add (at tt s.requires.least) (bits {n = 128} tt (small _ _ h.0 h.1)))).eq
     ∙ ap (λ (n : ℕ). a.r.least +ℤ pos (a.x % n)) h.0

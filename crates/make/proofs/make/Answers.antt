@@ -22,7 +22,7 @@ returns-then-r-eq0 c =
     let p = c in
     let w = p in
     let a = w.args in
-    made_call a.seed a.z a.out.now (sym w.refusal-r.ensures ∙ p.if-r-eq0.true) c.line_at_lem.ensures.0
+    made_call a.seed a.z a.out.now (sym w.refusal-r.ensures ∙ p.if-r-eq0.true) c.line_at.ensures.0
     p.put_words.ensures
 
 pub returns-else-r-eq0 : goal.returns-else-r-eq0

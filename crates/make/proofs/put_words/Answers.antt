@@ -20,14 +20,14 @@ pub line_at-words-requires : goal.line_at-words-requires
 line_at-words-requires c = let h = c.requires.0 in (h, h.most_lines)
 
 pub loop-k-init : goal.loop-k-init
-loop-k-init c = (omega arith, omega (arith, c.line_at_lem.ensures.0), refl, sym (after_none _), λ first e. e)
+loop-k-init c = (omega arith, omega (arith, c.line_at-words.ensures.0), refl, sym (after_none _), λ first e. e)
 
 pub put_word-requires : goal.put_word-requires
 put_word-requires c =
     let l = c in
     let s = l in
     let t = c.loop-k-test.true in
-    omega (arith, l.loop-k.invariant.2 ∙ s.put_sizes.auto.out, s.requires.1, t, l.line_at_lem.ensures.0)
+    omega (arith, l.loop-k.invariant.2 ∙ s.put_sizes.auto.out, s.requires.1, t, l.line_at-words.ensures.0)
 
 pub loop-k-preserved : goal.loop-k-preserved
 loop-k-preserved c =
@@ -43,7 +43,7 @@ loop-k-preserved c =
     let state = n.next-next.ensures ∙ ap round v.3 ∙ sym (after_more _ _) ∙ ap (λ (m : ℕ). after m a.seed) e in
     let bits = w.bits_drawn.ensures
     ∙ ap (λ (x : ℕ). of_z w32 (drawn a.z k x)) (state ∙ ap (λ (m : ℕ). after m a.seed) f) in
-    let inside : suc k ≤ words_of a.z = omega (arith, t, l.line_at_lem.ensures.0) in (
+    let inside : suc k ≤ words_of a.z = omega (arith, t, l.line_at-words.ensures.0) in (
       omega (arith, v.0),
       omega (arith, t),
       w.put_word.auto.out ∙ v.2,
@@ -56,6 +56,6 @@ returns c =
     let v = c.loop-k.invariant in
     let s = c in
     let a = s.args in
-    let e : c.loop-k.k ≡ words_of a.z = omega (arith, c.loop-k-test.false, v.1, c.line_at_lem.ensures.0) in
+    let e : c.loop-k.k ≡ words_of a.z = omega (arith, c.loop-k-test.false, v.1, c.line_at-words.ensures.0) in
     v.4 a.out.now (s.put_sizes.ensures ∙ sizes_are a.z a.seed a.out.now)
     ∙ ap (λ (n : ℕ). words_to (made_words a.z a.seed) n a.out.now) e

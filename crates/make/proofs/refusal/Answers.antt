@@ -26,7 +26,7 @@ returns-then-out-words c =
     let a = b.args in
     passes 29 _ (ne_eqb _ _ b.if-seed-eq0.false)
     (passes 30 _ (sym b.size_refused.ensures ∙ b.if-size_refused.false)
-    (refuses 31 _ (lt-ltb (length a.out.now) (4 * words_of a.z) (omega (arith, c.if-out-words.true, c.line_at_lem.ensures.0)))))
+    (refuses 31 _ (lt-ltb (length a.out.now) (4 * words_of a.z) (omega (arith, c.if-out-words.true, c.line_at-words.ensures.0)))))
 
 pub returns-else-out-words : goal.returns-else-out-words
 returns-else-out-words c =
@@ -34,5 +34,5 @@ returns-else-out-words c =
     let a = b.args in
     passes 29 _ (ne_eqb _ _ b.if-seed-eq0.false)
     (passes 30 _ (sym b.size_refused.ensures ∙ b.if-size_refused.false)
-    (passes 31 _ (le-ltb (length a.out.now) (4 * words_of a.z) (omega (arith, c.if-out-words.false, c.line_at_lem.ensures.0)))
+    (passes 31 _ (le-ltb (length a.out.now) (4 * words_of a.z) (omega (arith, c.if-out-words.false, c.line_at-words.ensures.0)))
     accepts))

@@ -6,19 +6,19 @@ use borrow.Author.Tests.{ne_eqb}
 use Rattle.named_step.proofs.named.Goals as goal
 
 pub returns-in-0 : goal.returns-in-0
-returns-in-0 c = rw c.in-0.keys1 refl
+returns-in-0 c = rw c.in-0.is refl
 
 pub returns-in-1 : goal.returns-in-1
-returns-in-1 c = rw c.in-1.keys2 c.has_port_lem.ensures
+returns-in-1 c = rw c.in-1.is c.has_port.ensures
 
 pub returns-in-2 : goal.returns-in-2
-returns-in-2 c = rw c.in-2.keys3 refl
+returns-in-2 c = rw c.in-2.is refl
 
 pub returns-in-3 : goal.returns-in-3
-returns-in-3 c = rw c.in-3.keys4 c.has_port-in-3.ensures
+returns-in-3 c = rw c.in-3.is c.has_port-in-3.ensures
 
 pub returns-in-4 : goal.returns-in-4
-returns-in-4 c = rw c.in-4.keys5 refl
+returns-in-4 c = rw c.in-4.is refl
 
 pub returns-in_default : goal.returns-in_default
 returns-in_default c =

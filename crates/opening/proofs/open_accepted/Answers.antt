@@ -20,7 +20,7 @@ sound_refusal-requires c =
     let l = lengths_hold a.v.description f.0 M c.of_memory-r.ensures c.if-r-eq0.true in (
       record {
         grounds = s.requires.0;
-        size = c.size_of_lem.ensures ∙ size_is a.v.description f.0;
+        size = c.size_of-z.ensures ∙ size_is a.v.description f.0;
         long = l.2;
         words = s.requires.5;
       },
@@ -39,7 +39,7 @@ returns-then-r-eq0 c =
     let d = a.v.description in (
       refl,
       lengths_passed d f.0 (memory_of a.waiting.now a.received.now a.state.now) k.of_memory-r.ensures
-          c.if-r-eq0.true (k.size_of_lem.ensures ∙ size_is d f.0) r.0 r.1,
+          c.if-r-eq0.true (k.size_of-z.ensures ∙ size_is d f.0) r.0 r.1,
       f.1,
     )
 

@@ -20,31 +20,31 @@ last op a b h =
     ) refl
 
 pub returns-in-0 : goal.returns-in-0
-returns-in-0 c = rw c.in-0.keys1 refl
+returns-in-0 c = rw c.in-0.is refl
 
 pub returns-in-1 : goal.returns-in-1
-returns-in-1 c = rw c.in-1.keys2 c.wrapping_add_u32.ensures
+returns-in-1 c = rw c.in-1.is c.wrapping_add_u32.ensures
 
 pub returns-in-2 : goal.returns-in-2
 returns-in-2 c =
     let g = c.args in
-    rw c.in-2.keys3
+    rw c.in-2.is
     (difference c.wrapping_sub_u32.result g.a g.b (omega arith) (omega arith) c.wrapping_sub_u32.ensures)
 
 pub returns-in-3 : goal.returns-in-3
-returns-in-3 c = rw c.in-3.keys4 c.times.ensures
+returns-in-3 c = rw c.in-3.is c.times.ensures
 
 pub returns-then-b-a : goal.returns-then-b-a
-returns-then-b-a c = rw (c.in-4.keys5, lt-ltb _ _ c.if-b-a.true) refl
+returns-then-b-a c = rw (c.in-4.is, lt-ltb _ _ c.if-b-a.true) refl
 
 pub returns-else-b-a : goal.returns-else-b-a
-returns-else-b-a c = rw (c.in-4.keys5, le-ltb _ _ c.if-b-a.false) refl
+returns-else-b-a c = rw (c.in-4.is, le-ltb _ _ c.if-b-a.false) refl
 
 pub returns-then-a-b : goal.returns-then-a-b
-returns-then-a-b c = rw (c.in-5.keys6, lt-ltb _ _ c.if-a-b.true) refl
+returns-then-a-b c = rw (c.in-5.is, lt-ltb _ _ c.if-a-b.true) refl
 
 pub returns-else-a-b : goal.returns-else-a-b
-returns-else-a-b c = rw (c.in-5.keys6, le-ltb _ _ c.if-a-b.false) refl
+returns-else-a-b c = rw (c.in-5.is, le-ltb _ _ c.if-a-b.false) refl
 
 pub returns-in_default : goal.returns-in_default
 returns-in_default c = let g = c.args in rw (last g.op g.a g.b (omega arith)) c.fixed_times.ensures

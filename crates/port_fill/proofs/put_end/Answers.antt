@@ -31,7 +31,7 @@ put_end-requires c =
     let h = c.requires in
     let p = h.0 in (
       omega (arith, h.1, p.based, p.pipe),
-      subst EndWide (sym c.end_of_lem.ensures)
+      subst EndWide (sym c.end_of-e.ensures)
           (end_wide p.narrow p.flows.laid p.lt p.small a.start a.j p.begins (omega (arith, p.pipe))),
     )
 
@@ -51,5 +51,5 @@ returns-else-total-eq0 c =
     let t = end_on s.requires.0 c.if-total-eq0.false in (
       one_yes a.f.nest a.f.stream a.p t,
       end_put a.f.nest a.f.stream a.g a.start a.base a.j a.p a.ports.now t
-          c.end_of_lem.ensures c.put_end_lem.ensures,
+          c.end_of-e.ensures c.put_end.ensures,
     )

@@ -55,7 +55,7 @@ overflow_add-j c =
     omega (
       arith,
       l.invariant.4,
-      entered_next a.f.nest a.f.stream l.p m _ c.put_end_lem.ensures.0,
+      entered_next a.f.nest a.f.stream l.p m _ c.put_end-j.ensures.0,
       entered_le a.f.nest a.f.stream (suc l.p),
       s.requires.0.seen.flows.laid.processes,
     )
@@ -79,7 +79,7 @@ loop-p-preserved c =
     let l = c.loop-p in
     let q = c.loop-p-test.true in
     let x = c.entering_length-total in
-    let k = c.put_end_lem in
+    let k = c.put_end-j in
     let z : suc l.p ≡ l.p + 1 = omega arith in
     let m : l.p < length (processes n) = omega (arith, q, s.requires.0.counted) in
     let w = heads_next l.invariant.5 (omega (arith, m, s.requires.0.seen.flows.laid.processes)) l.invariant.4 x.ensures.0

@@ -35,6 +35,6 @@ returns c =
     ∙ ap (port_index s.args.g) (c.number_on.ensures.0
     ∙ ap (λ (k : ℕ). row_index (space n) (shift2 (process_of n s.args.p) (pos k) (move n t))) e) in
     let a = c.port_at-first.ensures.0 in
-    let b = c.end_at_lem.ensures.0 in
+    let b = c.end_at-sent.ensures.0 in
     same_end b a (ap (λ (k : ℕ). k + 4) a) (ap (λ (k : ℕ). k + 1) l) (ap (λ (k : ℕ). k + 1) b) (ap (λ (k : ℕ). k + 2) b) refl
     s.requires.4 refl

@@ -37,8 +37,8 @@ pub returns : goal.returns
 returns c =
     let u = c in
     let s = u in
-    port_row_lem s.args.g s.requires.0.near u.end_at_lem.result
-    (u.end_at_lem.ensures.0 ∙ ap (end_index s.args.g) u.pipe_number_lem.ensures.0)
+    port_row_lem s.args.g s.requires.0.near u.end_at-sent.result
+    (u.end_at-sent.ensures.0 ∙ ap (end_index s.args.g) u.pipe_number.ensures.0)
     c.port_at.ensures.0
     c.Before-of.ensures
     u.link_of-link.ensures.0 u.link_of-link.ensures.1 refl refl c.soak_of.ensures refl s.requires.1 c.keeps.ensures

@@ -12,4 +12,4 @@ returns-then-total-eq0 c =
 pub returns-else-total-eq0 : goal.returns-else-total-eq0
 returns-else-total-eq0 c =
     let s = c in
-    row_held s.requires.0.near c.pipe_total-total.ensures s.args.g c.if-total-eq0.false c.port_of_lem.ensures
+    row_held s.requires.0.near c.pipe_total-total.ensures s.args.g c.if-total-eq0.false c.port_of.ensures

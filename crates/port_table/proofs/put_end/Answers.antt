@@ -11,4 +11,4 @@ pub returns : goal.returns
 returns c =
     let s = c in
     c.store.ensures ∙ ap (λ (row : List ℕ). stored row s.args.at (length row) s.args.ports.now)
-    c.end_words_lem.ensures
+    c.end_words-row.ensures

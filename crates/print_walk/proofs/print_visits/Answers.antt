@@ -15,7 +15,7 @@ instance_at-requires c = let p = c.requires in omega (arith, p.words)
 pub print_visit-requires : goal.print_visit-requires
 print_visit-requires c =
     let p = c.requires in
-    (p.nest, subst (Within 64) (sym c.instance_at_lem.ensures) (p.small c.loop-k.k (omega arith)))
+    (p.nest, subst (Within 64) (sym c.instance_at.ensures) (p.small c.loop-k.k (omega arith)))
 
 pub loop-k-preserved : goal.loop-k-preserved
 loop-k-preserved c = omega arith

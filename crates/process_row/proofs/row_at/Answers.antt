@@ -7,7 +7,7 @@ returns c =
     let f = c in
     rw (
       c.by_stream-2.ensures,
-      c.by_stream_lem.ensures,
+      c.by_stream.ensures,
       c.instance_numbered.ensures.0,
       f.first_at.ensures,
       f.point_at.ensures,

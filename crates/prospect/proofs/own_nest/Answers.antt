@@ -10,7 +10,7 @@ pub line_of-short-requires : goal.line_of-short-requires
 line_of-short-requires c = let s = c in (s.requires.step, s.requires.place)
 
 pub step_along-requires : goal.step_along-requires
-step_along-requires c = c.line_of_lem.ensures.1
+step_along-requires c = c.line_of-short.ensures.1
 
 pub returns : goal.returns
 returns c =
@@ -22,5 +22,5 @@ returns c =
       small = e.0;
       moves =
           own_moves s.args.n c.step_along.result
-          (subst (λ (u : V3). dot c.step_along.result u ≡ pos 0 → u ≡ zero3) l.line_of_lem.ensures.0 e.1);
+          (subst (λ (u : V3). dot c.step_along.result u ≡ pos 0 → u ≡ zero3) l.line_of-short.ensures.0 e.1);
     }

@@ -60,8 +60,8 @@ loop-i-preserved c =
     c.if-a-ne0.false
     ∙ l.invariant
 
-pub returns-then-a-ne0 : goal.returns
-returns-then-a-ne0 c =
+pub returns : goal.returns
+returns c =
     let l = c.loop-i in
     let a = c.args in
     first_end a.p.hop a.v (used a.p) l.i (omega (arith, c.loop-i-test.false, used_length a.p)) ∙ l.invariant

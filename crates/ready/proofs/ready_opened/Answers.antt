@@ -31,8 +31,8 @@ lowest-requires c =
     let a = k.args in
     omega (arith, q.mark_ready.auto.words, many_words a.words.now k.of_ready-r.ensures q.if-r-ne0.false)
 
-pub returns-then-r-ne0 : goal.returns
-returns-then-r-ne0 c =
+pub returns : goal.returns
+returns c =
     let q = c in
     let a = q.args in
     let m = answer_marked _ _ _ a.words.now

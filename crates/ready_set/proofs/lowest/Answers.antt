@@ -13,8 +13,8 @@ returns-then-j-ge-MIDDLE c =
     let h = c.lowest_bit-j.ensures.0 in
     λ f kept. lowest_none f l kept (omega (arith, h, c.if-j-ge-MIDDLE.true))
 
-pub returns-then-j-ge-MIDDLE : goal.returns
-returns-then-j-ge-MIDDLE c =
+pub returns : goal.returns
+returns c =
     let l = c.args.l.now in
     let t = c.lowest_bit-j in
     let m = c.lowest_bit in

@@ -32,8 +32,8 @@ loop-i-preserved c =
     let t = c.loop-i-test.true in
     (omega arith, sym (any_turn _ _ _ t (sym c.can_pass.ensures ∙ c.if-can_pass.false)) ∙ l.invariant.1)
 
-pub returns-then-can_pass : goal.returns
-returns-then-can_pass c =
+pub returns : goal.returns
+returns c =
     let l = c.loop-i in
     let t = c.loop-i-test.false in
     c.can_fire.ensures ∙ sym (moves_firing _ _ _ _ (sym l.invariant.1 ∙ any_end _ _ _ t))

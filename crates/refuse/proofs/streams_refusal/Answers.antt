@@ -63,8 +63,8 @@ loop-i-preserved c =
     c.loop-i-test.true refl (answered c) c.if-r-ne0.false
     ∙ l.invariant
 
-pub returns-then-r-ne0 : goal.returns
-returns-then-r-ne0 c =
+pub returns : goal.returns
+returns c =
     let l = c.loop-i in
     let s = c in
     streams_end s.args.limits s.args.v.description s.requires.1.in_use l.i (omega (arith, c.loop-i-test.false)) ∙ l.invariant

@@ -9,8 +9,8 @@ use Rattle.refuse_words.proofs.refusal_of_length.Goals as goal
 
 pub returns-then-s-n : goal.returns-then-s-n
 returns-then-s-n c =
-    passes 3 _ (ap not (eq-eqb _ _ (rw c.line_at_lem.ensures.0 at c.if-s-n.true))) c.refusal_of_words.ensures
+    passes 3 _ (ap not (eq-eqb _ _ (rw c.line_at-n.ensures.0 at c.if-s-n.true))) c.refusal_of_words.ensures
 
 pub returns-else-s-n : goal.returns-else-s-n
 returns-else-s-n c =
-    refuses 3 _ (ap not (ne_eqb _ _ (rw c.line_at_lem.ensures.0 at c.if-s-n.false)))
+    refuses 3 _ (ap not (ne_eqb _ _ (rw c.line_at-n.ensures.0 at c.if-s-n.false)))

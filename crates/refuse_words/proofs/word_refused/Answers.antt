@@ -27,8 +27,8 @@ loop-k-init c = refl
 pub returns-then-not-in_range : goal.returns-then-not-in_range
 returns-then-not-in_range c =
     let b = c in
-    answer _ _ b.line_at_lem.ensures.0
-    (sym (every_stop _ _ _ (omega arith) (sym c.in_range_lem.ensures ∙ not-true _ c.if-not-in_range.true)) ∙ b.loop-k.invariant)
+    answer _ _ b.line_at-words.ensures.0
+    (sym (every_stop _ _ _ (omega arith) (sym c.in_range.ensures ∙ not-true _ c.if-not-in_range.true)) ∙ b.loop-k.invariant)
 
 pub overflow_add-k : goal.overflow_add-k
 overflow_add-k c = omega arith
@@ -38,8 +38,8 @@ loop-k-smaller c = omega arith
 
 pub loop-k-preserved : goal.loop-k-preserved
 loop-k-preserved c =
-    sym (every_turn _ _ _ (omega arith) (sym c.in_range_lem.ensures ∙ not-false _ c.if-not-in_range.false))
+    sym (every_turn _ _ _ (omega arith) (sym c.in_range.ensures ∙ not-false _ c.if-not-in_range.false))
     ∙ c.loop-k.invariant
 
-pub returns-then-not-in_range : goal.returns
-returns-then-not-in_range c = answer _ _ c.line_at_lem.ensures.0 (sym (every_end _ _ _ (omega arith)) ∙ c.loop-k.invariant)
+pub returns : goal.returns
+returns c = answer _ _ c.line_at-words.ensures.0 (sym (every_end _ _ _ (omega arith)) ∙ c.loop-k.invariant)

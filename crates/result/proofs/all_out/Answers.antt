@@ -33,8 +33,8 @@ loop-q-preserved c =
     c.word.ensures.0 in
     (omega arith, sym (every_turn _ a.pipes l.loop-q.q (omega arith) (e ∙ eq-eqb _ _ c.if-word-e.false)) ∙ l.loop-q.invariant.1)
 
-pub returns-then-word-e : goal.returns
-returns-then-word-e c =
+pub returns : goal.returns
+returns c =
     let l = c in
     let a = l.args in
     sym (every_end (out_by a.ports.now a.state.now) a.pipes l.loop-q.q (omega arith)) ∙ l.loop-q.invariant.1

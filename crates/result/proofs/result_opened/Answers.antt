@@ -13,7 +13,7 @@ fill_output-requires c =
     let r = c in
     let s = r in
     let v = s.requires.1 in
-    let f = fillable s.requires.0 s.args.output.now r.all_out_lem.ensures r.of_result-r.ensures c.if-r-eq0.true
+    let f = fillable s.requires.0 s.args.output.now r.all_out-out.ensures r.of_result-r.ensures c.if-r-eq0.true
     v.description_is in
     (f.0, v.surveyed, f.1, f.2, rw v.description_is s.requires.2, s.requires.3, rw v.description_is s.requires.4)
 
@@ -22,11 +22,11 @@ returns-then-r-eq0 c =
     let i = c in
     let r = i in
     let s = r in
-    call_done s.requires.0 s.args.output.now r.all_out_lem.ensures r.of_result-r.ensures i.if-r-eq0.true
+    call_done s.requires.0 s.args.output.now r.all_out-out.ensures r.of_result-r.ensures i.if-r-eq0.true
     s.requires.1.description_is c.fill_output.ensures
 
 pub returns-else-r-eq0 : goal.returns-else-r-eq0
 returns-else-r-eq0 c =
     let r = c in
     let s = r in
-    call_refused s.requires.0 s.args.output.now r.all_out_lem.ensures r.of_result-r.ensures c.if-r-eq0.false
+    call_refused s.requires.0 s.args.output.now r.all_out-out.ensures r.of_result-r.ensures c.if-r-eq0.false

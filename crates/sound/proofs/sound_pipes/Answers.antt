@@ -38,8 +38,8 @@ returns-else-sound_end c =
     let e = ap (end_sound a.args.state.now) c.end.ensures in
     sym (q.loop-q.invariant.1 ∙ every_stop f a.args.z.pipes q.loop-q.q l (sym (c.sound_end.ensures ∙ e) ∙ c.if-sound_end.false))
 
-pub returns-else-sound_end : goal.returns
-returns-else-sound_end c =
+pub returns : goal.returns
+returns c =
     let q = c in
     let a = q in
     let l : a.args.z.pipes ≤ q.loop-q.q = omega (arith, c.loop-q-test.false) in

@@ -44,8 +44,8 @@ returns-else-sound_port c =
     let e = ap (port_sound a.args.state.now) c.port.ensures in
     sym (q.loop-i.invariant.1 ∙ every_stop f a.args.z.streams q.loop-i.i l (sym (c.sound_port.ensures ∙ e) ∙ c.if-sound_port.false))
 
-pub returns-else-sound_port : goal.returns
-returns-else-sound_port c =
+pub returns : goal.returns
+returns c =
     let q = c in
     let a = q in
     let f = one a.args.ports.now a.args.state.now a.args.p in

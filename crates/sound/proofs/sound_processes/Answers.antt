@@ -30,8 +30,8 @@ returns-else-sound_process c =
     let stop = every_stop f a.args.z.processes q.loop-p.p c.loop-p-test.true in
     sym (q.loop-p.invariant.1 ∙ stop (rw (← c.sound_process.ensures) c.if-sound_process.false))
 
-pub returns-else-sound_process : goal.returns
-returns-else-sound_process c =
+pub returns : goal.returns
+returns c =
     let q = c in
     let a = q in
     let f = process_sound a.args.ports.now a.args.state.now a.args.z.streams in

@@ -11,20 +11,20 @@ use Rattle.step_rules.proofs.act.Goals as goal
 pub end-requires : goal.end-requires
 end-requires c =
     let p = c.requires in
-    (p.0.words, omega (arith, p.0.pipes, p.2.pipe (inl c.in-0.keys1)))
+    (p.0.words, omega (arith, p.0.pipes, p.2.pipe (inl c.in-0.is)))
 
 pub send-requires : goal.send-requires
 unfolding can_by
 send-requires c =
     let p = c.requires in
-    let k = c.in-0.keys1 in
+    let k = c.in-0.is in
     let h = p.2.pipe (inl k) in
     rw c.end.ensures (p.0.ends _ h, p.3 _ h, rw k at p.5)
 
 pub port-requires : goal.port-requires
 port-requires c =
     let p = c.requires in
-    let k = c.in-1.keys2 in (
+    let k = c.in-1.is in (
       p.0.words,
       omega (arith, p.0.processes, p.2.process (omega arith) (omega arith)),
       omega (arith, p.0.streams, p.2.port (inl k)),
@@ -34,20 +34,20 @@ pub take-requires : goal.take-requires
 unfolding can_by
 take-requires c =
     let p = c.requires in
-    let k = c.in-1.keys2 in
+    let k = c.in-1.is in
     rw c.port.ensures (p.0.ports _ _ (p.2.process (omega arith) (omega arith)) (p.2.port (inl k)), rw k at p.5)
 
 pub fire-requires : goal.fire-requires
 unfolding can_by
 fire-requires c =
     let p = c.requires in
-    let k = c.in-2.keys3 in
+    let k = c.in-2.is in
     (p.0, p.1, p.2.process (omega arith) (omega arith), rw k at p.5)
 
 pub port-requires-in-3 : goal.port-requires-in-3
 port-requires-in-3 c =
     let p = c.requires in
-    let k = c.in-3.keys4 in (
+    let k = c.in-3.is in (
       p.0.words,
       omega (arith, p.0.processes, p.2.process (omega arith) (omega arith)),
       omega (arith, p.0.streams, p.2.port (inr k)),
@@ -57,7 +57,7 @@ pub give-requires : goal.give-requires
 unfolding can_by
 give-requires c =
     let p = c.requires in
-    let k = c.in-3.keys4 in
+    let k = c.in-3.is in
     rw c.port-in-3.ensures (p.0.ports _ _ (p.2.process (omega arith) (omega arith)) (p.2.port (inr k)), rw k at p.5)
 
 pub end-requires-in_default : goal.end-requires-in_default
@@ -78,7 +78,7 @@ pub returns-in-0 : goal.returns-in-0
 unfolding act_by
 returns-in-0 c =
     let a = c.args in
-    rw c.in-0.keys1
+    rw c.in-0.is
     (ap (memory_of a.waiting.now a.received.now)
     (c.send.ensures ∙ rw c.end.ensures refl))
 
@@ -86,7 +86,7 @@ pub returns-in-1 : goal.returns-in-1
 unfolding act_by
 returns-in-1 c =
     let a = c.args in
-    rw c.in-1.keys2
+    rw c.in-1.is
     (ap (memory_of a.waiting.now a.received.now)
     (c.take.ensures ∙ rw c.port.ensures refl))
 
@@ -94,14 +94,14 @@ pub returns-in-2 : goal.returns-in-2
 unfolding act_by
 returns-in-2 c =
     let a = c.args in
-    rw c.in-2.keys3
+    rw c.in-2.is
     (ap (memory_of a.waiting.now a.received.now) c.fire.ensures)
 
 pub returns-in-3 : goal.returns-in-3
 unfolding act_by
 returns-in-3 c =
     let a = c.args in
-    rw c.in-3.keys4
+    rw c.in-3.is
     (ap (memory_of a.waiting.now a.received.now)
     (c.give.ensures ∙ rw c.port-in-3.ensures refl))
 

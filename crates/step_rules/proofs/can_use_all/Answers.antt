@@ -48,8 +48,8 @@ returns-else-can_use c =
     sym (every_stop f (ports_at a.ports.now a.p) q.i a.z.streams t m (e ∙ sym c.can_use.ensures ∙ c.if-can_use.false))
     ∙ q.invariant.1
 
-pub returns-else-can_use : goal.returns
-returns-else-can_use c =
+pub returns : goal.returns
+returns c =
     let a = c.args in
     let q = c.loop-i in
     sym (every_end (can_use a.state.now) (ports_at a.ports.now a.p) q.i a.z.streams c.loop-i-test.false) ∙ q.invariant.1

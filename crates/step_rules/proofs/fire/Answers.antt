@@ -25,7 +25,7 @@ fire-requires c =
 pub returns : goal.returns
 returns c =
     c.fire.ensures ∙ rw (
-      c.instance_of_lem.ensures,
+      c.instance_of-x.ensures,
       c.word-f.ensures.0,
       c.ports_of-own.ensures,
     ) refl

@@ -26,7 +26,7 @@ vector_at-requires c =
 
 pub answer_to-a-requires : goal.answer_to-a-requires
 answer_to-a-requires c =
-    c.requires.answering c.vector_at_lem.result c.vector_at_lem.ensures.1
+    c.requires.answering c.vector_at.result c.vector_at.ensures.1
 
 -- the answer of vector j, one that is counted
 module _ (c : goal.After-answer_to-a invariant_loop decreases_loop) where
@@ -35,14 +35,14 @@ module _ (c : goal.After-answer_to-a invariant_loop decreases_loop) where
   here_is =
       let a = c.args in
       let v = c.vector_count-all.ensures in
-      c.answer_to-a.ensures ∙ ap (answer_by a.p) c.vector_at_lem.ensures.0
+      c.answer_to-a.ensures ∙ ap (answer_by a.p) c.vector_at.ensures.0
       ∙ sym (map_at (λ v. answer_by a.p (step_vector v)) (vectors a.k a.loops) c.loop-j.j [] 0
       (omega (arith, c.loop-j-test.true, v.0)))
 
   below : c.answer_to-a.result < answer_count
   below =
       subst (λ (n : ℕ). n < answer_count) (sym c.answer_to-a.ensures)
-      (c.requires.below c.vector_at_lem.result)
+      (c.requires.below c.vector_at.result)
 
   in_answers : let a = c.args in
       c.loop-j.j < length (answers_by a.p a.k a.loops)

@@ -21,7 +21,7 @@ use Rattle.survey.proofs.flow_of.Goals as goal
 pub image_of-across-requires : goal.image_of-across-requires
 image_of-across-requires c =
     let l = c in
-    (rows_wider tt l.requires.0.nest.place, l.line_of_lem.ensures.1)
+    (rows_wider tt l.requires.0.nest.place, l.line_of-short.ensures.1)
 
 pub image_of-pass-requires : goal.image_of-pass-requires
 image_of-pass-requires c =
@@ -51,7 +51,7 @@ returns c =
     let s = l in
     let n = s.args.n in
     let r = s.args.s in
-    let on = l.line_of_lem.ensures.0 in
+    let on = l.line_of-short.ensures.0 in
     let across = a.image_of-across.ensures.0 ∙ ap (image n.place) on in
     let still = z.zero2-stationary.ensures ∙ ap (λ (v : V2). eq2 v zero2) across in
     let way = w.Way-of.ensures.0 ∙ ap₂ (λ (b : Bool) (v : V2). cond b r.loading v) still across in
@@ -61,8 +61,8 @@ returns c =
       nest_is = refl;
       stream_is = refl;
       line_is = on;
-      line_small = l.line_of_lem.ensures.1;
-      divisor_is = l.line_of_lem.ensures.2;
+      line_small = l.line_of-short.ensures.1;
+      divisor_is = l.line_of-short.ensures.2;
       hop_is = h.hop_of.ensures ∙ ap₂ (λ (b : Bool) (v : V3). cond b 1 (nat_abs (step_of n v))) still on
           ∙ ap (cond (stationary n r) 1) (step_up n r.map);
       space_is = s.requires.1.space_is;

@@ -8,10 +8,10 @@ use Rattle.survey.proofs.ground_of.Goals as goal
 pub returns : goal.returns
 returns c =
     let e = c.extent_of-space.ensures.0 in
-    let l = c.line_of_lem.ensures in
+    let l = c.line_of-short.ensures in
     record {
       instances_is = c.instance_count.ensures.0;
-      processes_is = c.size_of_lem.ensures.0 ∙ ap (λ (k : Box). length (points k)) e;
+      processes_is = c.size_of.ensures.0 ∙ ap (λ (k : Box). length (points k)) e;
       increment_is = l.0;
       increment_small = l.1;
       divisor_is = l.2;

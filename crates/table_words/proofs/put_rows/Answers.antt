@@ -34,7 +34,7 @@ loop-p-preserved c =
       omega arith,
       f.store.auto.list ∙ l.invariant.1,
       rows_next (row_from a.shape a.columns.now) l.p a.words.now l.invariant.2
-          (w.row_words-row.ensures ∙ ap row_words w.row_at_lem.ensures)
+          (w.row_words-row.ensures ∙ ap row_words w.row_at.ensures)
           (f.store.ensures ∙ stored_paste _ _ _ _ (omega arith) (omega arith)),
     )
 

@@ -8,8 +8,8 @@ use Rattle.untouched.proofs.number_at.Goals as goal
 
 pub number_by-requires : goal.number_by-requires
 number_by-requires c =
-    let s = c in subst (Numbers s.args.f) (sym c.instance_at_lem.ensures) s.requires.numbers
+    let s = c in subst (Numbers s.args.f) (sym c.instance_at.ensures) s.requires.numbers
 
 pub returns : goal.returns
 returns c =
-    c.number_by.ensures ∙ ap (λ (x : V3). up (form_at c.args.f x)) c.instance_at_lem.ensures
+    c.number_by.ensures ∙ ap (λ (x : V3). up (form_at c.args.f x)) c.instance_at.ensures

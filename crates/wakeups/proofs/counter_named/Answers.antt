@@ -8,12 +8,12 @@ use Rattle.wakeups.proofs.counter_named.Goals as goal
 
 pub end-e-requires : goal.end-e-requires
 end-e-requires c =
-    let p = c.requires in (p.0.words, omega (arith, p.0.pipes, p.1.pipe (inl c.in-0.keys1)))
+    let p = c.requires in (p.0.words, omega (arith, p.0.pipes, p.1.pipe (inl c.in-0.is)))
 
 pub port-k-requires : goal.port-k-requires
 port-k-requires c =
     let p = c.requires in
-    let k = c.in-1.keys2 in (
+    let k = c.in-1.is in (
       p.0.words,
       omega (arith, p.0.processes, p.1.process (omega arith) (omega arith)),
       omega (arith, p.0.streams, p.1.port (inl k)),
@@ -22,13 +22,13 @@ port-k-requires c =
 pub port-k-requires-in-2 : goal.port-k-requires-in-2
 port-k-requires-in-2 c =
     let p = c.requires in
-    let k = c.in-2.keys3 in
+    let k = c.in-2.is in
     (p.0.words, omega (arith, p.0.processes, p.1.process (omega arith) (omega arith)), omega arith)
 
 pub port-k-requires-in-3 : goal.port-k-requires-in-3
 port-k-requires-in-3 c =
     let p = c.requires in
-    let k = c.in-3.keys4 in (
+    let k = c.in-3.is in (
       p.0.words,
       omega (arith, p.0.processes, p.1.process (omega arith) (omega arith)),
       omega (arith, p.0.streams, p.1.port (inr k)),
@@ -37,7 +37,7 @@ port-k-requires-in-3 c =
 pub overflow_add-result : goal.overflow_add-result
 overflow_add-result c =
     let p = c.requires in
-    let k = c.in-3.keys4 in
+    let k = c.in-3.is in
     let s = p.0.ports _ _ (p.1.process (omega arith) (omega arith)) (p.1.port (inr k)) in
     rw c.port-k-in-3.ensures (record { fits = omega (arith, s.block) })
 
@@ -48,27 +48,27 @@ end-e-requires-in_default c =
 pub returns-in-0 : goal.returns-in-0
 returns-in-0 c =
     let p = c.requires in
-    let k = c.in-0.keys1 in
+    let k = c.in-0.is in
     rw (k, c.end-e.ensures) (refl, omega (arith, (p.0.ends _ (p.1.pipe (inl k))).sent))
 
 pub returns-in-1 : goal.returns-in-1
 returns-in-1 c =
     let p = c.requires in
-    let k = c.in-1.keys2 in
+    let k = c.in-1.is in
     let s = p.0.ports _ _ (p.1.process (omega arith) (omega arith)) (p.1.port (inl k)) in
     rw (k, c.port-k.ensures) (refl, omega (arith, s.block))
 
 pub returns-in-2 : goal.returns-in-2
 returns-in-2 c =
     let p = c.requires in
-    let k = c.in-2.keys3 in
+    let k = c.in-2.is in
     let s = p.0.ports _ 0 (p.1.process (omega arith) (omega arith)) p.0.some in
     rw (k, c.port-k-in-2.ensures) (refl, omega (arith, s.fired))
 
 pub returns-in-3 : goal.returns-in-3
 returns-in-3 c =
     let p = c.requires in
-    let k = c.in-3.keys4 in
+    let k = c.in-3.is in
     let s = p.0.ports _ _ (p.1.process (omega arith) (omega arith)) (p.1.port (inr k)) in
     rw (k, c.port-k-in-3.ensures) (refl, omega (arith, s.block))
 

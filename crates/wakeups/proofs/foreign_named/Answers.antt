@@ -9,12 +9,12 @@ use Rattle.wakeups.proofs.foreign_named.Goals as goal
 
 pub end-e-requires : goal.end-e-requires
 end-e-requires c =
-    let p = c.requires in (p.0.words, omega (arith, p.0.pipes, p.1.pipe (inl c.in-0.keys1)))
+    let p = c.requires in (p.0.words, omega (arith, p.0.pipes, p.1.pipe (inl c.in-0.is)))
 
 pub port-k-requires : goal.port-k-requires
 port-k-requires c =
     let p = c.requires in
-    let k = c.in-1.keys2 in (
+    let k = c.in-1.is in (
       p.0.words,
       omega (arith, p.0.processes, p.1.process (omega arith) (omega arith)),
       omega (arith, p.0.streams, p.1.port (inl k)),
@@ -23,7 +23,7 @@ port-k-requires c =
 pub port-k-requires-in-3 : goal.port-k-requires-in-3
 port-k-requires-in-3 c =
     let p = c.requires in
-    let k = c.in-3.keys4 in (
+    let k = c.in-3.is in (
       p.0.words,
       omega (arith, p.0.processes, p.1.process (omega arith) (omega arith)),
       omega (arith, p.0.streams, p.1.port (inr k)),
@@ -36,37 +36,37 @@ end-e-requires-in_default c =
 pub returns-in-0 : goal.returns-in-0
 returns-in-0 c =
     let p = c.requires in
-    let k = c.in-0.keys1 in
+    let k = c.in-0.is in
     rw (k, c.end-e.ensures) (refl, omega (arith, (p.0.ends _ (p.1.pipe (inl k))).after))
 
 pub returns-then-k-gt0 : goal.returns-then-k-gt0
 returns-then-k-gt0 c =
     let p = c.requires in
-    let k = c.in-1.keys2 in
+    let k = c.in-1.is in
     let e = c.port-k.ensures in
     let s = p.0.ports _ _ (p.1.process (omega arith) (omega arith)) (p.1.port (inl k)) in
     rw (k, e, lt-ltb 0 _ (rw e at c.if-k-gt0.true)) (refl, omega (arith, s.before))
 
 pub returns-else-k-gt0 : goal.returns-else-k-gt0
 returns-else-k-gt0 c =
-    let k = c.in-1.keys2 in
+    let k = c.in-1.is in
     let e = c.port-k.ensures in
     rw (k, le-ltb 0 _ (rw e at c.if-k-gt0.false)) (refl, omega arith)
 
 pub returns-in-2 : goal.returns-in-2
-returns-in-2 c = rw c.in-2.keys3 (refl, omega arith)
+returns-in-2 c = rw c.in-2.is (refl, omega arith)
 
 pub returns-then-k-gt0-2 : goal.returns-then-k-gt0-2
 returns-then-k-gt0-2 c =
     let p = c.requires in
-    let k = c.in-3.keys4 in
+    let k = c.in-3.is in
     let e = c.port-k-in-3.ensures in
     let s = p.0.ports _ _ (p.1.process (omega arith) (omega arith)) (p.1.port (inr k)) in
     rw (k, e, lt-ltb 0 _ (rw e at c.if-k-gt0-2.true)) (refl, omega (arith, s.after))
 
 pub returns-else-k-gt0-2 : goal.returns-else-k-gt0-2
 returns-else-k-gt0-2 c =
-    let k = c.in-3.keys4 in
+    let k = c.in-3.is in
     let e = c.port-k-in-3.ensures in
     rw (k, le-ltb 0 _ (rw e at c.if-k-gt0-2.false)) (refl, omega arith)
 

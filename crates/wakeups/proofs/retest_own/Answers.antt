@@ -26,7 +26,7 @@ retest_named-requires-in-2 c = let p = c.requires in (p.0, p.1, p.2, sym p.3, p.
 pub retest_gives-requires : goal.retest_gives-requires
 retest_gives-requires c =
     let s = c in
-    let f = own_fire s.args.z s.args.r s.args.n s.requires.2 s.requires.3 c.in-2.keys2 in
+    let f = own_fire s.args.z s.args.r s.args.n s.requires.2 s.requires.3 c.in-2.is in
     (s.requires.0, s.requires.1, f.0, c.retest_named-in-2.ensures.words)
 
 pub retest_port-requires : goal.retest_port-requires
@@ -39,13 +39,13 @@ retest_port-requires c =
 pub returns-in-0 : goal.returns-in-0
 returns-in-0 c =
     let s = c in
-    renewed_less (own_alone s.args.z s.args.r s.args.n s.requires.2 s.requires.3 (fourth c.in-0.keys1))
+    renewed_less (own_alone s.args.z s.args.r s.args.n s.requires.2 s.requires.3 (fourth c.in-0.is))
     c.retest_named.ensures
 
 pub returns-in-2 : goal.returns-in-2
 returns-in-2 c =
     let s = c in
-    renewed_then (own_fire s.args.z s.args.r s.args.n s.requires.2 s.requires.3 c.in-2.keys2).1
+    renewed_then (own_fire s.args.z s.args.r s.args.n s.requires.2 s.requires.3 c.in-2.is).1
     c.retest_named-in-2.ensures c.retest_gives.ensures
 
 pub returns-in_default : goal.returns-in_default

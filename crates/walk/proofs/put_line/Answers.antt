@@ -45,8 +45,8 @@ pub overflow_add-result : goal.overflow_add-result
 overflow_add-result c =
     let p = c.requires in omega (arith, p.held.counts _ p.process, p.fits)
 
-pub returns-then-count-eq0 : goal.returns
-returns-then-count-eq0 c =
+pub returns : goal.returns
+returns c =
     let s = c in
     let p = s.requires in (
       ap (λ (k : ℕ). s.args.from + k) (p.held.counts _ p.process),

@@ -12,7 +12,7 @@ returns-then-is_entry c =
     let a = c.args in
     let t = c.total_at.ensures in (
       visit_yes a.f.nest a.f.stream a.w (process_of a.f.nest a.p)
-          (sym c.is_entry_lem.ensures ∙ c.if-is_entry.true)
+          (sym c.is_entry.ensures ∙ c.if-is_entry.true)
           c.counted.ensures.0 t.0,
       omega (arith, c.counted.ensures.1, t.1),
     )
@@ -20,6 +20,6 @@ returns-then-is_entry c =
 pub returns-else-is_entry : goal.returns-else-is_entry
 returns-else-is_entry c =
     let a = c.args in (
-      visit_no a.f.nest a.f.stream a.w (process_of a.f.nest a.p) (sym c.is_entry_lem.ensures ∙ c.if-is_entry.false),
+      visit_no a.f.nest a.f.stream a.w (process_of a.f.nest a.p) (sym c.is_entry.ensures ∙ c.if-is_entry.false),
       omega arith,
     )

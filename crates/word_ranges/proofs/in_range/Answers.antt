@@ -17,8 +17,8 @@ returns-then-is_direction c =
     rw (sym d.is_direction.ensures ∙ c.if-is_direction.true)
     (ap (λ (n : ℕ). eqb n 1) (c.magnitude.ensures ∙ ap nat_abs w) ∙ direction_is s.args.w)
 
-pub returns-then-is_direction : goal.returns
-returns-then-is_direction c =
+pub returns : goal.returns
+returns c =
     let d = c in
     let s = d in
     let w = tower s.args.w s.ranges.w.sfits in

@@ -9,7 +9,7 @@ use Rattle.meaning.specs.Description.{◌to◌}
 use Rattle.word_ranges.proofs.line_range.Goals as goal
 
 pub returns-then-j-eq0 : goal.returns-then-j-eq0
-returns-then-j-eq0 c = rw (eq-eqb _ _ c.if-j-eq0.true) c.up_to_lem.ensures
+returns-then-j-eq0 c = rw (eq-eqb _ _ c.if-j-eq0.true) c.up_to.ensures
 
 pub returns-then-j-lt4 : goal.returns-then-j-lt4
 returns-then-j-lt4 c =
@@ -32,8 +32,8 @@ returns-then-j-eq5 c =
       eq-eqb _ _ b.if-j-eq5.true,
     ) c.up_to-then-j-eq5.ensures
 
-pub returns-then-j-eq0 : goal.returns
-returns-then-j-eq0 c =
+pub returns : goal.returns
+returns c =
     rw (
       ne_eqb _ _ c.if-j-eq0.false,
       le-ltb _ _ c.if-j-lt4.false,

@@ -19,7 +19,7 @@ pub returns-then-k-body : goal.returns-then-k-body
 returns-then-k-body c =
     let a = c.args in sym (at_loading a.z a.k (omega arith) (omega arith))
 
-pub returns-then-k-r : goal.returns
-returns-then-k-r c =
+pub returns : goal.returns
+returns c =
     let a = c.args in
-    rw c.line_at_lem.ensures.0 at c.line_range.ensures ∙ sym (at_lines a.z a.k (omega arith))
+    rw c.line_at-body.ensures.0 at c.line_range.ensures ∙ sym (at_lines a.z a.k (omega arith))
