@@ -125,7 +125,7 @@ module _ {A : Array} (W : Wired A) (values : List ℕ) where
   reached_all {t} {M} R none = let e : t ≡ t + 0 = omega arith in subst (λ (t : ℕ). Reached t M) e R
   reached_all {t} {M} R (step {a = a} {l} h e g) =
       let d : suc t + length l ≡ t + suc (length l) = omega arith in
-      subst (λ (t : ℕ). Reached t (apply_all A (apply A M a) l)) d (reached_all (reached_step R a h e) g)
+      subst (λ (t : ℕ). Reached t (apply_all A (apply A M a) l)) d (reached_all {t = suc t} (reached_step R a h e) g)
 
   -- a step counts as a receive on q exactly if it is one
   receive_counts : {c c' : Counts} (q : ℕ) (a : Rules.Step) → There A a → OneMore c c' (step_of A a)
@@ -153,8 +153,8 @@ module _ {A : Array} (W : Wired A) (values : List ℕ) where
       → counts_of A (apply_all A M l).state (get q (stops_on A q)) ≡ counts_of A M.state (get q (stops_on A q)) + receives q l
   unfolding apply_all filter
   receives_count R none q = omega arith
-  receives_count {M = M} R (step {a = a} {l} h e g) q =
-      go (is_receive q a) (counts_of A M.state (get q (stops_on A q))) (receives_count (reached_step R a h e) g q)
+  receives_count {t = t} {M = M} R (step {a = a} {l} h e g) q =
+      go (is_receive q a) (counts_of A M.state (get q (stops_on A q))) (receives_count {t = suc t} (reached_step R a h e) g q)
       (receive_counts q a h (step_more W M R.fit.long (sound_of R) a h (guard_of R a h e)))
     where
       go : (b : Bool) (z : ℕ) {x y : ℕ} → x ≡ y + receives q l → y ≡ z + cond b 1 0

@@ -81,13 +81,13 @@ module _ {A : Array} (W : Wired A) (values : List ℕ) where
         → get_or (apply_all A M l).received x 0 ≡ get_or M.received x 0
     unfolding apply_all
     all_past R none = refl
-    all_past R (step {a = a} h e g) = all_past (reached_step W values R a h e) g ∙ step_past R a h (guard_of W values R a h e)
+    all_past {t = t} R (step {a = a} h e g) = all_past {t = suc t} (reached_step W values R a h e) g ∙ step_past R a h (guard_of W values R a h e)
 
   -- ---- counters are equal where the array's own steps were done equally often
 
-  same_counts : {st st' : List ℕ} → ((a : Rules.Step) → There A a → done_of A st a ≡ done_of A st' a) → (b : Step)
+  same_counts : (st st' : List ℕ) → ((a : Rules.Step) → There A a → done_of A st a ≡ done_of A st' a) → (b : Step)
       → counts_of A st b ≡ counts_of A st' b
-  same_counts {st} {st'} f b = go (has A (counter b))
+  same_counts st st' f b = go (has A (counter b))
     where
       go : Dec (Has A (counter b)) → counts_of A st b ≡ counts_of A st' b
       go (yes h) =
@@ -159,4 +159,4 @@ module _ {A : Array} (W : Wired A) (values : List ℕ) where
   pub same_done : (M₀ : Memory) → Cleared W values M₀ → (l l' : List Rules.Step) → Grants A M₀ l → Grants A M₀ l'
       → ((a : Rules.Step) → There A a → done_of A (apply_all A M₀ l).state a ≡ done_of A (apply_all A M₀ l').state a)
       → apply_all A M₀ l ≡ apply_all A M₀ l'
-  same_done M₀ C l l' G G' f = same_memory M₀ C l l' G G' (same_counts f)
+  same_done M₀ C l l' G G' f = same_memory M₀ C l l' G G' (same_counts _ _ f)

@@ -25,11 +25,11 @@ use Rattle.counting.proofs.fill_numbers.Given as goal
 
 abbrev pub invariant-loop-i : goal.invariant-loop-i
 invariant-loop-i l = let turns = l.turns in let i = l.i in
-    (i ≤ turns.outer) × (length l.out ≡ length l.initial.out) × (to_z w32 l.number ≡ along (to_z w32 l.initial.number) l.strides.x i)
+    (i ≤ turns.outer) × (length l.out ≡ length l.initial.out) × (l.number ≡ along l.initial.number l.strides.x i)
     × (l.at ≡ i * (turns.middle * turns.inner))
     × ((f : ℕ → ℕ)
     → ((i : ℕ) → i < turns.outer
-    → AgreesAll f (i * (turns.middle * turns.inner)) turns.middle turns.inner (along (to_z w32 l.initial.number) l.strides.x i) l.strides)
+    → AgreesAll f (i * (turns.middle * turns.inner)) turns.middle turns.inner (along l.initial.number l.strides.x i) l.strides)
     → l.out ≡ fill_by f l.at l.initial.out)
 
 abbrev pub decreases-loop-i : goal.decreases-loop-i

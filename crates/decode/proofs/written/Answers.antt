@@ -36,11 +36,6 @@ module _ (d : Description) (i : ℕ) (few : d.sizes.lines ≤ 8) (all : length d
   ends : (j : ℕ) → d.sizes.lines ≤ j → false ≡ any test (drop j (lines_of d))
   ends j h = sym (member_end test (lines_of d) no_line j (omega (arith, in_use)))
 
--- so many its type has
-eight : (b : goal.At-loop-j (line_reads_lem.Asked, line_reads_lem.Learnt) reads.Pre reads.Post invariant_loop decreases_loop)
-    → length b.before.before.args.d.lines ≡ 8
-eight b = rw length-map at b.before.before.well_formed.0.1.1.1.1.1.0.1.0.1
-
 pub loop-j-init : goal.loop-j-init
 loop-j-init c = refl
 
@@ -48,7 +43,7 @@ pub returns-then-line-i : goal.returns-then-line-i
 returns-then-line-i c =
     let b = c in
     let a = b in
-    stops a.args.d a.args.i a.requires (eight b) b.loop-j.j (omega arith) c.line.ensures
+    stops a.args.d a.args.i a.requires (c.well_formed.0.1.1.1.1.1.0.1.0.1) b.loop-j.j (omega arith) c.line.ensures
     (eq-eqb _ _ c.if-line-i.true)
     ∙ b.loop-j.invariant
 
@@ -56,11 +51,12 @@ pub loop-j-preserved : goal.loop-j-preserved
 loop-j-preserved c =
     let b = c in
     let a = b in
-    goes a.args.d a.args.i a.requires (eight b) b.loop-j.j (omega arith) c.line.ensures
+    goes a.args.d a.args.i a.requires (c.well_formed.0.1.1.1.1.1.0.1.0.1) b.loop-j.j (omega arith) c.line.ensures
     (ne_eqb _ _ c.if-line-i.false)
     ∙ b.loop-j.invariant
 
 pub returns : goal.returns
 returns c =
+    let e : length c.args.d.lines ≡ 8 = c.well_formed.0.1.1.1.1.1.0.1.0.1 in
     let b = c in
-    let a = b in ends a.args.d a.args.i a.requires (eight b) b.loop-j.j (omega arith) ∙ b.loop-j.invariant
+    let a = b in ends a.args.d a.args.i a.requires (e) b.loop-j.j (omega arith) ∙ b.loop-j.invariant

@@ -23,13 +23,13 @@ pub returns-in-0 : goal.returns-in-0
 returns-in-0 c = rw c.in-0.is refl
 
 pub returns-in-1 : goal.returns-in-1
-returns-in-1 c = rw c.in-1.is c.wrapping_add_u32.ensures
+returns-in-1 c = rw c.in-1.is c.wrapping_add_u32.ensures.value
 
 pub returns-in-2 : goal.returns-in-2
 returns-in-2 c =
     let g = c.args in
     rw c.in-2.is
-    (difference c.wrapping_sub_u32.result g.a g.b (omega arith) (omega arith) c.wrapping_sub_u32.ensures)
+    (difference c.wrapping_sub_u32.result g.a g.b (omega arith) (omega arith) c.wrapping_sub_u32.ensures.value)
 
 pub returns-in-3 : goal.returns-in-3
 returns-in-3 c = rw c.in-3.is c.times.ensures
