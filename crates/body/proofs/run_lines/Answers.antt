@@ -24,10 +24,10 @@ pub loop-i-preserved : goal.loop-i-preserved
 loop-i-preserved c =
     let q = c in
     let s = q in
-    let l : length s.args.t2 ≡ 8 = search rules in
-    let n : q.loop-i.i < length s.args.t2 = omega (arith, s.requires.lines) in
-    let next = run_next s.args.x s.args.t2 q.loop-i.i s.args.registers.now n in
-    (omega arith, c.run_line.ensures ∙ ap (run_line s.args.x (get_or s.args.t2 q.loop-i.i no_line)) q.loop-i.invariant.1 ∙ sym next)
+    let l : length s.args.lines ≡ 8 = search rules in
+    let n : q.loop-i.i < length s.args.lines = omega (arith, s.requires.lines) in
+    let next = run_next s.args.x s.args.lines q.loop-i.i s.args.registers.now n in
+    (omega arith, c.run_line.ensures ∙ ap (run_line s.args.x (get_or s.args.lines q.loop-i.i no_line)) q.loop-i.invariant.1 ∙ sym next)
 
 pub returns : goal.returns
 returns c =

@@ -24,9 +24,9 @@ pub loop-i-preserved : goal.loop-i-preserved
 loop-i-preserved c =
     let q = c in
     let s = q in
-    let l : length s.args.t3 ≡ 8 = search rules in
-    let n : q.loop-i.i < length s.args.t3 = omega (arith, s.requires.streams) in
-    let next = scatter_next q.loop-i.store s.args.places.now s.args.t3 q.loop-i.i c.loop-i-test.true n in
+    let l : length s.args.registers ≡ 8 = search rules in
+    let n : q.loop-i.i < length s.args.registers = omega (arith, s.requires.streams) in
+    let next = scatter_next q.loop-i.store s.args.places.now s.args.registers q.loop-i.i c.loop-i-test.true n in
     (omega arith, simp length-set q.loop-i.invariant.1, sym next ∙ q.loop-i.invariant.2)
 
 pub returns : goal.returns

@@ -26,7 +26,7 @@ elements_in-first-requires c =
     (p.0.described.few, p.1, omega (arith, c.loop-i-test.true))
 
 -- stream i is one of six
-stream_lt : (c : goal.After-elements_in-first invariant_loop decreases_loop) → c.loop-i.i < 6
+stream_lt : (c : goal.After-elements_in-first) → c.loop-i.i < 6
 stream_lt c =
     let p = c.requires.0 in
     omega (arith, c.loop-i-test.true, p.described.few.ranged.sized.most_streams)

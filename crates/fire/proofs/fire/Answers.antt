@@ -16,15 +16,15 @@ used_words-words-requires c = let s = c in used_fit _ _ _ s.requires.0
 pub execute-requires : goal.execute-requires
 execute-requires c =
     let s = c in
-    let l : length s.args.t2 ≡ 6 = search rules in
+    let l : length s.args.ports ≡ 6 = search rules in
     let e = c.used_words-words.ensures in
-    rw (e, used_list s.args.t2 s.args.streams s.requires.0.most l) (runnable _ _ _ _ _ s.requires.0 l s.requires.1)
+    rw (e, used_list s.args.ports s.args.streams s.requires.0.most l) (runnable _ _ _ _ _ s.requires.0 l s.requires.1)
 
 pub overflow_cast-state : goal.overflow_cast-state
 overflow_cast-state c =
     let s = c in
     let k = s.requires.0.ports 0 s.requires.0.some in
-    omega (arith, k.count, fire_facts s.args.state.now s.args.t2 s.args.streams s.requires.2)
+    omega (arith, k.count, fire_facts s.args.state.now s.args.ports s.args.streams s.requires.2)
 
 pub offset_bounds-state-at : goal.offset_bounds-state-at
 offset_bounds-state-at c =
@@ -39,7 +39,7 @@ bounds-state-at c =
 pub returns : goal.returns
 returns c =
     let s = c in
-    let l : length s.args.t2 ≡ 6 = search rules in
+    let l : length s.args.ports ≡ 6 = search rules in
     let u = c in
-    let e = used_list s.args.t2 s.args.streams s.requires.0.most l in
+    let e = used_list s.args.ports s.args.streams s.requires.0.most l in
     rw (c.execute.ensures, u.used_words-words.ensures, u.word-f.ensures.0, e)

@@ -23,7 +23,7 @@ bounds-out-s c = omega (arith, c.requires.most)
 pub loop-s-preserved : goal.loop-s-preserved
 loop-s-preserved c =
     let q = c in
-    let f = used_in q.args.t1 in
+    let f = used_in q.args.ports in
     (omega arith, rw (c.used.ensures, q.loop-s.invariant.1) (sym (fill_step f q.loop-s.s (replicate 6 0))))
 
 pub returns : goal.returns

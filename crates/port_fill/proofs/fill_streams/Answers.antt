@@ -39,7 +39,7 @@ elements_in-first-requires c =
     (s.requires.0.described.few, s.requires.1, c.loop-i.invariant.0)
 
 -- stream i is one of six
-stream_lt : (c : goal.After-elements_in-first invariant_loop decreases_loop) → c.loop-i.i < 6
+stream_lt : (c : goal.After-elements_in-first) → c.loop-i.i < 6
 stream_lt c =
     let s = c in
     omega (arith, c.loop-i-test.true, six s.args.v.description s.requires.0.described)

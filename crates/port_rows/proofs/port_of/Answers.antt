@@ -40,5 +40,5 @@ returns c =
     port_row_lem s.args.g s.requires.0.near u.end_at-sent.result
     (u.end_at-sent.ensures.0 ∙ ap (end_index s.args.g) u.pipe_number.ensures.0)
     c.port_at.ensures.0
-    c.Before-of.ensures
+    c.before_of.ensures
     u.link_of-link.ensures.0 u.link_of-link.ensures.1 refl refl c.soak_of.ensures refl s.requires.1 c.keeps.ensures

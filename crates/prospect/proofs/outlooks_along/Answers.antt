@@ -35,7 +35,7 @@ outlook_of-requires c =
     )
 
 -- stream i is one of six
-stream_lt : (c : goal.After-outlook_of invariant_loop decreases_loop) → c.loop-i.i < 6
+stream_lt : (c : goal.After-outlook_of) → c.loop-i.i < 6
 stream_lt c =
     let s = c in
     omega (arith, c.loop-i-test.true, s.requires.0.sized.most_streams)

@@ -26,7 +26,7 @@ answer_to-a-requires c =
     )
 
 -- stream i is one in use, and its outlook was read
-module _ (c : goal.After-answer_to-a invariant_loop decreases_loop) where
+module _ (c : goal.After-answer_to-a) where
   in_use : c.loop-i.i < length (used c.args.p)
   in_use =
       let s = c in omega (arith, c.loop-i-test.true, used_length s.args.p)

@@ -32,7 +32,7 @@ stream_refusal-r-requires c =
     )
 
 -- what is answered of stream i, by its nest and itself and not by its flow
-answered : (c : goal.After-stream_refusal-r invariant_loop decreases_loop)
+answered : (c : goal.After-stream_refusal-r)
     → let s = c.args in
     let i = c.loop-i.i in
     c.stream_refusal-r.result

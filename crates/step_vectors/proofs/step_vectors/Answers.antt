@@ -14,7 +14,7 @@ use Rattle.step_vectors.proofs.step_vectors.Goals as goal
 -- a call that is not declined
 module _ (c : goal.Then-refusal-eq0) where
   none : let l = c in
-      let a = l.args in refusal (vector_tests l.Limits-of.result a.s.now a.k) ≡ 0
+      let a = l.args in refusal (vector_tests l.limits_of-limits.result a.s.now a.k) ≡ 0
   none = sym c.survey_of-v.ensures.refusal_is ∙ c.if-refusal-eq0.true
 
   own : Own (description_of c.args.s.now) c.survey_of-v.result
@@ -24,8 +24,8 @@ pub prospect_of-p-requires : goal.prospect_of-p-requires
 prospect_of-p-requires c =
     let l = c in
     let a = l.args in
-    let u = l.Limits-of.ensures.1 in
-    (laid l.Limits-of.result a.s.now a.k a.counts.now (none c) u (own c), u)
+    let u = l.limits_of-limits.ensures.1 in
+    (laid l.limits_of-limits.result a.s.now a.k a.counts.now (none c) u (own c), u)
 
 pub tally-requires : goal.tally-requires
 tally-requires c =
@@ -33,7 +33,7 @@ tally-requires c =
     let l = t in
     let a = l.args in
     subst (Tallying c.prospect_of-p.result a.k) (sym (loops_are a.s.now (own t)))
-    (tallying l.Limits-of.result a.s.now a.k a.counts.now (none t) (own t) c.prospect_of-p.ensures)
+    (tallying l.limits_of-limits.result a.s.now a.k a.counts.now (none t) (own t) c.prospect_of-p.ensures)
 
 pub returns-then-refusal-eq0 : goal.returns-then-refusal-eq0
 returns-then-refusal-eq0 c =
@@ -44,8 +44,8 @@ returns-then-refusal-eq0 c =
     let s = a.s.now in
     let lent = a.counts.now in
     subst (λ (l : Limits). (Done ≡ (step_vectors l s a.k lent).answer) × (c.tally.result ≡ (step_vectors l s a.k lent).counts))
-    l.Limits-of.ensures.0
-    (counted_call l.Limits-of.result s a.k lent (none t) (own t) p.prospect_of-p.ensures
+    l.limits_of-limits.ensures.0
+    (counted_call l.limits_of-limits.result s a.k lent (none t) (own t) p.prospect_of-p.ensures
     (c.tally.ensures ∙ ap (tally_of p.prospect_of-p.result a.k) (loops_are a.s.now (own t))))
 
 pub returns-else-refusal-eq0 : goal.returns-else-refusal-eq0
@@ -58,5 +58,5 @@ returns-else-refusal-eq0 c =
     subst
     (λ (l : Limits). (Refused v.survey_of-v.result.refusal ≡ (step_vectors l s a.k lent).answer)
     × (lent ≡ (step_vectors l s a.k lent).counts))
-    l.Limits-of.ensures.0
-    (declined_call l.Limits-of.result s a.k lent v.survey_of-v.ensures.refusal_is c.if-refusal-eq0.false)
+    l.limits_of-limits.ensures.0
+    (declined_call l.limits_of-limits.result s a.k lent v.survey_of-v.ensures.refusal_is c.if-refusal-eq0.false)

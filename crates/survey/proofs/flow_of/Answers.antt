@@ -33,7 +33,7 @@ stride_of-requires c =
     let w = c in
     let p = w.requires in (
       subst Spanning (sym p.1.space_is) (box_spanning p.0.nest p.0.nest.place),
-      w.Way-of.ensures.1,
+      w.way_of-way.ensures.1,
     )
 
 pub returns : goal.returns
@@ -54,7 +54,7 @@ returns c =
     let on = l.line_of-short.ensures.0 in
     let across = a.image_of-across.ensures.0 ∙ ap (image n.place) on in
     let still = z.zero2-stationary.ensures ∙ ap (λ (v : V2). eq2 v zero2) across in
-    let way = w.Way-of.ensures.0 ∙ ap₂ (λ (b : Bool) (v : V2). cond b r.loading v) still across in
+    let way = w.way_of-way.ensures.0 ∙ ap₂ (λ (b : Bool) (v : V2). cond b r.loading v) still across in
     let pass = i.image_of-pass.ensures.0 ∙ ap (image r.map) s.requires.1.increment_is in
     let weighs = ap₂ (λ (k : Box) (v : V2). weigh k v.a v.b) s.requires.1.space_is way in
     record {
@@ -68,7 +68,7 @@ returns c =
       space_is = s.requires.1.space_is;
       elements_is = e.extent_of.ensures.0;
       way_is = way;
-      way_small = w.Way-of.ensures.1;
+      way_small = w.way_of-way.ensures.1;
       back_is = b.opposite.ensures.0 ∙ ap neg2 way;
       pass_is = pass;
       pass_small = i.image_of-pass.ensures.1;

@@ -22,7 +22,7 @@ flow_of-requires c =
     (in_range_lem p.0.nest (rw (← c.stream.ensures) at (p.0.streams i)), p.1)
 
 -- stream i is one of six
-stream_lt : (c : goal.After-flow_of invariant_loop decreases_loop) → c.loop-i.i < 6
+stream_lt : (c : goal.After-flow_of) → c.loop-i.i < 6
 stream_lt c =
     let s = c in
     omega (arith, c.loop-i-test.true, s.requires.0.sized.most_streams)
