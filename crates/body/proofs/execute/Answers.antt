@@ -12,10 +12,7 @@ run_lines-requires c = fit_six c.requires.lines
 
 pub returns : goal.returns
 returns c =
-    let l = c in
-    let g = l in
-    let s = g in
     c.scatter.ensures
-    ∙ ap (scatter s.args.store.now s.args.places.now)
-    (l.run_lines.ensures ∙ ap (run_lines s.args.x (take s.args.count s.args.lines)) g.gather-registers.ensures)
-    ∙ execute_registers s.args.x s.args.count s.args.lines s.args.store.now s.args.places.now s.requires.lines
+    ∙ ap (scatter c.args.store.now c.args.places.now)
+    (c.run_lines.ensures ∙ ap (run_lines c.args.x (take c.args.count c.args.lines)) c.gather-registers.ensures)
+    ∙ execute_registers c.args.x c.args.count c.args.lines c.args.store.now c.args.places.now c.requires.lines

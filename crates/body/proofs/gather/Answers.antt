@@ -21,13 +21,10 @@ bounds-store-place c = c.requires.within _ c.loop-i-test.true
 
 pub loop-i-preserved : goal.loop-i-preserved
 loop-i-preserved c =
-    let q = c in
-    let s = q in
-    let next = gather_next s.args.store.now s.args.places.now q.loop-i.i c.loop-i-test.true
-    s.requires.streams in
-    (omega arith, rw q.loop-i.invariant.1 next)
+    let next = gather_next c.args.store.now c.args.places.now c.loop-i.i c.loop-i-test.true
+    c.requires.streams in
+    (omega arith, rw c.loop-i.invariant.1 next)
 
 pub returns : goal.returns
 returns c =
-    let q = c in
-    q.loop-i.invariant.1 ∙ gather_end q.args.store.now q.args.places.now q.loop-i.i (omega arith)
+    c.loop-i.invariant.1 ∙ gather_end c.args.store.now c.args.places.now c.loop-i.i (omega arith)

@@ -146,8 +146,7 @@ loop-i-preserved c =
 pub returns : goal.returns
 returns c =
     let l = c.loop-i in
-    let s = c in
-    let a = s.args in
+    let a = c.args in
     let k = (counted_by c.requires.bounded c.requires.rows c.requires.box c.form_of-form.ensures c.turns_of-turns.ensures c.strides_of-strides.ensures.0
       (start_word c.requires.bounded c.requires.rows c.requires.box c.form_of-form.ensures c.corner-first.ensures.0 c.number_by-number.ensures).1
       c.strides_of-strides.ensures.1) in
@@ -156,4 +155,4 @@ returns c =
     l.invariant.4 (number_at a.n a.m) k.agrees
     ∙ ap (λ (k : ℕ). fill_by (number_at a.n a.m) k a.out.now)
     (l.invariant.3 ∙ ap (λ (i : ℕ). i * (t.middle * t.inner)) e ∙ sym k.whole)
-    ∙ fill_list (λ x. row_index (box_of a.n a.m) (image a.m x)) (instances a.n) zero3 0 _ s.requires.room
+    ∙ fill_list (λ x. row_index (box_of a.n a.m) (image a.m x)) (instances a.n) zero3 0 _ c.requires.room

@@ -15,16 +15,15 @@ pub bounds-ports-s : goal.bounds-ports-s
 bounds-ports-s c = omega (arith, c.requires.most)
 
 pub used-requires : goal.used-requires
-used-requires c = let q = c in q.requires.small q.loop-s.s c.loop-s-test.true
+used-requires c = c.requires.small c.loop-s.s c.loop-s-test.true
 
 pub bounds-out-s : goal.bounds-out-s
 bounds-out-s c = omega (arith, c.requires.most)
 
 pub loop-s-preserved : goal.loop-s-preserved
 loop-s-preserved c =
-    let q = c in
-    let f = used_in q.args.ports in
-    (omega arith, rw (c.used.ensures, q.loop-s.invariant.1) (sym (fill_step f q.loop-s.s (replicate 6 0))))
+    let f = used_in c.args.ports in
+    (omega arith, rw (c.used.ensures, c.loop-s.invariant.1) (sym (fill_step f c.loop-s.s (replicate 6 0))))
 
 pub returns : goal.returns
-returns c = let q = c in fill_done _ _ _ _ q.loop-s.invariant.1 (omega arith)
+returns c = fill_done _ _ _ _ c.loop-s.invariant.1 (omega arith)

@@ -10,5 +10,4 @@ open_within-requires c =
 
 pub returns : goal.returns
 returns c =
-    let o = c in
-    (by_limits o.limits_of-limits.ensures.0 o.open_within.ensures.0, o.open_within.ensures.1)
+    (by_limits c.limits_of-limits.ensures.0 c.open_within.ensures.0, c.open_within.ensures.1)

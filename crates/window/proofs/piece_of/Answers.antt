@@ -12,11 +12,10 @@ piece_within-requires c = c.limits_of.ensures.1
 
 pub returns : goal.returns
 returns c =
-    let b = c in
-    let a = b.args in
+    let a = c.args in
     let d = description_of a.s.now in
     let e = c.piece_within.ensures in (
       e.0 ∙ ap (λ (l : Limits). piece_of d a.pipe (refused_by l a.s.now (own_tests d a.pipe a.side a.waiting a.received)))
-          b.limits_of.ensures.0,
+          c.limits_of.ensures.0,
       e.1,
     )
