@@ -1,7 +1,6 @@
 -- `body::execute` meets its contract: both scratch registers are zero at the start, and no line reaches past them. Assumes nothing.
 use mathlib.Core.Path.{◌∙◌, ap}
 use lib.ListN.{take}
-use borrow.Author.Rules.{rules}
 use Rattle.meaning.specs.Body.{run_lines, scatter}
 use Rattle.body.specs.Fit.{fit_six}
 use Rattle.body.specs.Execute.{execute_registers}

@@ -1,10 +1,7 @@
 -- `body::gather` meets its contract: after i turns the first i values are in the registers. Assumes nothing.
-use mathlib.Core.Path.{◌≡◌, refl, ◌∙◌}
-use Prim.Native.Nat.{◌≤◌, ◌-◌}
+use mathlib.Core.Path.{refl, ◌∙◌}
 use native.Mathlib.Omega.{arith}
-use lib.ListN.{length}
-use borrow.Author.Rules.{rules}
-use Rattle.body.specs.Store.{gathered, gather_next, gather_end}
+use Rattle.body.specs.Store.{gather_next, gather_end}
 use Rattle.body.proofs.gather.Goals as goal
 
 pub loop-i-init : goal.loop-i-init

@@ -1,8 +1,8 @@
 -- `body::run_lines` meets its contract: after i turns the first i lines have run. Assumes nothing.
 use mathlib.Core.Path.{◌≡◌, refl, sym, ◌∙◌, ap}
-use Prim.Native.Nat.{◌<◌, ◌≤◌, ◌-◌}
+use Prim.Native.Nat.{◌<◌}
 use native.Mathlib.Omega.{arith}
-use lib.ListN.{length, get_or, take}
+use lib.ListN.{length, get_or}
 use borrow.Author.Rules.{rules}
 use Rattle.meaning.specs.Body.{run_line, run_lines}
 use Rattle.meaning.specs.Description.{no_line}

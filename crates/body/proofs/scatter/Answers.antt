@@ -1,10 +1,9 @@
 -- `body::scatter` meets its contract: what is left from turn i on gives the whole. Assumes nothing.
 use mathlib.Core.Path.{◌≡◌, refl, sym, ◌∙◌}
-use Prim.Native.Nat.{◌≤◌, ◌<◌, ◌-◌}
+use Prim.Native.Nat.{◌<◌}
 use native.Mathlib.Omega.{arith}
-use lib.ListN.{length, drop, length-set}
+use lib.ListN.{length, length-set}
 use borrow.Author.Rules.{rules}
-use Rattle.meaning.specs.Body.{scatter}
 use Rattle.body.specs.Store.{scatter_next, scatter_end}
 use Rattle.body.proofs.scatter.Goals as goal
 

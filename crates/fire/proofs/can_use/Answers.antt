@@ -1,5 +1,4 @@
 -- `fire::can_use` meets its contract. Assumes nothing.
-use borrow.Author.Rules.{rules}
 use Rattle.fire.proofs.can_use.Goals as goal
 
 pub returns : goal.returns

@@ -10,11 +10,8 @@ use Rattle.integers.specs.Fill.{fill_by, fill_zero, fill_step, fill_past, fill_d
 use Rattle.meaning.specs.declared.Nest.{Nest}
 use Rattle.layout.specs.Codes.{code_of}
 use Rattle.layout.specs.Spans.{numbered}
+use Rattle.layout.proofs.fill_firsts.Invariants.{code_in}
 use Rattle.layout.proofs.fill_firsts.Goals as goal
-
--- the code of process p by the words lent
-abbrev code_in : Nest → List ℕ → ℕ → ℕ
-code_in n firsts p = code_of (numbered n (get_or firsts p 0))
 
 -- what the loop has not come to is as it was lent
 kept : (n : Nest) (firsts₀ : List ℕ) {firsts : List ℕ} (p : ℕ) → firsts ≡ fill_by (code_in n firsts₀) p firsts₀

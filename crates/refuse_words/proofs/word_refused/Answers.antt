@@ -25,7 +25,7 @@ loop-k-init c = refl
 pub returns-then-not-in_range : goal.returns-then-not-in_range
 returns-then-not-in_range c =
     answer _ _ c.line_at-words.ensures.0
-    (sym (every_stop _ _ _ (omega arith) (sym c.in_range.ensures ∙ not-true _ c.if-not-in_range.true)) ∙ c.loop-k.invariant)
+    (sym (every_stop _ _ _ (omega arith) (sym c.in_range.ensures ∙ c.if-not-in_range.true)) ∙ c.loop-k.invariant)
 
 pub overflow_add-k : goal.overflow_add-k
 overflow_add-k c = omega arith
@@ -35,7 +35,7 @@ loop-k-smaller c = omega arith
 
 pub loop-k-preserved : goal.loop-k-preserved
 loop-k-preserved c =
-    sym (every_turn _ _ _ (omega arith) (sym c.in_range.ensures ∙ not-false _ c.if-not-in_range.false))
+    sym (every_turn _ _ _ (omega arith) (sym c.in_range.ensures ∙ c.if-not-in_range.false))
     ∙ c.loop-k.invariant
 
 pub returns : goal.returns
