@@ -12,7 +12,7 @@ use Rattle.meaning.specs.declared.Description.{Description}
 use Rattle.meaning.specs.Space.{row_index, space, processes}
 use Rattle.meaning.specs.Streams.{move}
 use Rattle.meaning.specs.Pipes.{reach, pipe, before, is_pipe, entries}
-use Rattle.meaning.specs.Description.{streams_of, stream_at}
+use Rattle.meaning.specs.Description.{streams_of}
 use Rattle.meaning.specs.Array.{Stop, Array, array_of, stops_on, pipe_through, place_on}
 use Rattle.meaning.specs.State.{Taken, Given, Place, Sent, Received, End}
 use Rattle.meaning.specs.Rules.{process_on, stream_on, put_in, taken_out, link_place}
@@ -25,6 +25,7 @@ use Rattle.geometry.specs.Positions.{pipe_length, pipe_at_lem, pipe_next}
 use Rattle.geometry.specs.Elements.{entries_entry}
 use Rattle.geometry.specs.Descriptions.{Laid}
 use Rattle.geometry.specs.Wiring.{process_at, wired}
+use Rattle.geometry.specs.Arrays.{stream_at}
 use Rattle.addresses.specs.Pipes.{base, entry_at, stream_on_lem, stops_on_lem}
 use Rattle.addresses.specs.Through.{point_of, entry_number, pipe_index, entry_in, point_number, entry_lt, place_lt, process_at_lem}
 use Rattle.addresses.specs.Ports.{stop_at_lem, at_port, length_is}
@@ -100,13 +101,11 @@ module _ (d : Description) (i j : ℕ) (hi : i < length (streams_of d)) (hj : j 
 
     pub taken_beyond : taken_out B number k ≡ Received number
     taken_beyond =
-        ap (λ (b : Bool). cond b (Taken (process_on B number k) (stream_on B number)) (Received number))
-            (le-ltb k (stops_on B number) no_stop)
+        ap (λ (b : Bool). cond b (Taken (process_on B number k) (stream_on B number)) (Received number)) (le-ltb k (stops_on B number) no_stop)
 
     pub link_beyond : (x : ℕ) → link_place B number k x ≡ End number x
     link_beyond x =
-        ap (λ (b : Bool). cond b (Place (process_on B number k) (stream_on B number) x) (End number x))
-            (le-ltb k (stops_on B number) no_stop)
+        ap (λ (b : Bool). cond b (Place (process_on B number k) (stream_on B number) x) (End number x)) (le-ltb k (stops_on B number) no_stop)
 
 module _ {d : Description} (laid : Laid d) where
   abbrev n : Nest
@@ -177,8 +176,7 @@ module _ {d : Description} (laid : Laid d) where
 
     pub taken_last : reach (space n) (move n s) y ≡ 0 → taken_out A q (suc k) ≡ Received q
     taken_last z =
-        at_port laid p i hp hi on (λ q k. taken_out A q (suc k) ≡ Received q)
-            (taken_beyond d i j hi j_lt (suc (before n s y)) (none_next z))
+        at_port laid p i hp hi on (λ q k. taken_out A q (suc k) ≡ Received q) (taken_beyond d i j hi j_lt (suc (before n s y)) (none_next z))
 
     pub taken_next : 0 < reach (space n) (move n s) y → taken_out A q (suc k) ≡ Taken (row_index (space n) (on_of n s y)) i
     taken_next l =
