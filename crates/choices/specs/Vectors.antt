@@ -90,6 +90,7 @@ module _ (k : ℕ) where
   small_from : (r : ℕ) (v : List ℤ) → In v (vectors k r) → (length v ≡ r) × Small v
   unfolding vectors
   small_from zero v (here e) = (ap length e, λ x i. elim (subst (λ (w : List ℤ). In x w) e i) [ ])
+  small_from zero v (there i) = elim i [ ]
   small_from (suc r) v i =
       let x = each_in (λ e. map (λ v. e ∷ v) (vectors k r)) (entries k) i in
       let y = map_in (λ v. x.from ∷ v) (vectors k r) x.is in
