@@ -101,7 +101,8 @@ module _ (k : ℕ) where
             (subst (λ (w : List ℤ). In e w) y.is j),
       )
     where
-      member : {a : ℤ} {w : List ℤ} → Between (neg_ℤ (pos k)) (pos k) a → Small w → (e : ℤ) → In e (a ∷ w) → Between (neg_ℤ (pos k)) (pos k) e
+      member : {a : ℤ} {w : List ℤ} → Between (neg_ℤ (pos k)) (pos k) a → Small w → (e : ℤ) → In e (a ∷ w)
+          → Between (neg_ℤ (pos k)) (pos k) e
       member b s e (here p) = subst (Between (neg_ℤ (pos k)) (pos k)) (sym p) b
       member b s e (there j) = s e j
 
