@@ -10,6 +10,7 @@ use Rattle.bits.specs.Words.{marked}
 use Rattle.bits.specs.Ready.{marked_to, marked_none, marked_pass, marked_fail, marked_length}
 use Rattle.ready_words.specs.Moves.{moves_by}
 use Rattle.ready_words.proofs.mark_ready.Goals as goal
+use Rattle.ready_words.proofs.mark_ready.Goals.{then-can_move, else-can_move}
 
 pub loop-p-init : goal.loop-p-init
 loop-p-init c = (omega arith, sym (marked_none _ _))
@@ -35,11 +36,11 @@ loop-p-preserved c =
     let l = c.loop-p in
     let m = c.can_move.ensures in (
       omega (arith, c.loop-p-test.true),
-      ⊎_elim
-          (λ w. w.5 ∙ w.2.ensures ∙ ap (λ (words : List ℕ). marked words l.p) l.invariant.1
-          ∙ sym (marked_pass _ _ _ (sym m ∙ w.0.taken)))
-          (λ w. w.1 ∙ l.invariant.1 ∙ sym (marked_fail _ _ _ (sym m ∙ w.0.left)))
-          c.if-can_move.branch,
+      elim c.if-can_move.branch [
+        then-can_move w ↦ w.words-is ∙ w.mark.ensures ∙ ap (λ (words : List ℕ). marked words l.p) l.invariant.1
+            ∙ sym (marked_pass _ _ _ (sym m ∙ w.if-can_move.true))
+      | else-can_move w ↦ w.words-is ∙ l.invariant.1 ∙ sym (marked_fail _ _ _ (sym m ∙ w.if-can_move.false))
+      ],
     )
 
 pub shape_of-words : goal.shape_of-words
