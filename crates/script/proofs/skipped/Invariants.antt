@@ -1,6 +1,5 @@
 -- `script::skipped` is safe and ends. Assumes nothing.
 use Prim.Native.Nat.{◌≤◌}
-use borrow.Author.Rules.{rules}
 use Rattle.script.proofs.skipped.Given as goal
 
 abbrev pub invariant-loop-left : goal.invariant-loop-left

@@ -1,7 +1,6 @@
 -- `text::put_masks` is safe and ends. Assumes nothing.
 use Prim.Native.Nat.{◌-◌, ◌≤◌}
 use lib.ListN.{length}
-use borrow.Author.Rules.{rules}
 use Rattle.text.proofs.put_masks.Given as goal
 
 abbrev pub invariant-loop-i : goal.invariant-loop-i
