@@ -18,16 +18,16 @@ CLAUSE = re.compile(r"\b(?:requires|ensures)\b\s*\*?\s*(?:\w+\s*)?\{|\bghost\s+\
 
 # A lemma that would have its function's name gets _lem: these were spelled like the function already, in the files that a path here begins.
 LEMMAS = {
-    "count_at": ("addresses/specs", "port_fits/specs", "port_rows/specs", "wired/specs"),
+    "count_at": ("addresses/specs", "port_fits/specs", "port_rows/specs", "wired/specs", "guarantee/specs"),
     "ends_words": ("port_fill/specs",),
     "in_order": ("network/specs", "clockwork/specs", "step_order/specs"),
-    "list_length": ("geometry/specs/PipeOrder", "window/specs", "port_fits/specs", "start/specs", "result/specs", "wired/specs"),
+    "list_length": ("geometry/specs/PipeOrder", "window/specs", "port_fits/specs", "start/specs", "result/specs", "wired/specs", "guarantee/specs"),
     "move_down": ("network/specs/Links",),
     "no_line": ("decode/specs/Ranged",),
     "no_stream": ("decode/specs/Ranged",),
     "own_line": ("walk/",),
     "ready_call": ("bits/specs", "ready/specs"),
-    "runs_of": ("wired/specs/Instances", "addresses/specs/Ports"),
+    "runs_of": ("wired/specs/Instances", "guarantee/specs/Instances", "addresses/specs/Ports"),
     "word_count": ("addresses/specs", "port_fits/specs", "run_steps/specs"),
 }
 

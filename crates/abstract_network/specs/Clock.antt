@@ -1,7 +1,5 @@
 -- The due times of moving and of stationary pipes, and that they are a clock. Assumes nothing.
-use Rattle.std.specs.Prelude.{◌≡◌, cond, ltb}
-use Rattle.std.proofs.Math.Path.{refl}
-use Prim.Native.Nat.{ℕ, zero, suc, ◌+◌, ◌*◌, ◌-◌, ◌≤◌, ◌<◌}
+use Rattle.std.specs.Prelude.{◌≡◌, cond, ℕ, suc, ◌+◌, ◌*◌, ◌-◌, ◌≤◌, ◌<◌, ltb}
 use Rattle.std.proofs.Math.Nat.{le_refl, mul-le-mul_left, mul-le-mul_right}
 use native.Mathlib.Omega.{arith}
 use Rattle.std.proofs.Common.{lt-ltb, le-ltb}
@@ -14,12 +12,11 @@ use Rattle.abstract_network.specs.Due.{Occurs, Clock}
 unfoldable pub base : (T n k j : ℕ) → ℕ
 base T n k j = cond (ltb j n) (2 * k + 2 * j) (T + 2 * k + 2 * (j - n))
 
--- which of the two
-pub data Base (T n k j : ℕ) : Type 0 where
+data Base (T n k j : ℕ) : Type 0 where
   load : j < n → base T n k j ≡ 2 * k + 2 * j → Base T n k j
   recover : n ≤ j → base T n k j ≡ T + 2 * k + 2 * (j - n) → Base T n k j
 
-pub based : (T n k j : ℕ) → Base T n k j
+based : (T n k j : ℕ) → Base T n k j
 unfolding base
 based T n k j = go (order j n)
   where
@@ -55,7 +52,7 @@ module _ (N : Net) (σ T : ℕ) (time : ℕ → ℕ → ℕ) where
         (kind q k)) → Timing q
     stationary : (rank : ℕ → ℕ) → hop q ≡ 1 → 2 * elements q ≤ T → ((k : ℕ) → k < stops q
         → Rest (elements q) (count (process q k)) (rank k) (rank (suc k)) (kind q k))
-        → ((k m : ℕ) → k < stops q → m < count (process q k) → (2 * stops q + 2 * elements q ≤ 3 * time (process q k) m) ×
+        → ((k m : ℕ) → k < stops q → m < count (process q k) → (2 * stops q + 2 * elements q < 3 * time (process q k) m) ×
         (3 * time (process q k) m + 1 < T))
         → Timing q
     -- no such pipe
@@ -126,37 +123,6 @@ module _ (N : Net) (σ T : ℕ) (time : ℕ → ℕ → ℕ) where
       soon : (m : ℕ) → m < t → Base T n k (r + 0) → suc (base T n k (r + 0)) < 3 * time m + 1
       soon m l (load l' e') = omega (arith, (u m l).0)
       soon m l (recover l' e') = absurd (omega arith)
-
-  -- where a process fires once at a time, its later firings are no earlier
-  pub paced_rises : ((p m : ℕ) → suc m < count p → time p m < time p (suc m)) → (p i j : ℕ) → i ≤ j → j < count p → time p i ≤ time p j
-  paced_rises paced p i zero l h = let e : i ≡ 0 = omega arith in rw e (le_refl (time p 0))
-  paced_rises paced p i (suc j) l h = go (order i (suc j)) (λ o. paced_rises paced p i j o (omega arith))
-    where
-      go : Order i (suc j) → (i ≤ j → time p i ≤ time p j) → time p i ≤ time p (suc j)
-      go (less o) ih = omega (arith, ih (omega arith), paced p j h)
-      go (at_least o) ih = let e : i ≡ suc j = omega arith in rw e (le_refl (time p (suc j)))
-
-  -- and the occurrences of every step are due one after the other
-  module _ (one : 0 < σ) (timing : (q : ℕ) → Timing q) (paced : (p m : ℕ) → suc m < count p → time p m < time p (suc m)) where
-    put_next : {q : ℕ} (t : Timing q) (k i : ℕ) → i < elements q → due_put t k i < due_put t k (suc i)
-    unfolding due_put
-    put_next (moving θ z f) k i h = omega arith
-    put_next {q} (stationary rank z g f u) k i h =
-        omega (arith, base_le T (elements q) k (rank k + i) k (rank k + suc i) 1 g (omega arith) (omega arith))
-    put_next (none e z) k i h = absurd (omega arith)
-
-    get_next : {q : ℕ} (t : Timing q) (k i : ℕ) → i < elements q → due_get t k i < due_get t k (suc i)
-    unfolding due_get
-    get_next (moving θ z f) k i h = omega arith
-    get_next {q} (stationary rank z g f u) k i h =
-        omega (arith, base_le T (elements q) k (rank k + i) k (rank k + suc i) 1 g (omega arith) (omega arith))
-    get_next (none e z) k i h = absurd (omega arith)
-
-    pub strict : (a : Step) (i : ℕ) → Occurs N a (suc i) → due timing a i < due timing a (suc i)
-    unfolding due
-    strict (put q k) i (l, h) = put_next (timing q) k i (omega arith)
-    strict (get q k) i (l, h) = get_next (timing q) k i (omega arith)
-    strict (fire p) i h = omega (arith, paced p i h)
 
   module _ (one : 0 < σ) (timing : (q : ℕ) → Timing q) (mono : (p i j : ℕ) → i ≤ j → j < count p → time p i ≤ time p j) where
     put_rises : {q : ℕ} (t : Timing q) (k i j : ℕ) → i ≤ j → due_put t k i ≤ due_put t k j
@@ -231,8 +197,3 @@ module _ (N : Net) (σ T : ℕ) (time : ℕ → ℕ → ℕ) where
           places = λ q k i l h. place (timing q) k i h;
           clocked = λ q k l. clocks (timing q) k l;
         }
-
-    -- with those due times
-    pub clock_due : (a : Step) (i : ℕ) → clock.due a i ≡ due timing a i
-    unfolding clock
-    clock_due a i = refl

@@ -12,27 +12,18 @@ module _ {A : Type 0} (Occurs : A → ℕ → Type 0) (due : A → ℕ → ℕ) 
     pub undone : c by ≤ at
     pub earlier : due by at < d
 
-  -- a step that is ready, its next occurrence due no later than d
-  pub record Ripe (Ready : A → Type 0) (d : ℕ) : Type 0 where
-    pub by : A
-    pub ready : Ready by
-    pub occurs : Occurs by (c by)
-    pub soon : due by (c by) ≤ d
-
   module _ (down : (a : A) (i j : ℕ) → i ≤ j → Occurs a j → Occurs a i) (rises : (a : A) (i j : ℕ) → i ≤ j → Occurs a j → due a i ≤ due a j)
       (Ready : A → Type 0) (judge : (a : A) → Occurs a (c a) → Ready a ⊎ Blocked (due a (c a))) where
     -- from any step that has an occurrence left one comes to a ready one
-    pub descend : (a : A) → Occurs a (c a) → Ripe Ready (due a (c a))
+    pub descend : (a : A) → Occurs a (c a) → (b : A) × Ready b
     descend a h = go (suc (due a (c a))) a (le_refl _) h
       where
-        go : (fuel : ℕ) (a : A) → due a (c a) < fuel → Occurs a (c a) → Ripe Ready (due a (c a))
+        go : (fuel : ℕ) (a : A) → due a (c a) < fuel → Occurs a (c a) → (b : A) × Ready b
         go zero a f h = absurd (omega arith)
         go (suc fuel) a f h = step (judge a h) (go fuel)
           where
-            step : Ready a ⊎ Blocked (due a (c a)) → ((b : A) → due b (c b) < fuel → Occurs b (c b) → Ripe Ready (due b (c b)))
-                → Ripe Ready (due a (c a))
-            step (inl r) k = record { by = a; ready = r; occurs = h; soon = le_refl _ }
+            step : Ready a ⊎ Blocked (due a (c a)) → ((b : A) → due b (c b) < fuel → Occurs b (c b) → (b : A) × Ready b) → (b : A) × Ready b
+            step (inl r) k = (a, r)
             step (inr w) k =
                 let u = rises w.by (c w.by) w.at w.undone w.occurs in
-                let r = k w.by (omega (arith, w.earlier)) (down w.by (c w.by) w.at w.undone w.occurs) in
-                record { by = r.by; ready = r.ready; occurs = r.occurs; soon = omega (arith, r.soon, w.earlier) }
+                k w.by (omega (arith, w.earlier)) (down w.by (c w.by) w.at w.undone w.occurs)

@@ -2,7 +2,7 @@
 use Rattle.std.specs.Prelude.{◌≡◌, ◌⊎◌, ℕ, zero, suc, ◌+◌, ◌-◌, ◌≤◌, ◌<◌}
 use Rattle.std.proofs.Common.{sym, subst, subst₂, inl, inr, le_refl, arith}
 use Rattle.abstract_network.specs.Cases.{Order, less, at_least, order}
-use Rattle.abstract_network.specs.Descent.{Blocked, Ripe, descend}
+use Rattle.abstract_network.specs.Descent.{Blocked, descend}
 use Rattle.abstract_network.specs.Counters.{Kind, Shape, AtStop, Hand, Offer, soaked, drained, used, passed, kept, Use, Step, put}
 use Rattle.abstract_network.specs.Counters.{get, fire}
 use Rattle.abstract_network.specs.Counters.{Counts, Net, At, Guard, Inv, get_elements, below_head}
@@ -165,13 +165,9 @@ module _ (N : Net) where
         go (inl f) = inl (h, spread f)
         go (inr w) = inr w
 
-    -- where some step has an occurrence left, some step that is due no later is ready
-    pub ripe : (a : Step) → Occurs a (c a) → Ripe Occurs due c (λ b. Guard N c b) (due a (c a))
-    ripe = descend Occurs due c down C.rises (λ b. Guard N c b) judge
-
     -- progress: where some step has an occurrence left, some step is ready
     pub progress : (a : Step) → Occurs a (c a) → (b : Step) × Guard N c b
-    progress a o = let r = ripe a o in (r.by, r.ready)
+    progress = descend Occurs due c down C.rises (λ b. Guard N c b) judge
 
     -- in time: where all that is due earlier is done, a step is ready
     pub in_time : (a : Step) → Occurs a (c a) → ((b : Step) (j : ℕ) → Occurs b j → due b j < due a (c a) → j < c b) → Guard N c a

@@ -6,7 +6,6 @@ pub mod Descent
 pub mod Waits
 pub mod Due
 pub mod Clock
-pub mod Schedule
 pub mod Values
 pub mod Turns
 pub mod Ranks
@@ -14,5 +13,4 @@ pub mod Words
 pub mod Firing
 pub mod System
 pub mod Good
-pub mod Same
 pub mod Claims

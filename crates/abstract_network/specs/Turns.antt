@@ -38,15 +38,6 @@ module _ (N : Net) (owner firing : ℕ → ℕ) where
   abbrev pub Fired : Counts → ℕ → Type 0
   Fired c i = firing i < c (fire (owner i))
 
-  -- where a later one has fired, an earlier one has
-  pub fired_before : {c : Counts} → Inv N c → (i i' : ℕ) → firing i < count (owner i) → Before i i' → Fired c i' → Fired c i
-  fired_before {c} I i i' h (sooner e l) f = omega (arith, ap (λ (p : ℕ). c (fire p)) e)
-  fired_before {c} I i i' h (upstream q k k' l l' e e' u u' j) f =
-      let a = along N I q k k' l (omega arith) in
-      let b = passing_of u (I.stop q k (omega arith)) in
-      let b' = passing_of u' (I.stop q k' l') in
-      omega (arith, ap (λ (p : ℕ). c (fire p)) e, ap (λ (p : ℕ). c (fire p)) e', ap (λ (p : ℕ). count p) e, b.low, b'.high)
-
   module _ {c : Counts} (I : Inv N c) (i : ℕ) (g : Guard N c (fire (owner i))) (now : firing i ≡ c (fire (owner i))) where
     -- earlier ones have fired
     has_fired : (i' : ℕ) → firing i' < count (owner i') → Before i' i → Fired c i'
@@ -58,8 +49,13 @@ module _ (N : Net) (owner firing : ℕ → ℕ) where
         omega (arith, ap (λ (p : ℕ). c (fire p)) e, ap (λ (p : ℕ). c (fire p)) e', ap (λ (p : ℕ). count p) e, b.low)
 
     -- later ones have not
-    not_fired : (i' : ℕ) → Before i i' → Fired c i' → ⊥
-    not_fired i' b f = omega (arith, fired_before I i i' (omega (arith, g.0)) b f)
+    not_fired : (i' : ℕ) → firing i' < count (owner i') → Before i i' → Fired c i' → ⊥
+    not_fired i' h (sooner e l) f = omega (arith, ap (λ (p : ℕ). c (fire p)) e)
+    not_fired i' h (upstream q k k' l l' e e' u u' j) f =
+        let a = along N I q k k' l (omega arith) in
+        let b = passing_of u' (I.stop q k' l') in
+        let d = hand_of u (g.1 q k (omega arith) e) in
+        omega (arith, ap (λ (p : ℕ). c (fire p)) e, ap (λ (p : ℕ). c (fire p)) e', b.high)
 
     module _ (instances : ℕ) (touched : ℕ → ℕ → ℕ) (s : ℕ) (hi : i < instances) (own : (i : ℕ) → i < instances → firing i < count (owner i))
         (meets : (i i' : ℕ) → i < i' → i' < instances → touched i s ≡ touched i' s → Before i i') where
@@ -70,7 +66,7 @@ module _ (N : Net) (owner firing : ℕ → ℕ) where
         where
           go : Order i' i → Order i i' → (Fired c i' → i' < i) × (i' < i → Fired c i')
           go (less l) o = (λ f. l, λ l. has_fired i' (own i' h) (meets i' i l hi e))
-          go (at_least l) (less o) = (λ f. absurd (not_fired i' (meets i i' o h (sym e)) f), λ l'. absurd (omega arith))
+          go (at_least l) (less o) = (λ f. absurd (not_fired i' (own i' h) (meets i i' o h (sym e)) f), λ l'. absurd (omega arith))
           go (at_least l) (at_least o) =
               let z : i' ≡ i = omega arith in
               (λ f. absurd (omega (arith, ap (λ (k : ℕ). c (fire (owner k))) z, ap firing z)), λ l'. absurd (omega arith))

@@ -11,8 +11,7 @@ use Rattle.abstract_network.specs.Cases.{Order, less, at_least, order, Equal, sa
 abbrev pub Store : Type 0
 Store = ℕ → ℕ → ℕ
 
--- true, or not
-pub known : (b : Bool) → Dec (b ≡ true)
+known : (b : Bool) → Dec (b ≡ true)
 known true = yes refl
 known false = no (λ e. let z : ◌≡◌ {A = ℕ} 0 1 = cc in omega arith)
 

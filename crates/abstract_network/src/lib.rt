@@ -5,17 +5,13 @@
 //               done
 //   Sound       what is asked of any state; `sound-step`: every granted step keeps it; `inv-sound`: the invariant implies it
 //   Waits, Due, Descent, Clock
-//               what an occurrence waits for is due earlier; `progress`: some step is ready until all is out; `in-time`; the due times;
-//               `strict`: those of a step rise
-//   Schedule    a run by the clock: at time d what is due before d is done; `called-ready`: what is due at d may be granted, in any order;
-//               `settled`: where nothing due before d is ready, it is time d
+//               what an occurrence waits for is due earlier; `progress`: some step is ready until all is out; `in-time`; the due times
 //   Values      the value invariant; `valued-fire`; Turns: `in-turn`, the order of firings at a written element
 //   Ranks       the order in which elements pass a link; `apart`: every element is in one place
 //   Words, Firing
 //               what the words are by counters and values; `stored-move`, `stored-fire`: every granted step keeps that
 //   System, Good
 //               what geometry knows of a network; the invariant of demand 3, `good-step`
-//   Same        `same_Store`, `same-link`, `same-hand`, `same_kept`, `same_out`: the counters of a good state fix its values and words
 //   Claims      stretch, ready, finish for every reached state
 //
 // Cases is what these use.

@@ -12,7 +12,7 @@ use Rattle.meaning.specs.declared.Description.{Description}
 use Rattle.meaning.specs.Space.{row_index, space, processes}
 use Rattle.meaning.specs.Streams.{move}
 use Rattle.meaning.specs.Pipes.{reach, pipe, before, is_pipe, entries}
-use Rattle.meaning.specs.Description.{streams_of, stream_at}
+use Rattle.meaning.specs.Description.{streams_of}
 use Rattle.meaning.specs.Array.{Stop, Array, array_of, stops_on, pipe_through, place_on}
 use Rattle.meaning.specs.State.{Taken, Given, Place, Sent, Received, End}
 use Rattle.meaning.specs.Rules.{process_on, stream_on, put_in, taken_out, link_place}
@@ -25,6 +25,7 @@ use Rattle.geometry.specs.Positions.{pipe_length, pipe_at_lem, pipe_next}
 use Rattle.geometry.specs.Elements.{entries_entry}
 use Rattle.geometry.specs.Descriptions.{Laid}
 use Rattle.geometry.specs.Wiring.{process_at, wired}
+use Rattle.geometry.specs.Arrays.{stream_at}
 use Rattle.addresses.specs.Pipes.{base, entry_at, stream_on_lem, stops_on_lem}
 use Rattle.addresses.specs.Through.{point_of, entry_number, pipe_index, entry_in, point_number, entry_lt, place_lt, process_at_lem}
 use Rattle.addresses.specs.Ports.{stop_at_lem, at_port, length_is}

@@ -14,11 +14,12 @@ use Rattle.meaning.specs.Lists.{total}
 use Rattle.meaning.specs.Space.{processes}
 use Rattle.meaning.specs.Streams.{hop}
 use Rattle.meaning.specs.Pipes.{entries}
-use Rattle.meaning.specs.Description.{no_stream, streams_of, stream_at}
+use Rattle.meaning.specs.Description.{no_stream, streams_of}
 use Rattle.meaning.specs.Accept.{state_words}
 use Rattle.meaning.specs.Array.{runs, Array, array_of, process_count, stream_count}
 use Rattle.meaning.specs.State.{Firings, Taken, Sent, stride, process_start, index, word_count}
 use Rattle.lists.specs.Sums.{total_same, total_map_first, total_like, total_times}
+use Rattle.geometry.specs.Arrays.{stream_at}
 use Rattle.addresses.specs.Pipes.{base, before_from_lem, all_from}
 
 -- the words of a process and a stream, of a pipe, and of all pipes of a stream

@@ -11,13 +11,14 @@ use Rattle.meaning.specs.declared.Description.{Description}
 use Rattle.meaning.specs.Lists.{position}
 use Rattle.meaning.specs.Space.{row_index, box_of}
 use Rattle.meaning.specs.Pipes.{entries, pipe_elements}
-use Rattle.meaning.specs.Description.{streams_of, stream_at}
+use Rattle.meaning.specs.Description.{streams_of}
 use Rattle.meaning.specs.Body.{stream_start}
 use Rattle.meaning.specs.Array.{Pipe, Array, array_of, no_pipe, elements_on, pipe_order, part_start, list_length}
 use Rattle.lists.specs.Members.{map_at, each_length, each_part}
 use Rattle.lists.specs.Sums.{total_below}
 use Rattle.geometry.specs.Places.{distinct_at, position_is}
 use Rattle.geometry.specs.Descriptions.{Laid}
+use Rattle.geometry.specs.Arrays.{stream_at}
 use Rattle.geometry.specs.PipeOrder.{numbers_once}
 use Rattle.addresses.specs.Pipes.{base, entry_at, pipe_lt, pipe_at_lem, elements_on_lem}
 

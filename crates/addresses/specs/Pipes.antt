@@ -15,7 +15,7 @@ use Rattle.meaning.specs.Lists.{total}
 use Rattle.meaning.specs.Space.{row_index, box_of}
 use Rattle.meaning.specs.Streams.{hop, elements}
 use Rattle.meaning.specs.Pipes.{pipe, entries, pipe_elements}
-use Rattle.meaning.specs.Description.{no_stream, streams_of, stream_at}
+use Rattle.meaning.specs.Description.{no_stream, streams_of}
 use Rattle.meaning.specs.Body.{stream_start}
 use Rattle.meaning.specs.Array.{Pipe, stop_of, pipe_of, pipes_from, Array, array_of, pipe_number, no_pipe, pipe_at, stops_on, elements_on, part_start}
 use Rattle.meaning.specs.Rules.{stream_on}
@@ -23,7 +23,7 @@ use Rattle.lists.specs.Members.{map_at}
 use Rattle.lists.specs.Sums.{total_next, total_map_first, total_append, total_below, total_first, total_second, total_like}
 use Rattle.geometry.specs.Elements.{part_of, pipes_total}
 use Rattle.geometry.specs.Descriptions.{Laid}
-use Rattle.geometry.specs.Arrays.{pipe_count_lem}
+use Rattle.geometry.specs.Arrays.{stream_at, pipe_count_lem}
 
 -- the number of a stream's first pipe, by the streams before it
 abbrev pub entry_count : Nest → Stream → ℕ

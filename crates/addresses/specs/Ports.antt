@@ -12,7 +12,7 @@ use Rattle.meaning.specs.declared.Description.{Description}
 use Rattle.meaning.specs.Space.{space, processes, count, computing}
 use Rattle.meaning.specs.Streams.{stationary, move, hop}
 use Rattle.meaning.specs.Pipes.{reach, pipe, before, is_pipe, entries, pipe_elements}
-use Rattle.meaning.specs.Description.{streams_of, stream_at}
+use Rattle.meaning.specs.Description.{streams_of}
 use Rattle.meaning.specs.Array.{runs, Stop, Pipe, row_soak, stop_of, Array, array_of, runs_of, count_at, instance_at, no_stop, pipe_at, elements_on}
 use Rattle.meaning.specs.Array.{stop_at, pipe_through, place_on}
 use Rattle.meaning.specs.Rules.{process_on, stream_on}
@@ -24,6 +24,7 @@ use Rattle.geometry.specs.Positions.{pipe_length}
 use Rattle.geometry.specs.Elements.{entry_pipe, entry_is, entry_same}
 use Rattle.geometry.specs.Descriptions.{Laid}
 use Rattle.geometry.specs.Wiring.{process_at}
+use Rattle.geometry.specs.Arrays.{stream_at}
 use Rattle.addresses.specs.Pipes.{base, entry_at, pipe_at_lem, stream_on_lem, hop_on, elements_on_lem}
 use Rattle.addresses.specs.Through.{point_of, entry_number, pipe_index, point_inside, point_number, entry_lt, entry_is_at, place_lt}
 use Rattle.addresses.specs.Through.{process_at_lem, through_is, place_through}

@@ -12,7 +12,7 @@ use Rattle.meaning.specs.declared.Description.{Description}
 use Rattle.meaning.specs.Lists.{any}
 use Rattle.meaning.specs.Space.{row_index, space, processes, computing}
 use Rattle.meaning.specs.Pipes.{pipe, before, is_pipe, is_entry, entries}
-use Rattle.meaning.specs.Description.{streams_of, stream_at}
+use Rattle.meaning.specs.Description.{streams_of}
 use Rattle.meaning.specs.Body.{stream_start}
 use Rattle.meaning.specs.Array.{Stop, Pipe, stop_of, pipe_of, Array, array_of, pipe_number, no_pipe, no_stop, is_stop, pipe_through, on_pipe}
 use Rattle.meaning.specs.Array.{place_on}
@@ -28,7 +28,7 @@ use Rattle.geometry.specs.Positions.{before_is, pipe_length}
 use Rattle.geometry.specs.Elements.{entry_of, entry_is, entries_entry, entry_same, line_entry}
 use Rattle.geometry.specs.Descriptions.{Laid}
 use Rattle.geometry.specs.Wiring.{process_at, wired}
-use Rattle.geometry.specs.Arrays.{PipeIs, pipe_is, one_number, through, place_on_lem}
+use Rattle.geometry.specs.Arrays.{stream_at, PipeIs, pipe_is, one_number, through, place_on_lem}
 use Rattle.addresses.specs.Pipes.{base, entry_at, pipe_lt, pipe_at_lem}
 
 -- the point of a process

@@ -15,7 +15,7 @@ ghost use Rattle.meaning.specs.Accept.{accept};
 ghost use Rattle.meaning.specs.Rules.{memory_of};
 ghost use Rattle.meaning.specs.Answers.{accept_number, accept_values, answer_number, ran_number, ran_values, ready_number, ready_values};
 ghost use Rattle.meaning.specs.Answers.{made_number, made_values};
-ghost use Rattle.meaning.specs.Calls.{start, step, run, ready_call, window, result, plain_run};
+ghost use Rattle.meaning.specs.Calls.{start, step, run, ready_call, window, result as result_call, plain_run};
 ghost use Rattle.meaning.specs.Generator.{fill, make};
 ghost use Rattle.meaning.specs.StepVectors.{step_vectors};
 ghost use Rattle.table_words.specs.Words.{laid};
@@ -30,8 +30,8 @@ use meaning::Sizes;
 // ACCEPT: the six figures and the divisors of place and of the six streams, if it accepts.
 #[unsafe(no_mangle)]
 pub extern "C" fn beqlanosh_accept(board: u32, bytes: &[u8], figures: &mut [u32; 13]) -> u32
-    ensures* { λ r. ⌜ (r ≡ accept_number (accept (limits_of board) bytes.now))
-        × (figures.new ≡ or_kept (accept_values (accept (limits_of board) bytes.now)) figures.old) ⌝ }
+    ensures { (result ≡ accept_number (accept (limits_of board) bytes.now))
+        × (figures.new ≡ or_kept (accept_values (accept (limits_of board) bytes.now)) figures.old) }
 {
     let answer = accept::accept(board, bytes);
     answer_words::put_acceptance(answer, figures)
@@ -45,8 +45,8 @@ pub extern "C" fn beqlanosh_step_vectors(
     k: u32,
     counts: &mut [u32; 18],
 ) -> u32
-    ensures* { λ r. ⌜ (r ≡ answer_number (step_vectors (limits_of board) bytes.now k counts.old).answer)
-        × (counts.new ≡ (step_vectors (limits_of board) bytes.now k counts.old).counts) ⌝ }
+    ensures { (result ≡ answer_number (step_vectors (limits_of board) bytes.now k counts.old).answer)
+        × (counts.new ≡ (step_vectors (limits_of board) bytes.now k counts.old).counts) }
 {
     let answer = step_vectors::step_vectors(board, bytes, k, counts);
     answer_words::number_of(answer)
@@ -57,9 +57,9 @@ pub extern "C" fn beqlanosh_step_vectors(
 // TABLE: the rows, 21 words each; 18 if fewer fit than there are processes.
 #[unsafe(no_mangle)]
 pub extern "C" fn beqlanosh_table(board: u32, bytes: &[u8], words: &mut [u32]) -> u32
-    ensures* { λ r. ⌜ (r ≡ table_number (limits_of board) bytes.now (length words.old))
+    ensures { (result ≡ table_number (limits_of board) bytes.now (length words.old))
         × (words.new
-        ≡ laid (table_words (limits_of board) bytes.now (length words.old)) words.old) ⌝ }
+        ≡ laid (table_words (limits_of board) bytes.now (length words.old)) words.old) }
 {
     table_words::table_words(board, bytes, words)
 }
@@ -74,8 +74,8 @@ pub extern "C" fn beqlanosh_plain_run(
     values: &[u32],
     output: &mut [u32],
 ) -> u32
-    ensures* { λ r. ⌜ (r ≡ answer_number (plain_run (limits_of board) bytes.now values.now output.old).answer)
-        × (output.new ≡ (plain_run (limits_of board) bytes.now values.now output.old).output) ⌝ }
+    ensures { (result ≡ answer_number (plain_run (limits_of board) bytes.now values.now output.old).answer)
+        × (output.new ≡ (plain_run (limits_of board) bytes.now values.now output.old).output) }
 {
     let answer = plain::plain_run(board, bytes, values, output);
     answer_words::number_of(answer)
@@ -93,11 +93,11 @@ pub extern "C" fn beqlanosh_start(
     received: &mut [u32],
     state: &mut [u32],
 ) -> u32
-    ensures* { λ r. ⌜ (r ≡ answer_number (start (limits_of board) bytes.now values.now
+    ensures { (result ≡ answer_number (start (limits_of board) bytes.now values.now
         (memory_of waiting.old received.old state.old)).answer)
         × (memory_of waiting.new received.new state.new
         ≡ (start (limits_of board) bytes.now values.now
-        (memory_of waiting.old received.old state.old)).memory) ⌝ }
+        (memory_of waiting.old received.old state.old)).memory) }
 {
     let answer = start::start(board, bytes, values, waiting, received, state);
     answer_words::number_of(answer)
@@ -115,11 +115,11 @@ pub extern "C" fn beqlanosh_step(
     received: &mut [u32],
     state: &mut [u32],
 ) -> u32
-    ensures* { λ r. ⌜ (r ≡ answer_number (step (limits_of board) bytes.now kind number stream
+    ensures { (result ≡ answer_number (step (limits_of board) bytes.now kind number stream
         (memory_of waiting.now received.old state.old)).answer)
         × (memory_of waiting.now received.new state.new
         ≡ (step (limits_of board) bytes.now kind number stream
-        (memory_of waiting.now received.old state.old)).memory) ⌝ }
+        (memory_of waiting.now received.old state.old)).memory) }
 {
     let answer = step::step(board, bytes, kind, number, stream, waiting, received, state);
     answer_words::number_of(answer)
@@ -136,13 +136,13 @@ pub extern "C" fn beqlanosh_run(
     state: &mut [u32],
     answer: &mut [u32; 2],
 ) -> u32
-    ensures* { λ r. ⌜ (r ≡ ran_number (run (limits_of board) bytes.now steps
+    ensures { (result ≡ ran_number (run (limits_of board) bytes.now steps
         (memory_of waiting.now received.old state.old)).answer)
         × (memory_of waiting.now received.new state.new
         ≡ (run (limits_of board) bytes.now steps
         (memory_of waiting.now received.old state.old)).memory)
         × (answer.new ≡ or_kept (ran_values (run (limits_of board) bytes.now steps
-        (memory_of waiting.now received.old state.old)).answer) answer.old) ⌝ }
+        (memory_of waiting.now received.old state.old)).answer) answer.old) }
 {
     let ran = run::run(board, bytes, steps, waiting, received, state);
     answer_words::put_ran(ran, answer)
@@ -159,13 +159,13 @@ pub extern "C" fn beqlanosh_ready(
     state: &[u32],
     answer: &mut [u32; 2],
 ) -> u32
-    ensures* { λ r. ⌜ (r ≡ ready_number (ready_call (limits_of board) bytes.now words.old
+    ensures { (result ≡ ready_number (ready_call (limits_of board) bytes.now words.old
         (memory_of waiting.now received.now state.now)).answer)
         × (words.new ≡ (ready_call (limits_of board) bytes.now words.old
         (memory_of waiting.now received.now state.now)).words)
         × (answer.new
         ≡ or_kept (ready_values (ready_call (limits_of board) bytes.now words.old
-        (memory_of waiting.now received.now state.now)).answer) answer.old) ⌝ }
+        (memory_of waiting.now received.now state.now)).answer) answer.old) }
 {
     let found = ready::ready(board, bytes, words, waiting, received, state);
     answer_words::put_readiness(found, answer)
@@ -182,10 +182,10 @@ pub extern "C" fn beqlanosh_window(
     received: &[u32],
     answer: &mut [u32; 2],
 ) -> u32
-    ensures* { λ r. ⌜ (r ≡ (window (limits_of board) bytes.now pipe side waiting.now received.now).refusal)
+    ensures { (result ≡ (window (limits_of board) bytes.now pipe side waiting.now received.now).refusal)
         × (answer.new ≡ or_kept (window_values bytes.now pipe
         (window (limits_of board) bytes.now pipe side waiting.now received.now).refusal)
-        answer.old) ⌝ }
+        answer.old) }
 {
     let piece = window::piece_of(board, bytes, pipe, side, waiting.len(), received.len());
     let refusal = piece.refusal;
@@ -205,10 +205,10 @@ pub extern "C" fn beqlanosh_result(
     received: &[u32],
     state: &[u32],
 ) -> u32
-    ensures* { λ r. ⌜ (r ≡ answer_number (result (limits_of board) bytes.now output.old
+    ensures { (result ≡ answer_number (result_call (limits_of board) bytes.now output.old
         (memory_of waiting.now received.now state.now)).answer)
-        × (output.new ≡ (result (limits_of board) bytes.now output.old
-        (memory_of waiting.now received.now state.now)).output) ⌝ }
+        × (output.new ≡ (result_call (limits_of board) bytes.now output.old
+        (memory_of waiting.now received.now state.now)).output) }
 {
     let answer = result::result(board, bytes, output, waiting, received, state);
     answer_words::number_of(answer)
@@ -219,8 +219,8 @@ pub extern "C" fn beqlanosh_result(
 // FILL: the first n places get the states after rounds 1 to n from the seed.
 #[unsafe(no_mangle)]
 pub extern "C" fn beqlanosh_fill(seed: u32, n: usize, list: &mut [u32]) -> u32
-    ensures* { λ r. ⌜ (r ≡ answer_number (fill seed n list.old).answer)
-        × (list.new ≡ (fill seed n list.old).list) ⌝ }
+    ensures { (result ≡ answer_number (fill seed n list.old).answer)
+        × (list.new ≡ (fill seed n list.old).list) }
 {
     let answer = fill::fill(seed, n, list);
     answer_words::number_of(answer)
@@ -236,10 +236,10 @@ pub extern "C" fn beqlanosh_make(
     output: &mut [u8],
     answer: &mut [u32; 1],
 ) -> u32
-    ensures* { λ r. ⌜ (r ≡ made_number (make seed (sizes loops streams lines) output.old).answer)
+    ensures { (result ≡ made_number (make seed (sizes loops streams lines) output.old).answer)
         × (output.new ≡ (make seed (sizes loops streams lines) output.old).output)
         × (answer.new
-        ≡ or_kept (made_values (make seed (sizes loops streams lines) output.old).answer) answer.old) ⌝ }
+        ≡ or_kept (made_values (make seed (sizes loops streams lines) output.old).answer) answer.old) }
 {
     let z = Sizes {
         loops: loops,

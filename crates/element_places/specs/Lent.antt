@@ -14,7 +14,7 @@ use Rattle.meaning.specs.declared.Description.{Description}
 use Rattle.meaning.specs.Space.{Box, row_index, box_of, processes, first}
 use Rattle.meaning.specs.Streams.{stationary, elements, pass}
 use Rattle.meaning.specs.Pipes.{reach, before, pipe_elements}
-use Rattle.meaning.specs.Description.{streams_of, stream_at}
+use Rattle.meaning.specs.Description.{streams_of}
 use Rattle.meaning.specs.Body.{stream_start}
 use Rattle.meaning.specs.Points.{Inside}
 use Rattle.geometry.specs.Boxes.{box_has}
@@ -23,6 +23,7 @@ use Rattle.geometry.specs.Processes.{RunAt, computes as run_first}
 use Rattle.geometry.specs.Pipes.{Accepted}
 use Rattle.geometry.specs.Elements.{entry_before}
 use Rattle.geometry.specs.Moving.{index_is}
+use Rattle.geometry.specs.Arrays.{stream_at}
 use Rattle.numbering.specs.Extents.{Spanning, boxed, box_spanning}
 use Rattle.counting.specs.Forms.{weigh}
 use Rattle.layout.specs.Spans.{process_of, Spans}

@@ -13,7 +13,7 @@ use Rattle.meaning.specs.Lists.{position, total}
 use Rattle.meaning.specs.Space.{row_index, box_of, space, processes}
 use Rattle.meaning.specs.Streams.{move, elements}
 use Rattle.meaning.specs.Pipes.{before, is_pipe, entries, pipe_elements}
-use Rattle.meaning.specs.Description.{description_of, streams_of, no_stream, stream_at}
+use Rattle.meaning.specs.Description.{description_of, streams_of, no_stream}
 use Rattle.meaning.specs.Body.{stream_start}
 use Rattle.meaning.specs.Array.{array_of, pipe_order, part_start}
 use Rattle.meaning.specs.Accept.{refusal_of}
@@ -29,6 +29,7 @@ use Rattle.geometry.specs.Segments.{at_box}
 use Rattle.geometry.specs.Pipes.{Accepted, in_on}
 use Rattle.geometry.specs.Elements.{entry_of, part_of, home_of, index_of, entry_before, home_in, index_lt, element_home}
 use Rattle.geometry.specs.Descriptions.{Laid, laid}
+use Rattle.geometry.specs.Arrays.{stream_at}
 use Rattle.addresses.specs.Pipes.{base, entry_at, part_start_lem}
 use Rattle.addresses.specs.Through.{entry_number as entryRank, point_inside, entry_lt, entry_rank, entry_is_at}
 use Rattle.addresses.specs.Orders.{element_place}

@@ -17,7 +17,7 @@ use Rattle.meaning.specs.Lists.{any, position, total}
 use Rattle.meaning.specs.Space.{Box, points, row_index, space}
 use Rattle.meaning.specs.Streams.{elements}
 use Rattle.meaning.specs.Pipes.{pipe, before, is_pipe, is_entry, entries}
-use Rattle.meaning.specs.Description.{no_stream, streams_of, stream_at}
+use Rattle.meaning.specs.Description.{no_stream, streams_of}
 use Rattle.meaning.specs.Array.{Stop, Pipe, stop_of, pipe_of, pipes_from, array_of, pipe_number, no_pipe, no_stop, pipe_at, is_stop, pipe_through}
 use Rattle.meaning.specs.Array.{place_on}
 use Rattle.meaning.specs.Body.{stream_start}
@@ -34,6 +34,10 @@ use Rattle.geometry.specs.Positions.{at_inside, before_at}
 use Rattle.geometry.specs.Elements.{entry_of, entries_entry}
 use Rattle.geometry.specs.Descriptions.{Laid}
 use Rattle.geometry.specs.Wiring.{process_at, entry_back}
+
+-- a stream by its number
+abbrev pub stream_at : Description → ℕ → Stream
+stream_at d k = get_or (streams_of d) k no_stream
 
 -- pipe q is that of stream number `stream` which enters at `entry`
 pub record PipeIs (d : Description) (q : ℕ) : Type 0 where

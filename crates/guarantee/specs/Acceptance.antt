@@ -1,7 +1,7 @@
 -- Accept answers Accepted exactly where all conditions are met, and refuses by the number of the first that fails. Assumes nothing.
 use Rattle.std.specs.Prelude.{◌≡◌, refl, ◌↔◌, Bool, true, false, cond, eqb, length, get_or}
 use Rattle.std.proofs.Math.Path.{sym, ap, subst}
-use Rattle.std.proofs.Common.{◌∙◌, zero-add, ne_eqb}
+use Rattle.std.proofs.Common.{◌∙◌, zero-add, length-append, length-take, ne_eqb}
 use mathlib.Core.List.Memᴰ.{head as here}
 use mathlib.Core.List.Memᴰ.{tail as there}
 use mathlib.Core.List.{List, [], ◌∷◌, ◌++◌, Memᴰ as In}
@@ -16,7 +16,7 @@ use Rattle.meaning.specs.declared.Acceptance.TheVariants.{Accepted, Refused}
 use Rattle.meaning.specs.Lists.{each, numbers, numbers_from}
 use Rattle.meaning.specs.Tests.{Test}
 use Rattle.meaning.specs.Points.{Directed, Within}
-use Rattle.meaning.specs.Description.{sizes_of, description_of, streams_of, no_stream, written}
+use Rattle.meaning.specs.Description.{sizes_of, description_of, streams_of, stream_of as decoded, no_stream, written}
 use Rattle.meaning.specs.Accept.{stream_tests, tests_from, all_tests, refusal_of, figures, divisors, accept, Accepts}
 use Rattle.meaning.specs.Answers.{accept_number}
 use Rattle.meaning.specs.Conditions.{stream_of, Meets, StreamMeets, AcceptedExactly, Condition, Condition.Board, Condition.Begins}
@@ -25,8 +25,8 @@ use Rattle.meaning.specs.Conditions.{Condition.Place-rank, Condition.Increment, 
 use Rattle.meaning.specs.Conditions.{Condition.Move, Condition.Hop, Condition.Order, Condition.Loading, Condition.Touched, Asks, of_stream}
 use Rattle.meaning.specs.Conditions.{conditions, RefusedExactly}
 use Rattle.lists.specs.Members.{in_each, each_in, in_numbers, numbers_in}
+use Rattle.lists.specs.Rows.{length_numbers}
 use Rattle.network.specs.Declined.{numbers_are}
-use Rattle.wired.specs.Streams.{streams_length}
 use Rattle.guarantee.specs.Refusals.{refuses_less, Tries, Tries.none, Tries.next, numbered, all_hold, none_refuses, first_fails}
 use Rattle.guarantee.specs.Refusals.{refuses_first}
 use Rattle.guarantee.specs.WordConditions.{refuses2, refuses3, refuses4, directed}
@@ -65,6 +65,11 @@ module _ (l : Limits) (s : List ℕ) where
         (try_stream i (each of_stream (numbers_from (suc i) (length ss))) (tests_from l d (suc i) ss)
         (try_streams (suc i) ss (λ k. let g : i + suc k ≡ suc i + k = omega arith in e (suc k) ∙ ap (stream_of d) g)))
 
+  -- the description's streams are as many as its sizes say
+  pub streams_length : length (streams_of d) ≡ (sizes_of s).streams
+  unfolding description_of
+  streams_length = simp (length-take, length-append) (omega (arith, length_numbers (decoded s (sizes_of s)) 0 (sizes_of s).streams))
+
   pub tries : Tries (Asks l s) (conditions (sizes_of s).streams) (all_tests l s)
   unfolding description_of
   tries =
@@ -80,7 +85,7 @@ module _ (l : Limits) (s : List ℕ) where
       next (refuses_rank n.place) (λ rank.
       next (refuses_line n n.place rank) (λ _.
       next (refuses10 l (directed s z sizes words) (some_instance n bounds)) (λ _.
-      subst (λ (m : ℕ). Tries (Asks l s) (each of_stream (numbers m)) (tests_from l d 0 (streams_of d))) (streams_length s)
+      subst (λ (m : ℕ). Tries (Asks l s) (each of_stream (numbers m)) (tests_from l d 0 (streams_of d))) streams_length
       (try_streams (directed s z sizes words) (some_instance n bounds) 0 (streams_of d)
       (λ k. ap (stream_of d) (sym (zero-add k))))))))))))))
 
@@ -130,6 +135,7 @@ module _ (l : Limits) (s : List ℕ) where
       stream i h (there (there (there (there (here e))))) = by (Order i) h.order e
       stream i h (there (there (there (there (there (here e)))))) = by (Loading i) h.loading e
       stream i h (there (there (there (there (there (there (here e))))))) = by (Touched i) h.touched e
+      stream i h (there (there (there (there (there (there (there x))))))) = elim x [ ]
 
       go : In c (conditions (sizes_of s).streams) → Asks l s c
       go (here e) = by Board m.board e
@@ -185,3 +191,8 @@ refused_exactly l s k = (
     back : (r : ℕ) → r ≡ k → 0 < k
         → cond (eqb r 0) (Accepted (figures (description_of s)) (divisors (description_of s))) (Refused r) ≡ Refused k
     back r e h = rw (ne_eqb r 0 (λ g. omega arith)) (ap Refused e)
+
+-- ---- an accepted description has a stream
+
+pub some_stream : (l : Limits) (s : List ℕ) → refusal_of l s ≡ 0 → 0 < length (streams_of (description_of s))
+some_stream l s e = omega (arith, streams_length l s, ((not_refused l s).0 e).sizes.streams.0)

@@ -5,14 +5,13 @@ use Rattle.std.proofs.Math.Decide.{ℕ_discrete}
 use Rattle.meaning.specs.declared.Limits.{Limits}
 use Rattle.meaning.specs.Accept.{refusal_of, answer_of, accept}
 use Rattle.meaning.specs.Calls.{table, start, step, run, ready_call, window, result, plain_run}
-use Rattle.meaning.specs.Clocked.{clock}
 use Rattle.meaning.specs.Alike.{AnsweredAlike, Serves, Serves.declines, Serves.as_under}
 use Rattle.network.specs.Declined.{declined}
 use Rattle.guarantee.specs.Demand1.{demand_one}
 
 -- one refusal: every call answers and leaves the same
 pub same_refusal : (l k : Limits) (s : List ℕ) → refusal_of l s ≡ refusal_of k s → AnsweredAlike l k s
-unfolding accept table start step run ready_call window result plain_run clock
+unfolding accept table start step run ready_call window result plain_run
 same_refusal l k s r =
     record {
       accept = ap (answer_of s) r;
@@ -24,7 +23,6 @@ same_refusal l k s r =
       window = λ pipe side waiting received. (rw r, rw r);
       result = λ output M. (rw r, rw r);
       plain = λ values output. (rw r, rw r);
-      clock = λ t M. (rw r, rw r);
     }
 
 -- told other limits, a call on a description that is accepted is declined and changes nothing, or does the same

@@ -1,25 +1,19 @@
--- Step, Run and Clocked run keep what stands past the words that Accept counts, on any memory, of any description. Assumes nothing.
-use Rattle.std.specs.Prelude.{◌≡◌, List, ℕ, drop, ℤ}
+-- Step and Run keep what stands past the words that Accept counts, on any memory, of any description. Assumes nothing.
+use Rattle.std.specs.Prelude.{◌≡◌, List, ℕ, drop}
 use Rattle.meaning.specs.declared.Limits.{Limits}
 use Rattle.meaning.specs.Description.{description_of}
 use Rattle.meaning.specs.Rules.{Memory}
 use Rattle.meaning.specs.Calls.{state_length, step, run}
-use Rattle.meaning.specs.Clocked.{clock}
-use Rattle.meaning.specs.Demand3.{CallStep, CallRun, CallClock}
+use Rattle.meaning.specs.Demand3.{CallStep, CallRun}
 use Rattle.network.specs.Beyond.{call_beyond}
-use Rattle.wired.specs.Wired.{wired}
-use Rattle.clockwork.specs.Granted.{clock-grants}
+use Rattle.guarantee.specs.Wired.{wired}
 
 module _ (l : Limits) (s : List ℕ) where
   pub step_beyond : (kind number stream : ℕ) (M : Memory)
       → drop (state_length (description_of s)) (step l s kind number stream M).memory.state
       ≡ drop (state_length (description_of s)) M.state
-  step_beyond kind number stream M = call_beyond l s clock-grants (wired l s) M (CallStep kind number stream)
+  step_beyond kind number stream M = call_beyond l s (wired l s) M (CallStep kind number stream)
 
   pub run_beyond : (n : ℕ) (M : Memory)
       → drop (state_length (description_of s)) (run l s n M).memory.state ≡ drop (state_length (description_of s)) M.state
-  run_beyond n M = call_beyond l s clock-grants (wired l s) M (CallRun n)
-
-  pub clock_beyond : (t : ℤ) (M : Memory)
-      → drop (state_length (description_of s)) (clock l s t M).memory.state ≡ drop (state_length (description_of s)) M.state
-  clock_beyond t M = call_beyond l s clock-grants (wired l s) M (CallClock t)
+  run_beyond n M = call_beyond l s (wired l s) M (CallRun n)

@@ -23,13 +23,12 @@ use Rattle.meaning.specs.Calls.{state_length, refused_by, memory_tests, table_te
 use Rattle.meaning.specs.Calls.{result_tests, plain_tests, started, step_of, ready_word, table, start, step, run, ready_call, window, result}
 use Rattle.meaning.specs.Calls.{plain_run, row_of}
 use Rattle.meaning.specs.StepVectors.{vector_tests, step_vectors}
-use Rattle.meaning.specs.Clocked.{clock_tests, clock}
 use Rattle.meaning.specs.Generator.{after, fill_tests, fill, made, make_tests, make}
 use Rattle.meaning.specs.Demand1.{Values, Declined, NothingChanged, DemandOne}
 use Rattle.lists.specs.Rows.{length_numbers}
 use Rattle.network.specs.Declined.{numbers_are}
 use Rattle.generated.specs.Made.{made_length}
-use Rattle.guarantee.specs.Beyond.{step_beyond, run_beyond, clock_beyond}
+use Rattle.guarantee.specs.Beyond.{step_beyond, run_beyond}
 
 -- a number that is not 0
 not_zero : (n : ℕ) → Declined n → eqb n 0 ≡ false
@@ -47,20 +46,19 @@ module _ (l : Limits) (s : List ℕ) where
   -- ---- values
 
   values_are : Values l s
-  unfolding accept run ready_call make clock
+  unfolding accept run ready_call make
   values_are =
       record {
         accept = λ e. rw (eq-eqb (refusal_of l s) 0 (sym (numbers_are l s).accept ∙ e));
         run = λ n M e. rw (eq-eqb (refused_by l s (memory_tests (description_of s) M)) 0 (sym ((numbers_are l s).run n M) ∙ e));
         ready = λ words M e. rw (eq-eqb (refused_by l s (ready_tests l s words M)) 0 (sym ((numbers_are l s).ready words M) ∙ e));
         make = λ seed z out e. rw (eq-eqb (refusal (make_tests seed z out)) 0 (sym ((numbers_are l s).make seed z out) ∙ e));
-        clock = λ t M e. rw (eq-eqb (refused_by l s (clock_tests (description_of s) M)) 0 (sym ((numbers_are l s).clock t M) ∙ e));
       }
 
   -- ---- declined calls
 
   unchanged : NothingChanged l s
-  unfolding table start step run ready_call window result plain_run fill make step_vectors clock
+  unfolding table start step run ready_call window result plain_run fill make step_vectors
   unchanged =
       record {
         table = λ rows h. rw (not_zero (refused_by l s (table_tests l s rows)) (λ e. h ((numbers_are l s).table rows ∙ e)));
@@ -77,7 +75,6 @@ module _ (l : Limits) (s : List ℕ) where
         fill = λ seed n list h. rw (not_zero (refusal (fill_tests seed n list)) (λ e. h ((numbers_are l s).fill seed n list ∙ e)));
         make = λ seed z out h. rw (not_zero (refusal (make_tests seed z out)) (λ e. h ((numbers_are l s).make seed z out ∙ e)));
         vectors = λ k lent h. rw (not_zero (refusal (vector_tests l s k)) (λ e. h ((numbers_are l s).vectors k lent ∙ e)));
-        clock = λ t M h. rw (not_zero (refused_by l s (clock_tests (description_of s) M)) (λ e. h ((numbers_are l s).clock t M ∙ e)));
       }
 
   -- ---- beyond the named length
@@ -146,7 +143,6 @@ demand_one l s =
             start = start_beyond l s;
             step = step_beyond l s;
             run = run_beyond l s;
-            clock = clock_beyond l s;
             ready = ready_beyond l s;
             fill = fill_beyond;
             make = make_beyond;

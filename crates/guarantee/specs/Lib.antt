@@ -4,6 +4,13 @@ pub mod WordConditions
 pub mod NestConditions
 pub mod StreamConditions
 pub mod Acceptance
+pub mod Instances
+pub mod Stops
+pub mod Ranks
+pub mod Touches
+pub mod Times
+pub mod Wired
+pub mod Elements
 pub mod Beyond
 pub mod Demand1
 pub mod Alike

@@ -38,7 +38,7 @@ use Rattle.geometry.specs.PipeLists.{moving, pipe_elements_lem, pipe_ends, some_
 use Rattle.geometry.specs.TwoLoops.{Planar, planar, no_third, low_point}
 use Rattle.geometry.specs.Descriptions.{Laid, laid}
 use Rattle.geometry.specs.Passes.{RowOf}
-use Rattle.wired.specs.Streams.{streams_length}
+use Rattle.guarantee.specs.Acceptance.{streams_length}
 use Rattle.guarantee.specs.NestConditions.{box_found}
 
 -- ---- the process space
@@ -97,7 +97,7 @@ module _ (l : Limits) (s : List ℕ) (ok : refusal_of l s ≡ 0) where
 
   streams_are : length (streams_of d) ≡ d.sizes.streams
   unfolding description_of
-  streams_are = streams_length s
+  streams_are = streams_length l s
 
   accepted : (i : ℕ) → i < d.sizes.streams → Accepted n (stream_of d i)
   accepted i h = good.stream i (omega (arith, streams_are))

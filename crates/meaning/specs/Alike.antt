@@ -1,13 +1,12 @@
 -- One description under two limits, call by call: answered alike, or declined.
-use Rattle.std.specs.Prelude.{◌≡◌, List, ℕ, ℤ}
+use Rattle.std.specs.Prelude.{◌≡◌, List, ℕ}
 use Rattle.meaning.specs.declared.Limits.{Limits}
 use Rattle.meaning.specs.declared.Row.{Row}
 use Rattle.meaning.specs.declared.Acceptance.TheVariants.{Refused}
 use Rattle.meaning.specs.Rules.{Memory}
 use Rattle.meaning.specs.Accept.{accept}
-use Rattle.meaning.specs.Answers.{answer_number, ran_number, ready_number, clocked_number}
+use Rattle.meaning.specs.Answers.{answer_number, ran_number, ready_number}
 use Rattle.meaning.specs.Calls.{table, start, step, run, ready_call, window, result, plain_run}
-use Rattle.meaning.specs.Clocked.{clock}
 use Rattle.meaning.specs.Demand1.{Declined, NothingChanged}
 
 -- two limits make no difference to any call: answer and lent lists are the same
@@ -30,8 +29,6 @@ pub record AnsweredAlike (l k : Limits) (s : List ℕ) : Type 0 where
   pub plain : (values output : List ℕ)
       → ((plain_run l s values output).answer ≡ (plain_run k s values output).answer)
       × ((plain_run l s values output).output ≡ (plain_run k s values output).output)
-  pub clock : (t : ℤ) (M : Memory)
-      → ((clock l s t M).answer ≡ (clock k s t M).answer) × ((clock l s t M).memory ≡ (clock k s t M).memory)
 
 -- every call is declined by k
 pub record DeclinedBy (l : Limits) (s : List ℕ) (k : ℕ) : Type 0 where
@@ -44,7 +41,6 @@ pub record DeclinedBy (l : Limits) (s : List ℕ) (k : ℕ) : Type 0 where
   pub window : (pipe side : ℕ) (waiting received : List ℕ) → (window l s pipe side waiting received).refusal ≡ k
   pub result : (output : List ℕ) (M : Memory) → answer_number (result l s output M).answer ≡ k
   pub plain : (values output : List ℕ) → answer_number (plain_run l s values output).answer ≡ k
-  pub clock : (t : ℤ) (M : Memory) → clocked_number (clock l s t M).answer ≡ k
 
 -- told the limits k, every call is declined, by one number, and changes nothing, or does what it would under the limits l
 pub data Serves (l k : Limits) (s : List ℕ) : Type 0 where

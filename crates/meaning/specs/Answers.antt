@@ -1,10 +1,9 @@
 -- What each case of an answer is in document 01's terms: its number, 0 where the call is not declined, and its values.
-use Rattle.std.specs.Prelude.{cond, List, [], ◌∷◌, ℕ, ℤ}
+use Rattle.std.specs.Prelude.{cond, List, [], ◌∷◌, ℕ}
 use Rattle.meaning.specs.declared.Acceptance as Acceptance
 use Rattle.meaning.specs.declared.Answer as Answer
 use Rattle.meaning.specs.declared.Ran as Ran
 use Rattle.meaning.specs.declared.Readiness as Readiness
-use Rattle.meaning.specs.declared.Clocked as Clocked
 use Rattle.meaning.specs.declared.Made as Made
 
 -- Accept: "P, instances, E, pipes, state words and total steps", and the divisors of place and of each stream (request 2.7)
@@ -40,15 +39,6 @@ ready_number (Readiness.TheVariants.Refused n) = n
 abbrev pub ready_values : Readiness.Readiness → List ℕ
 ready_values (Readiness.TheVariants.Ready n k) = n ∷ k ∷ []
 ready_values (Readiness.TheVariants.Refused n) = []
-
--- Clocked run: the least and the greatest step of all instances, signed
-abbrev pub clocked_number : Clocked.Clocked → ℕ
-clocked_number (Clocked.TheVariants.Clocked u v) = 0
-clocked_number (Clocked.TheVariants.Refused n) = n
-
-abbrev pub clocked_values : Clocked.Clocked → List ℤ
-clocked_values (Clocked.TheVariants.Clocked u v) = u ∷ v ∷ []
-clocked_values (Clocked.TheVariants.Refused n) = []
 
 -- Make: the number of bytes
 abbrev pub made_number : Made.Made → ℕ

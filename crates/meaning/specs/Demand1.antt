@@ -1,6 +1,6 @@
 -- Demand 1 beside the contracts, which say of each call what it leaves: what all calls have in common, for any bytes, lists and states
 -- (`demand-one` of guarantee). Numbers and values of answers are those of Answers.
-use Rattle.std.specs.Prelude.{◌≡◌, cond, List, [], ◌∷◌, ℕ, ◌*◌, ℤ, length, drop}
+use Rattle.std.specs.Prelude.{◌≡◌, cond, List, [], ◌∷◌, ℕ, ◌*◌, length, drop}
 use Rattle.meaning.specs.declared.Limits.{Limits}
 use Rattle.meaning.specs.declared.Sizes.{Sizes}
 use Rattle.meaning.specs.declared.Row.{Row}
@@ -13,14 +13,12 @@ use Rattle.meaning.specs.Accept.{refusal_of, accept, Accepts, pipe_count, total_
 use Rattle.meaning.specs.Array.{array_of, process_count}
 use Rattle.meaning.specs.Rules.{Memory, any_ready, run_steps}
 use Rattle.meaning.specs.Answers.{accept_number, accept_values, answer_number, ran_number, ran_values, ready_number, ready_values}
-use Rattle.meaning.specs.Answers.{clocked_number, clocked_values, made_number, made_values}
+use Rattle.meaning.specs.Answers.{made_number, made_values}
 use Rattle.meaning.specs.Calls.{length_of, state_length, refused_by, memory_tests, table_tests, start_tests, step_tests, ready_tests}
 use Rattle.meaning.specs.Calls.{window_tests, result_tests, plain_tests, step_of, can_move, table, start, step, run, ready_call, window}
 use Rattle.meaning.specs.Calls.{result, plain_run}
 use Rattle.meaning.specs.Generator.{fill_tests, fill, make_tests, make}
 use Rattle.meaning.specs.StepVectors.{vector_tests, step_vectors}
-use Rattle.meaning.specs.Ticks.{least_step, greatest_step}
-use Rattle.meaning.specs.Clocked.{clock_tests, clock}
 
 -- ---- "a declined call answers its number": that of the first test that applies, 0 if none does; "where several apply, the first in the
 -- order listed"
@@ -40,7 +38,6 @@ pub record Numbers (l : Limits) (s : List ℕ) : Type 0 where
   pub fill : (seed n : ℕ) (list : List ℕ) → answer_number (fill seed n list).answer ≡ refusal (fill_tests seed n list)
   pub make : (seed : ℕ) (z : Sizes) (out : List ℕ) → made_number (make seed z out).answer ≡ refusal (make_tests seed z out)
   pub vectors : (k : ℕ) (lent : List ℕ) → answer_number (step_vectors l s k lent).answer ≡ refusal (vector_tests l s k)
-  pub clock : (t : ℤ) (M : Memory) → clocked_number (clock l s t M).answer ≡ refused_by l s (clock_tests (description_of s) M)
 
 -- ---- the values of an answer that is no refusal
 
@@ -64,9 +61,6 @@ pub record Values (l : Limits) (s : List ℕ) : Type 0 where
   -- the number of bytes
   pub make : (seed : ℕ) (z : Sizes) (out : List ℕ) → made_number (make seed z out).answer ≡ 0
       → made_values (make seed z out).answer ≡ 4 * words_of z ∷ []
-  -- the least and the greatest step of all instances
-  pub clock : (t : ℤ) (M : Memory) → clocked_number (clock l s t M).answer ≡ 0
-      → let n = (description_of s).nest in clocked_values (clock l s t M).answer ≡ least_step n ∷ greatest_step n ∷ []
 
 -- ---- "a declined call changes no lent word", and Window's part is empty
 
@@ -88,7 +82,6 @@ pub record NothingChanged (l : Limits) (s : List ℕ) : Type 0 where
   pub fill : (seed n : ℕ) (list : List ℕ) → Declined (answer_number (fill seed n list).answer) → (fill seed n list).list ≡ list
   pub make : (seed : ℕ) (z : Sizes) (out : List ℕ) → Declined (made_number (make seed z out).answer) → (make seed z out).output ≡ out
   pub vectors : (k : ℕ) (lent : List ℕ) → Declined (answer_number (step_vectors l s k lent).answer) → (step_vectors l s k lent).counts ≡ lent
-  pub clock : (t : ℤ) (M : Memory) → Declined (clocked_number (clock l s t M).answer) → (clock l s t M).memory ≡ M
 
 -- ---- "words beyond the named length never change": rows past P, words past those that Accept counts, ready words past the 16th, places
 -- past the n-th, bytes past a description. All other lists are lent as long as they are used, or the call is declined
@@ -103,8 +96,6 @@ pub record BeyondKept (l : Limits) (s : List ℕ) : Type 0 where
       ≡ drop (state_length (description_of s)) M.state
   pub run : (n : ℕ) (M : Memory)
       → drop (state_length (description_of s)) (run l s n M).memory.state ≡ drop (state_length (description_of s)) M.state
-  pub clock : (t : ℤ) (M : Memory)
-      → drop (state_length (description_of s)) (clock l s t M).memory.state ≡ drop (state_length (description_of s)) M.state
   pub ready : (words : List ℕ) (M : Memory) → drop 16 (ready_call l s words M).words ≡ drop 16 words
   pub fill : (seed n : ℕ) (list : List ℕ) → drop n (fill seed n list).list ≡ drop n list
   pub make : (seed : ℕ) (z : Sizes) (out : List ℕ) → drop (4 * words_of z) (make seed z out).output ≡ drop (4 * words_of z) out

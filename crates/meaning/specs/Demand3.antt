@@ -1,5 +1,5 @@
 -- Demand 3, "a single claim about the list of calls after" a proper start, "empty or of any length".
-use Rattle.std.specs.Prelude.{◌≡◌, ◌↔◌, Bool, true, false, not, cond, List, [], ◌∷◌, ◌++◌, map, ℕ, ◌-◌, ◌≤◌, ◌<◌, eqb, length, get_or, take, drop, replicate, ℤ}
+use Rattle.std.specs.Prelude.{◌≡◌, ◌↔◌, Bool, true, false, not, cond, List, [], ◌∷◌, ◌++◌, map, ℕ, ◌-◌, ◌≤◌, ◌<◌, eqb, length, get_or, take, drop, replicate}
 use Rattle.meaning.specs.declared.Limits.{Limits}
 use Rattle.meaning.specs.declared.Description.{Description}
 use Rattle.meaning.specs.declared.Answer.TheVariants.{Done, Refused}
@@ -10,10 +10,9 @@ use Rattle.meaning.specs.Accept.{total_steps}
 use Rattle.meaning.specs.Array.{array_of, pipe_number, pipe_at, elements_on, pipe_order, part_of}
 use Rattle.meaning.specs.State.{words}
 use Rattle.meaning.specs.Rules.{Step, Receive, Send, Take, Fire, Give, Memory, ready, any_ready, Found, at, nothing, run_steps, total_of}
-use Rattle.meaning.specs.Answers.{answer_number, ran_number, ready_number, clocked_number}
+use Rattle.meaning.specs.Answers.{answer_number, ran_number, ready_number}
 use Rattle.meaning.specs.Alike.{Serves}
 use Rattle.meaning.specs.Calls.{start, step, run, ready_call, window, result, step_of, length_of, state_length}
-use Rattle.meaning.specs.Clocked.{clock_steps, clock}
 
 -- ---- lists of calls
 
@@ -24,7 +23,6 @@ pub data Call : Type 0 where
   CallReady : List ℕ → Call
   CallWindow : ℕ → ℕ → Call
   CallResult : List ℕ → Call
-  CallClock : ℤ → Call
 
 module _ (l : Limits) (s : List ℕ) where
   -- the memory that a call leaves
@@ -34,9 +32,8 @@ module _ (l : Limits) (s : List ℕ) where
   leaves M (CallReady words) = M
   leaves M (CallWindow pipe side) = M
   leaves M (CallResult output) = M
-  leaves M (CallClock t) = (clock l s t M).memory
 
-  -- the steps that it is granted: "each Step not declined and each step that Run does", and each that Clocked run does (request 2.6)
+  -- the steps that it is granted: "each Step not declined and each step that Run does"
   abbrev pub as_list : Found → List Step
   as_list nothing = []
   as_list (at a) = a ∷ []
@@ -48,7 +45,6 @@ module _ (l : Limits) (s : List ℕ) where
   grants M (CallReady words) = []
   grants M (CallWindow pipe side) = []
   grants M (CallResult output) = []
-  grants M (CallClock t) = cond (eqb (clocked_number (clock l s t M).answer) 0) (clock_steps (description_of s) t M) []
 
 -- a call, and the limits of the board that it is told, "not always the same" (request 2.9)
 pub record Told : Type 0 where
@@ -126,7 +122,6 @@ declined_by l s M (CallRun n) = ran_number (run l s n M).answer
 declined_by l s M (CallReady words) = ready_number (ready_call l s words M).answer
 declined_by l s M (CallWindow pipe side) = (window l s pipe side M.waiting M.received).refusal
 declined_by l s M (CallResult output) = answer_number (result l s output M).answer
-declined_by l s M (CallClock t) = clocked_number (clock l s t M).answer
 
 -- none of 20, 26, 21 and 22
 pub record NotByMemory (k : ℕ) : Type 0 where

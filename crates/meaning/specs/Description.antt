@@ -1,6 +1,6 @@
 -- Document 01, "The description": signed words as bytes and bytes to words, the length that the sizes give, the range of every word,
 -- decoding; refusals 1 to 5.
-use Rattle.std.specs.Prelude.{Bool, not, cond, ◌&&◌, ◌||◌, List, [], ◌∷◌, map, ◌++◌, ℕ, suc, ◌+◌, ◌*◌, ◌-◌, ◌/◌, ◌%◌, eqb, leb, ltb, length, get_or, take, replicate, ℤ, pos, negsuc}
+use Rattle.std.specs.Prelude.{Bool, not, cond, ◌&&◌, ◌||◌, List, [], ◌∷◌, map, ◌++◌, ℕ, suc, ◌+◌, ◌*◌, ◌-◌, ◌/◌, ◌%◌, eqb, leb, ltb, length, take, replicate, ℤ, pos, negsuc}
 use Rattle.std.specs.Int.Signed.{le_z, lt_z}
 use Rattle.std.specs.Int.{w32}
 use Rattle.std.proofs.Common.{of_z}
@@ -179,10 +179,6 @@ streams_of d = take d.sizes.streams d.streams
 
 abbrev pub lines_of : Description → List Line
 lines_of d = take d.sizes.lines d.lines
-
--- a stream by its number
-abbrev pub stream_at : Description → ℕ → Stream
-stream_at d k = get_or (streams_of d) k no_stream
 
 -- "a stream is written if it is some line's target"
 abbrev pub written : Description → ℕ → Bool

@@ -24,8 +24,6 @@ pub mod Answers
 pub mod Calls
 pub mod Generator
 pub mod StepVectors
-pub mod Ticks
-pub mod Clocked
 pub mod Demand1
 pub mod Alike
 pub mod Demand2

@@ -271,7 +271,7 @@ module _ (A : Array) where
   lowest st = first_ready (ready A st) (in_order A)
 
   -- the steps that Run does, at most n of them, and what a list of steps leaves
-  abbrev pub next : Found → (Step → List Step) → List Step
+  abbrev next : Found → (Step → List Step) → List Step
   next nothing f = []
   next (at a) f = f a
 

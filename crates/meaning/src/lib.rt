@@ -20,7 +20,6 @@
 //   Answers, Calls    the numbers and values of answers; the nine calls: the answer and every lent list afterwards
 //   Generator         request 2.3: rounds of the generator, and the calls Fill and Make
 //   StepVectors       request 2.10: the description with every small step vector, and the call Step vectors
-//   Ticks, Clocked    request 2.6: the tick of every move; loading, ticks and recovery, and the call Clocked run
 //   Conditions        the conditions of acceptance said a second time, as propositions; demand 2: accepted and refused exactly by them
 //   Demand1           what all calls have in common: numbers and values of answers, nothing changed, nothing written beyond
 //   Alike             one description under two limits, call by call: answered alike, or declined
@@ -206,13 +205,6 @@ pub enum Ran {
 #[derive(Clone, Copy)]
 pub enum Readiness {
     Ready { count: u32, lowest: u32 },
-    Refused(u32),
-}
-
-// Of Clocked run: the least and the greatest step of all instances.
-#[derive(Clone, Copy)]
-pub enum Clocked {
-    Clocked { least: i32, greatest: i32 },
     Refused(u32),
 }
 

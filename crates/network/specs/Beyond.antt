@@ -1,5 +1,5 @@
 -- No call changes what stands past the words of a state, on any memory, of any description: a call that is not declined has a sound state,
--- and does granted steps only. Assumes that the array of an accepted description is wired, and what the clock owes.
+-- and does granted steps only. Assumes that the array of an accepted description is wired.
 use Rattle.std.specs.Prelude.{◌≡◌, Bool, true, false, ◌⊎◌, ℕ, eqb}
 use Rattle.std.proofs.Math.Path.{refl, ap, subst}
 use Rattle.std.proofs.Common.{sym, ◌∙◌, inl, inr, arith, eqb-true}
@@ -11,13 +11,11 @@ use Rattle.meaning.specs.Description.{description_of}
 use Rattle.meaning.specs.Accept.{refusal_of}
 use Rattle.meaning.specs.Array.{Array, array_of}
 use Rattle.meaning.specs.Rules.{Step, Memory, apply_all}
-use Rattle.meaning.specs.Answers.{answer_number, ran_number, clocked_number}
+use Rattle.meaning.specs.Answers.{answer_number, ran_number}
 use Rattle.meaning.specs.Calls.{state_length, step, run}
-use Rattle.meaning.specs.Clocked.{clock}
-use Rattle.meaning.specs.Demand3.{Call, CallStep, CallRun, CallReady, CallWindow, CallResult, CallClock, Told, leaves, grants}
-use Rattle.meaning.specs.Demand3.{memory_after}
+use Rattle.meaning.specs.Demand3.{Call, CallStep, CallRun, CallReady, CallWindow, CallResult, Told, leaves, grants, memory_after}
 use Rattle.network.specs.Wiring.{Wired}
-use Rattle.network.specs.Calls.{ClockGrants, call_does}
+use Rattle.network.specs.Calls.{call_does}
 use Rattle.network.specs.Declined.{numbers_are, Usable, usable}
 use Rattle.network.specs.Figures.{words_are}
 use Rattle.network.specs.Kept.{written_beyond, kept}
@@ -50,19 +48,11 @@ module _ (l : Limits) (s : List ℕ) where
   granted_usable M (CallReady words) = inl refl
   granted_usable M (CallWindow pipe side) = inl refl
   granted_usable M (CallResult output) = inl refl
-  granted_usable M (CallClock t) = go (eqb n 0) refl
-    where
-      n : ℕ
-      n = clocked_number (clock l s t M).answer
 
-      go : (b : Bool) → eqb n 0 ≡ b → (grants l s M (CallClock t) ≡ []) ⊎ Usable l s M
-      go true e = inr (usable l s M _ (sym ((numbers_are l s).clock t M) ∙ eqb-true n 0 e))
-      go false e = inl (rw e)
-
-  module _ (K : ClockGrants) (wired : refusal_of l s ≡ 0 → Wired A) where
+  module _ (wired : refusal_of l s ≡ 0 → Wired A) where
     pub call_beyond : (M : Memory) (c : Call) → drop (state_length d) (leaves l s M c).state ≡ drop (state_length d) M.state
     unfolding apply_all
-    call_beyond M c = ap (λ (N : Memory). drop (state_length d) N.state) (call_does l s K M c).leaves_is ∙ go (granted_usable M c)
+    call_beyond M c = ap (λ (N : Memory). drop (state_length d) N.state) (call_does l s M c).leaves_is ∙ go (granted_usable M c)
       where
         go : (grants l s M c ≡ []) ⊎ Usable l s M
             → drop (state_length d) (apply_all A M (grants l s M c)).state ≡ drop (state_length d) M.state
@@ -71,12 +61,12 @@ module _ (l : Limits) (s : List ℕ) where
             subst (λ (n : ℕ). drop n (apply_all A M (grants l s M c)).state ≡ drop n M.state) (words_are d)
             (written_beyond (wired u.accepted)
             (kept (wired u.accepted) (omega (arith, u.passes.long, words_are d)) u.passes.sound
-            (call_does l s K M c).granted).written)
+            (call_does l s M c).granted).written)
 
 -- a list of calls, whatever limits each is told
-module _ (K : ClockGrants) (s : List ℕ) (wired : (l : Limits) → refusal_of l s ≡ 0 → Wired (array_of (description_of s))) where
+module _ (s : List ℕ) (wired : (l : Limits) → refusal_of l s ≡ 0 → Wired (array_of (description_of s))) where
   pub calls_beyond : (M : Memory) (cs : List Told)
       → drop (state_length (description_of s)) (memory_after s M cs).state ≡ drop (state_length (description_of s)) M.state
   unfolding memory_after
   calls_beyond M [] = refl
-  calls_beyond M (c ∷ cs) = calls_beyond (leaves c.limits s M c.call) cs ∙ call_beyond c.limits s K (wired c.limits) M c.call
+  calls_beyond M (c ∷ cs) = calls_beyond (leaves c.limits s M c.call) cs ∙ call_beyond c.limits s (wired c.limits) M c.call

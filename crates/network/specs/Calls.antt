@@ -1,5 +1,5 @@
--- Lists of calls: every call does granted steps only, and nothing else changes. Assumes that the clocked run does.
-use Rattle.std.specs.Prelude.{◌≡◌, Bool, not, cond, ◌&&◌, eqb, ℤ}
+-- Lists of calls: every call does granted steps only, and nothing else changes. Assumes nothing.
+use Rattle.std.specs.Prelude.{◌≡◌, Bool, not, cond, ◌&&◌, eqb}
 use Rattle.std.proofs.Math.Path.{refl, sym, ap, subst}
 use Rattle.std.proofs.Common.{◌∙◌, arith, ltb-true, eqb-true}
 use Rattle.std.proofs.Math.Bool.{true, false}
@@ -15,9 +15,8 @@ use Rattle.meaning.specs.Array.{Array, array_of, process_count, stream_count, pi
 use Rattle.meaning.specs.Rules.{Step, Send, Take, Fire, Give, Receive, Memory, ready, apply, in_order, Found, at, nothing, lowest, run_steps}
 use Rattle.meaning.specs.Rules.{apply_all}
 use Rattle.meaning.specs.Calls.{or_else, memory_tests, refused_by, has_port, if_there, step_of, is_nothing, ready_at, applied, step, run}
-use Rattle.meaning.specs.Clocked.{clock_steps, clock_tests, clock}
-use Rattle.meaning.specs.Demand3.{Call, CallStep, CallRun, CallReady, CallWindow, CallResult, CallClock, Told, leaves, as_list, grants}
-use Rattle.meaning.specs.Demand3.{memory_after, granted_by}
+use Rattle.meaning.specs.Demand3.{Call, CallStep, CallRun, CallReady, CallWindow, CallResult, Told, leaves, as_list, grants, memory_after}
+use Rattle.meaning.specs.Demand3.{granted_by}
 use Rattle.lists.specs.Tests.{both_true}
 use Rattle.network.specs.Ready.{There}
 use Rattle.network.specs.Members.{listed, ready_there, found_passes}
@@ -78,11 +77,6 @@ module _ (A : Array) where
           Runs.step (ready_there A M.state a (listed A a r.0) r.1) r.1 (ih a)
 
 -- ---- calls
-
--- what the clock owes: the steps of a clocked run that is not declined are granted
-abbrev pub ClockGrants : Type 0
-ClockGrants = (l : Limits) (s : List ℕ) (t : ℤ) (M : Memory) → refused_by l s (clock_tests (description_of s) M) ≡ 0
-    → Grants (array_of (description_of s)) M (clock_steps (description_of s) t M)
 
 module _ (l : Limits) (s : List ℕ) where
   abbrev A : Array
@@ -167,31 +161,18 @@ module _ (l : Limits) (s : List ℕ) where
       go true e = record { granted = rw e (run_grants A k M); leaves_is = rw e }
       go false e = record { granted = rw (e, e) none; leaves_is = rw (e, e) }
 
-  -- so are a clocked run's
-  clock_does : ClockGrants → (t : ℤ) (M : Memory) → Does M (CallClock t)
-  unfolding clock apply_all
-  clock_does K t M = go (eqb n 0) refl
-    where
-      n : ℕ
-      n = refused_by l s (clock_tests (description_of s) M)
-
-      go : (b : Bool) → eqb n 0 ≡ b → Does M (CallClock t)
-      go true e = record { granted = rw e (K l s t M (eqb-true n 0 e)); leaves_is = rw e }
-      go false e = record { granted = rw (e, e) none; leaves_is = rw (e, e) }
-
   -- every call
-  pub call_does : ClockGrants → (M : Memory) (c : Call) → Does M c
+  pub call_does : (M : Memory) (c : Call) → Does M c
   unfolding apply_all
-  call_does K M (CallStep kind number stream) = step_does kind number stream M
-  call_does K M (CallRun n) = run_does n M
-  call_does K M (CallReady words) = record { granted = none; leaves_is = refl }
-  call_does K M (CallWindow pipe side) = record { granted = none; leaves_is = refl }
-  call_does K M (CallResult output) = record { granted = none; leaves_is = refl }
-  call_does K M (CallClock t) = clock_does K t M
+  call_does M (CallStep kind number stream) = step_does kind number stream M
+  call_does M (CallRun n) = run_does n M
+  call_does M (CallReady words) = record { granted = none; leaves_is = refl }
+  call_does M (CallWindow pipe side) = record { granted = none; leaves_is = refl }
+  call_does M (CallResult output) = record { granted = none; leaves_is = refl }
 
 -- ---- lists of calls
 
-module _ (K : ClockGrants) (s : List ℕ) where
+module _ (s : List ℕ) where
   abbrev B : Array
   B = array_of (description_of s)
 
@@ -200,7 +181,7 @@ module _ (K : ClockGrants) (s : List ℕ) where
   unfolding granted_by
   calls_granted M [] = none
   calls_granted M (c ∷ cs) =
-      let d = call_does c.limits s K M c.call in
+      let d = call_does c.limits s M c.call in
       let N = leaves c.limits s M c.call in
       grants_append B d.granted (subst (λ (M : Memory). Grants B M (granted_by s N cs)) d.leaves_is (calls_granted N cs))
 
@@ -211,5 +192,5 @@ module _ (K : ClockGrants) (s : List ℕ) where
   calls_leave M (c ∷ cs) =
       let N = leaves c.limits s M c.call in
       calls_leave N cs
-      ∙ ap (λ (M : Memory). apply_all B M (granted_by s N cs)) (call_does c.limits s K M c.call).leaves_is
+      ∙ ap (λ (M : Memory). apply_all B M (granted_by s N cs)) (call_does c.limits s M c.call).leaves_is
       ∙ sym (apply_append B M (grants c.limits s M c.call) (granted_by s N cs))

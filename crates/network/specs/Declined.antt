@@ -12,16 +12,15 @@ use Rattle.meaning.specs.Description.{description_of, streams_of}
 use Rattle.meaning.specs.Accept.{tests_from, refusal_of, answer_of, accept}
 use Rattle.meaning.specs.Array.{array_of, pipe_number}
 use Rattle.meaning.specs.Rules.{sound, Memory}
-use Rattle.meaning.specs.Answers.{accept_number, answer_number, ran_number, ready_number, clocked_number, made_number}
+use Rattle.meaning.specs.Answers.{accept_number, answer_number, ran_number, ready_number, made_number}
 use Rattle.meaning.specs.Calls.{length_of, state_length, or_else, memory_tests, refused_by, table_tests, table, start_tests, start, step_of}
 use Rattle.meaning.specs.Calls.{is_nothing, ready_at, step_tests, step, run, ready_tests, ready_call, window, all_out, result_tests, result}
 use Rattle.meaning.specs.Calls.{plain_tests, plain_run}
 use Rattle.meaning.specs.Generator.{fill_tests, fill, make_tests, make}
 use Rattle.meaning.specs.StepVectors.{vector_tests, step_vectors}
-use Rattle.meaning.specs.Clocked.{refused32, clock_tests, clock}
 use Rattle.meaning.specs.Demand1.{Numbers}
 use Rattle.meaning.specs.Alike.{DeclinedBy}
-use Rattle.meaning.specs.Demand3.{Call, CallStep, CallRun, CallReady, CallWindow, CallResult, CallClock, declined_by, NotByMemory}
+use Rattle.meaning.specs.Demand3.{Call, CallStep, CallRun, CallReady, CallWindow, CallResult, declined_by, NotByMemory}
 use Rattle.network.specs.Calls.{refusal_none, or_else_lem}
 
 -- ---- the number of an answer
@@ -35,7 +34,7 @@ chosen {B} number n {a} {r} za zr = go (eqb n 0) (eqb-true n 0)
     go false h = zr
 
 pub numbers_are : (l : Limits) (s : List ℕ) → Numbers l s
-unfolding accept table start step run ready_call window result plain_run fill make step_vectors clock
+unfolding accept table start step run ready_call window result plain_run fill make step_vectors
 numbers_are l s =
     record {
       accept = chosen accept_number (refusal_of l s) refl refl;
@@ -50,7 +49,6 @@ numbers_are l s =
       fill = λ seed n list. chosen answer_number (refusal (fill_tests seed n list)) refl refl;
       make = λ seed z out. chosen made_number (refusal (make_tests seed z out)) refl refl;
       vectors = λ k lent. chosen answer_number (refusal (vector_tests l s k)) refl refl;
-      clock = λ t M. chosen clocked_number (refused_by l s (clock_tests (description_of s) M)) refl refl;
     }
 
 -- what is refused is declined by every call
@@ -67,7 +65,6 @@ declined l s k n e =
       window = λ pipe side waiting received. by _ (m.window pipe side waiting received);
       result = λ output M. by _ (m.result output M);
       plain = λ values output. by _ (m.plain values output);
-      clock = λ t M. by _ (m.clock t M);
     }
   where
     m : Numbers l s
@@ -153,7 +150,6 @@ module _ (l : Limits) (s : List ℕ) {M : Memory} (u : Usable l s M) where
   own (CallReady words) = (27 if ltb (length words) 16) ∷ []
   own (CallWindow pipe side) = (19 if (not (ltb pipe (pipe_number (array_of (description_of s)))) || not (ltb side 2))) ∷ []
   own (CallResult output) = (25 if not (all_out l s M.state)) ∷ (28 if not (eqb (length output) (length_of (description_of s)))) ∷ []
-  own (CallClock t) = (32 if refused32 (description_of s) M) ∷ []
 
   pub declined_own : (c : Call) → declined_by l s M c ≡ refusal (own c)
   unfolding refusal
@@ -169,7 +165,6 @@ module _ (l : Limits) (s : List ℕ) {M : Memory} (u : Usable l s M) where
         eq-eqb (length M.received) (length_of d) u.passes.list,
       )
   declined_own (CallResult output) = (numbers_are l s).result output M ∙ own_left (own (CallResult output))
-  declined_own (CallClock t) = (numbers_are l s).clock t M ∙ own_left (own (CallClock t))
 
   -- none of them is one of the memory's
   own_fine : (c : Call) → NotByMemory (refusal (own c))
@@ -182,7 +177,6 @@ module _ (l : Limits) (s : List ℕ) {M : Memory} (u : Usable l s M) where
   own_fine (CallResult output) =
       fine_more _ _ (fine_high 25 (omega arith) (λ e. omega arith))
       (fine_more _ _ (fine_high 28 (omega arith) (λ e. omega arith)) fine_none)
-  own_fine (CallClock t) = fine_more _ _ (fine_high 32 (omega arith) (λ e. omega arith)) fine_none
 
   own_not_by_memory : (c : Call) → NotByMemory (declined_by l s M c)
   own_not_by_memory c = subst NotByMemory (sym (declined_own c)) (own_fine c)
@@ -223,7 +217,6 @@ declined_first l s M f c = go c
     go (CallReady words) = by.ready words M
     go (CallWindow pipe side) = by.window pipe side M.waiting M.received
     go (CallResult output) = by.result output M
-    go (CallClock t) = by.clock t M
 
 pub not_by_memory : (l : Limits) (s : List ℕ) {M : Memory} → Passes (description_of s) M → (c : Call) → NotByMemory (declined_by l s M c)
 not_by_memory l s {M} p c = go (ℕ_discrete (refusal_of l s) 0)

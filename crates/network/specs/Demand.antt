@@ -1,5 +1,5 @@
 -- Demand 3 for every description whose array is wired: for every start that is not declined and every list of calls after it.
--- Assumes what the clock owes.
+-- Assumes nothing.
 use Rattle.std.specs.Prelude.{◌≡◌, true, false, List, map, ◌++◌, ℕ, ◌-◌, ◌≤◌, ◌<◌, eqb, take, replicate}
 use Rattle.std.proofs.Common.{sym, ◌∙◌, ap, ap₂, subst, append-nil, arith, take_all, eqb-true}
 use Rattle.std.proofs.lemmas.List.{length-map, length-replicate}
@@ -26,7 +26,7 @@ use Rattle.network.specs.Steps.{all_waiting, all_length}
 use Rattle.network.specs.Runs.{Grants, Cleared}
 use Rattle.network.specs.Outcome.{After, received_is, receives_most, reached_of, after}
 use Rattle.network.specs.Finish.{finish_words}
-use Rattle.network.specs.Calls.{ClockGrants, calls_granted, calls_leave}
+use Rattle.network.specs.Calls.{calls_granted, calls_leave}
 use Rattle.network.specs.Declined.{Usable, not_by_memory}
 use Rattle.network.specs.Plain.{Described, final_is}
 use Rattle.network.specs.Figures.{words_are, steps_are}
@@ -34,7 +34,7 @@ use Rattle.network.specs.Starts.{Proper, proper, cleared, passes_after}
 use Rattle.network.specs.Results.{result_early, result_only_early, result_late, in_element_order_lem}
 use Rattle.network.specs.Beyond.{calls_beyond}
 
-module _ (K : ClockGrants) (l : Limits) (s values : List ℕ) (M₀ : Memory) where
+module _ (l : Limits) (s values : List ℕ) (M₀ : Memory) where
   abbrev d : Description
   d = description_of s
 
@@ -55,7 +55,7 @@ module _ (K : ClockGrants) (l : Limits) (s values : List ℕ) (M₀ : Memory) wh
     C = cleared l s values M₀ W D
 
     G : Grants A M₁ ss
-    G = calls_granted K s M₁ cs
+    G = calls_granted s M₁ cs
 
     F : After W values ss M
     F = after W values M₁ C ss G
@@ -126,11 +126,11 @@ module _ (K : ClockGrants) (l : Limits) (s values : List ℕ) (M₀ : Memory) wh
     -- ---- all of it
 
     U : Usable l s M
-    U = record { accepted = p.accepted; passes = passes_after l s values M₀ W D K cs }
+    U = record { accepted = p.accepted; passes = passes_after l s values M₀ W D cs }
 
     -- a fact of that memory is one of what the calls leave
     leave : (P : Memory → Type 0) → P M → P (memory_after s M₁ cs)
-    leave P h = subst P (sym (calls_leave K s M₁ cs)) h
+    leave P h = subst P (sym (calls_leave s M₁ cs)) h
 
     after_calls : AfterCalls l s values M₁ cs
     after_calls =
@@ -148,7 +148,7 @@ module _ (K : ClockGrants) (l : Limits) (s values : List ℕ) (M₀ : Memory) wh
               ∙ ap (λ (vs : List ℕ). record { answer = Done; output = vs })
               (ap (in_element_order l s) (received_final e) ∙ in_element_order_lem l s values W D p.values_length));
           finished = λ e. leave (λ N. SameMemory d N (finish d values)) (same_finish e);
-          beyond = calls_beyond K s (λ k e. W) M₁ cs;
+          beyond = calls_beyond s (λ k e. W) M₁ cs;
         }
 
   -- after a start that is not declined
@@ -162,6 +162,6 @@ abbrev pub FromGeometry : Type 0
 FromGeometry = (l : Limits) (s : List ℕ) → refusal_of l s ≡ 0 → (W : Wired (array_of (description_of s))) × Described (description_of s) W
 
 -- what demand 3 says of every list of calls, for every description that is accepted
-pub guarantee : ClockGrants → FromGeometry → (l : Limits) (s values : List ℕ) (M₀ : Memory) → (start l s values M₀).answer ≡ Done → (cs : List Told)
+pub guarantee : FromGeometry → (l : Limits) (s values : List ℕ) (M₀ : Memory) → (start l s values M₀).answer ≡ Done → (cs : List Told)
     → AfterCalls l s values (start l s values M₀).memory cs
-guarantee K G l s values M₀ e cs = let g = G l s (proper l s values M₀ e).accepted in after_start K l s values M₀ g.0 g.1 e cs
+guarantee G l s values M₀ e cs = let g = G l s (proper l s values M₀ e).accepted in after_start l s values M₀ g.0 g.1 e cs

@@ -20,9 +20,6 @@ pub mod Outcome
 pub mod States
 pub mod Kept
 pub mod Finish
-pub mod Same
-pub mod Occasions
-pub mod Sweeps
 pub mod Calls
 pub mod Declined
 pub mod Plain

@@ -1,7 +1,7 @@
--- Members of lists, and of the lists of an array's steps: what passes a test somewhere in the order of the steps is a step of the array,
--- and so is every step of the abstract network that has a counter. Assumes nothing.
-use Rattle.std.specs.Prelude.{◌≡◌, refl, Bool, true, false, cond, ◌⊎◌, ℕ, zero, suc, ◌<◌, T}
-use Rattle.std.proofs.Common.{sym, ap, ap₂, subst, inl, inr, arith, lt-ltb}
+-- Members of lists, and of the lists of an array's steps: what passes a test somewhere in the order of the steps is a step of the array.
+-- Assumes nothing.
+use Rattle.std.specs.Prelude.{◌≡◌, refl, Bool, true, false, cond, ◌⊎◌, ℕ, ◌<◌, T}
+use Rattle.std.proofs.Common.{sym, subst, inl, inr, arith}
 use mathlib.Core.List.Memᴰ.{head as here}
 use mathlib.Core.List.Memᴰ.{map as in_map}
 use mathlib.Core.List.Memᴰ.{tail as there}
@@ -10,17 +10,12 @@ use mathlib.Core.List.Memᴰ.{append_cases as cases}
 use mathlib.Core.List.Memᴰ.{append_left as left}
 use mathlib.Core.List.Memᴰ.{append_right as right}
 use Rattle.meaning.specs.Lists.{any, each, numbers}
-use Rattle.meaning.specs.Array.{Array, process_count, stream_count, pipe_number, stops_on, pipe_through, on_pipe}
-use Rattle.meaning.specs.Rules.{process_on, stream_on}
+use Rattle.meaning.specs.Array.{Array, process_count, stream_count, pipe_number, pipe_through, on_pipe}
 use Rattle.meaning.specs.Rules.{Step, Send, Take, Fire, Give, Receive, ready_to_take, ready_to_give, ready, steps_of, in_order, at, first_ready}
 use Rattle.lists.specs.Members.{any_yes, yes_any, map_in, in_each, each_in, numbers_in, in_numbers}
 use Rattle.lists.specs.Tests.{is_true, both_true}
-use Rattle.abstract_network.specs.Cases.{Order, less, at_least, order}
-use Rattle.abstract_network.specs.Counters.{put, get, fire}
-use Rattle.abstract_network.specs.Counters as Counters
-use Rattle.network.specs.Wiring.{Wired, stop_pipe, port_is, place_at}
-use Rattle.network.specs.Slots.{counter, Has}
-use Rattle.network.specs.Ready.{step_of, There}
+use Rattle.network.specs.Wiring.{place_at}
+use Rattle.network.specs.Ready.{There}
 
 -- ---- members
 
@@ -103,42 +98,6 @@ module _ (A : Array) where
   ready_there st (Fire p) h e = h
   ready_there st (Give p s) h e = (both_true (on_pipe A p s) (ready_to_give A st (pipe_through A p s) (place_at A p s)) e).0
   ready_there st (Receive q) h e = h
-
--- ---- the steps of the abstract network
-
-module _ {A : Array} (W : Wired A) where
-  -- the step of the array that is step b of the abstract network
-  pub record Named (b : Counters.Step) : Type 0 where
-    pub name : Step
-    pub inside : Listed A name
-    pub there : There A name
-    pub is : step_of A name ≡ b
-
-  -- each that has a counter is one
-  pub named : (b : Counters.Step) → Has A (counter b) → Named b
-  named (put q zero) h = record { name = Send q; inside = h; there = h; is = refl }
-  named (put q (suc k)) h =
-      let z = port_is W q k h in
-      let l = stop_pipe A q k h in
-      record {
-        name = Give (process_on A q k) (stream_on A q);
-        inside = (W.process_lt q k h, z.0);
-        there = lt-ltb (pipe_through A (process_on A q k) (stream_on A q)) (pipe_number A) (omega (arith, z.1));
-        is = ap₂ (λ (q k : ℕ). put q (suc k)) z.1 z.2;
-      }
-  named (get q k) (h, l) = go (order k (stops_on A q))
-    where
-      go : Order k (stops_on A q) → Named (get q k)
-      go (less m) =
-          let z = port_is W q k m in
-          record {
-            name = Take (process_on A q k) (stream_on A q);
-            inside = (W.process_lt q k m, z.0);
-            there = lt-ltb (pipe_through A (process_on A q k) (stream_on A q)) (pipe_number A) (omega (arith, z.1));
-            is = ap₂ get z.1 z.2;
-          }
-      go (at_least m) = let e : stops_on A q ≡ k = omega arith in record { name = Receive q; inside = h; there = h; is = ap (get q) e }
-  named (fire p) h = record { name = Fire p; inside = h; there = h; is = refl }
 
 -- what is found passes, and is a member
 pub found_passes : (f : Step → Bool) (l : List Step) (a : Step) → first_ready f l ≡ at a → In a l × (f a ≡ true)

@@ -1,14 +1,14 @@
 -- After every list of granted steps from a cleared state: what is received is final, some step is ready exactly if some value is not out,
 -- and the granted steps are at most the total, equal to it exactly if all values are out. Assumes nothing.
 use Rattle.std.proofs.Math.Path.{◌≡◌, refl, sym}
-use Rattle.std.proofs.Common.{◌∙◌, ap, ap₂, subst, le_refl, arith}
+use Rattle.std.proofs.Common.{◌∙◌, ap, ap₂, subst, le_refl, arith, lt-ltb}
 use Rattle.std.specs.Prelude.{Bool, true, not, ◌↔◌, List, [], ℕ, zero, suc, ◌+◌, ◌*◌, ◌≤◌, ◌<◌, length, get_or}
 use Rattle.std.proofs.Math.Bool.{false}
 use Rattle.std.proofs.Math.Dec.{eqb}
 use Rattle.std.proofs.Math.ListN.{get_or-eq_default}
 use Rattle.meaning.specs.Lists.{total}
-use Rattle.meaning.specs.Array.{Array, Pipe, count_at, process_count, pipe_number, no_pipe, stops_on, elements_on, part_start}
-use Rattle.meaning.specs.Rules.{stream_on, Memory, ready, in_order, any_ready, apply_all}
+use Rattle.meaning.specs.Array.{Array, Pipe, count_at, process_count, pipe_number, no_pipe, stops_on, elements_on, part_start, pipe_through}
+use Rattle.meaning.specs.Rules.{process_on, stream_on, Send, Take, Fire, Give, Receive, Memory, ready, in_order, any_ready, apply_all}
 use Rattle.meaning.specs.Rules as Rules
 use Rattle.meaning.specs.Demand3.{receives}
 use Rattle.abstract_network.specs.Cases.{Order, less, at_least, order}
@@ -20,13 +20,13 @@ use Rattle.abstract_network.specs.System.{System}
 use Rattle.abstract_network.specs.Claims.{Out, stretch, stretch_rest, not_ready}
 use Rattle.abstract_network.specs.Claims as Claims
 use Rattle.network.specs.Count.{step_sum, totals, totals_add, granted_most, out_granted, granted_out}
-use Rattle.network.specs.Wiring.{net_of, element_at, Wired, element_pipe}
+use Rattle.network.specs.Wiring.{net_of, element_at, Wired, stop_pipe, element_pipe, port_is}
 use Rattle.network.specs.Programs.{program_of, system_of}
-use Rattle.network.specs.Slots.{taken, counter, Has, counts_of}
+use Rattle.network.specs.Slots.{taken, counts_of}
 use Rattle.network.specs.Decide.{Says, holds, fails, said, says_true, says_as, says_eq, says_every}
-use Rattle.network.specs.Ready.{step_of, says_ready}
+use Rattle.network.specs.Ready.{step_of, There, says_ready}
 use Rattle.network.specs.Parts.{out_is}
-use Rattle.network.specs.Members.{any_in, in_any, in_order_lem, listed, ready_there, named}
+use Rattle.network.specs.Members.{any_in, in_any, Listed, in_order_lem, listed, ready_there}
 use Rattle.network.specs.Runs.{Grants, all_done, Cleared, Reached, view_zero, reached_start, good_of, sound_of, reached_all}
 use Rattle.network.specs.Runs.{receives_count}
 
@@ -52,17 +52,47 @@ module _ {A : Array} (W : Wired A) where
   -- ---- readiness: a step that the abstract network may grant is a ready step in the order of the steps
 
   module _ (st : List ℕ) (S : Sound (net_of A) (counts_of A st)) where
-    -- a step that the abstract network may grant has a counter
-    guard_has : (b : Step) → Guard (net_of A) (counts_of A st) b → Has A (counter b)
-    guard_has (put q zero) g = element_pipe A q (counts_of A st (put q 0)) g.0
-    guard_has (put q (suc k)) g = g.0
-    guard_has (get q k) g = (element_pipe A q (counts_of A st (get q k)) (omega (arith, g.1, S.puts q k g.0)), g.0)
-    guard_has (fire p) g = process_there A p (omega (arith, g.0))
+    -- a step of the array for every step of the abstract network that may be granted
+    record Named (b : Step) : Type 0 where
+      name : Rules.Step
+      inside : Listed A name
+      there : There A name
+      is : step_of A name ≡ b
+
+    named : (b : Step) → Guard (net_of A) (counts_of A st) b → Named b
+    named (put q zero) g =
+        let l = element_pipe A q (counts_of A st (put q 0)) g.0 in record { name = Send q; inside = l; there = l; is = refl }
+    named (put q (suc k)) g =
+        let z = port_is W q k g.0 in
+        let l = stop_pipe A q k g.0 in
+        record {
+          name = Give (process_on A q k) (stream_on A q);
+          inside = (W.process_lt q k g.0, z.0);
+          there = lt-ltb (pipe_through A (process_on A q k) (stream_on A q)) (pipe_number A) (omega (arith, z.1));
+          is = ap₂ (λ (q k : ℕ). put q (suc k)) z.1 z.2;
+        }
+    named (get q k) g = go (order k (stops_on A q))
+      where
+        go : Order k (stops_on A q) → Named (get q k)
+        go (less m) =
+            let z = port_is W q k m in
+            let l = stop_pipe A q k m in
+            record {
+              name = Take (process_on A q k) (stream_on A q);
+              inside = (W.process_lt q k m, z.0);
+              there = lt-ltb (pipe_through A (process_on A q k) (stream_on A q)) (pipe_number A) (omega (arith, z.1));
+              is = ap₂ get z.1 z.2;
+            }
+        go (at_least m) =
+            let e : stops_on A q ≡ k = omega (arith, g.0) in
+            let l = element_pipe A q (counts_of A st (get q k)) (omega (arith, g.1, S.puts q k g.0)) in
+            record { name = Receive q; inside = l; there = l; is = ap (get q) e }
+    named (fire p) g = let l = process_there A p (omega (arith, g.0)) in record { name = Fire p; inside = l; there = l; is = refl }
 
     -- a step that the abstract network may grant makes some step ready, and a ready step may be granted
     pub guard_ready : (b : Step) → Guard (net_of A) (counts_of A st) b → any_ready A st ≡ true
     guard_ready b g =
-        let n = named W b (guard_has b g) in
+        let n = named b g in
         any_in (ready A st) (in_order_lem A n.name n.inside)
         (says_true (says_ready A st W S n.name n.there) (subst (λ (b : Step). Guard (net_of A) (counts_of A st) b) (sym n.is) g))
 

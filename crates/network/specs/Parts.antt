@@ -1,7 +1,7 @@
 -- The waiting and the received list by pipes: where a pipe's part stands, what a receive changes there, and that the list of a start has
 -- the elements' values. Assumes nothing.
 use Rattle.std.specs.Prelude.{◌≡◌, refl, get_or, set, take, drop, replicate}
-use Rattle.std.proofs.Common.{sym, ◌∙◌, ap, ap₂, subst, length-append, length-drop, take-append-drop, length-take-le, get_or-take, get_or-drop, drop-drop, ext_get_or, get_or-append-add, get_or-set_same, get_or-set_other, lt-ltb, le-ltb}
+use Rattle.std.proofs.Common.{sym, ◌∙◌, ap, ap₂, length-append, length-drop, take-append-drop, length-take-le, get_or-take, get_or-drop, drop-drop, ext_get_or, get_or-append-add, get_or-set_same, get_or-set_other, lt-ltb, le-ltb}
 use mathlib.Core.List.{List, [], ◌∷◌, ◌++◌, map, map-append}
 use Prim.Native.Nat.{ℕ, zero, suc, ◌+◌, ◌-◌, ◌≤◌, ◌<◌}
 use native.Mathlib.Omega.{arith}
@@ -46,22 +46,6 @@ each_is f size d (x ∷ l) out e h =
     (each_is f size d l (drop (size x) out) (omega (arith, length-drop (size x) out)) (λ q m.
     ap (take (size (get_or l q d))) (drop-drop (total size (take q l)) (size x) out) ∙ h (suc q) (omega arith)))
 
--- what holds in every part holds at every place
-every_part : {X : Type 0} (P : ℕ → Type 0) (size : X → ℕ) (d : X) (l : List X)
-    → ((q i : ℕ) → q < length l → i < size (get_or l q d) → P (total size (take q l) + i)) → (x : ℕ) → x < total size l → P x
-unfolding total
-every_part P size d [] h x m = absurd (omega arith)
-every_part P size d (y ∷ l) h x m = go (order x (size y)) (every_part (λ x. P (size y + x)) size d l later)
-  where
-    later : (q i : ℕ) → q < length l → i < size (get_or l q d) → P (size y + (total size (take q l) + i))
-    later q i a b =
-        let e : size y + total size (take q l) + i ≡ size y + (total size (take q l) + i) = omega arith in
-        subst P e (h (suc q) i (omega arith) b)
-
-    go : Order x (size y) → ((x : ℕ) → x < total size l → P (size y + x)) → P x
-    go (less o) ih = let e : 0 + x ≡ x = omega arith in subst P e (h 0 x (omega arith) o)
-    go (at_least o) ih = let e : size y + (x - size y) ≡ x = omega arith in subst P e (ih (x - size y) (omega arith))
-
 pub get_d_map : (f : ℕ → ℕ) (l : List ℕ) (j : ℕ) → j < length l → get_or (map f l) j 0 ≡ f (get_or l j 0)
 get_d_map f [] j h = absurd (omega arith)
 get_d_map f (x ∷ l) zero h = refl
@@ -76,11 +60,6 @@ module _ (A : Array) where
 
   pub part_below : (q i : ℕ) → i < elements_on A q → part_start A q + i < list_length A
   part_below q i h = omega (arith, part_end q (element_pipe A q i h))
-
-  pub parts_all : (P : ℕ → Type 0) → ((q i : ℕ) → i < elements_on A q → P (part_start A q + i)) → (x : ℕ) → x < list_length A → P x
-  parts_all P h x m =
-      every_part P (λ (r : Pipe). length r.elements) no_pipe A.pipes (λ q i a b. h q i b) x
-      (omega (arith, each_length (λ (r : Pipe). r.elements) A.pipes))
 
   pub part_apart : (q i q' i' : ℕ) → i < elements_on A q → i' < elements_on A q' → part_start A q + i ≡ part_start A q' + i'
       → (q ≡ q') × (i ≡ i')

@@ -11,7 +11,6 @@ use Rattle.meaning.specs.State.{Received, Firings, Taken, Given, Sent, read}
 use Rattle.meaning.specs.Rules.{process_on, stream_on, put_in, taken_out, fill, has_room, ready_to_take, ready_to_use, ready_to_fire, ready_to_give}
 use Rattle.meaning.specs.Rules.{Send, Take, Fire, Give, Receive, ready}
 use Rattle.meaning.specs.Rules as Rules
-use Rattle.meaning.specs.Ticks.{done_of}
 use Rattle.abstract_network.specs.Counters.{Use, Step, put, get, fire, Counts, At, Guard}
 use Rattle.abstract_network.specs.Sound.{Sound}
 use Rattle.network.specs.Wiring.{net_of, Wired, stop_pipe, HasPort, has_port_lem, port_is, place_at}
@@ -61,25 +60,6 @@ module _ (A : Array) where
 
     pub fired_is : (p : ℕ) → p < process_count A → read A st (Firings p) ≡ counts_of A st (fire p)
     fired_is p l = sym (view_is A st (fired p) l)
-
-    -- of a process that stands on its pipe of stream s
-    port_taken : (p s : ℕ) → HasPort A p s → read A st (Taken p s) ≡ counts_of A st (get (pipe_through A p s) (place_at A p s))
-    port_taken p s z =
-        ap₂ (λ (p s : ℕ). read A st (Taken p s)) (sym z.process) (sym z.stream)
-        ∙ taken_is (pipe_through A p s) (place_at A p s) z.place_lt
-
-    port_given : (p s : ℕ) → HasPort A p s → read A st (Given p s) ≡ counts_of A st (put (pipe_through A p s) (suc (place_at A p s)))
-    port_given p s z =
-        ap₂ (λ (p s : ℕ). read A st (Given p s)) (sym z.process) (sym z.stream)
-        ∙ given_is (pipe_through A p s) (place_at A p s) z.place_lt
-
-    -- the word that counts a step has the step's counter
-    pub done_is : (a : Rules.Step) → There a → done_of A st a ≡ counts_of A st (step_of a)
-    done_is (Send q) h = put_is q 0 h (omega arith)
-    done_is (Take p s) h = port_taken p s (has_port_lem A p s h)
-    done_is (Fire p) h = fired_is p h
-    done_is (Give p s) h = port_given p s (has_port_lem A p s h)
-    done_is (Receive q) h = end_is q h
 
     -- ---- the guards
 
@@ -133,7 +113,8 @@ module _ (A : Array) where
           says_use A (elements_on A q) (stop_at A q k).soak (count_at A (process_on A q k)) (c (get q k)) (c (put q (suc k)))
           (c (fire (process_on A q k)))
           (read A st (Taken p s)) (read A st (Given p s)) (read A st (Firings p))
-          (port_taken p s z) (port_given p s z)
+          (ap₂ (λ (p s : ℕ). read A st (Taken p s)) (sym z.process) (sym z.stream) ∙ taken_is q k z.place_lt)
+          (ap₂ (λ (p s : ℕ). read A st (Given p s)) (sym z.process) (sym z.stream) ∙ given_is q k z.place_lt)
           (fired_is p h ∙ ap (λ (p : ℕ). c (fire p)) (sym z.process))
           (stop_at A q k).keeps
           (S.balance q k z.place_lt)

@@ -1,5 +1,5 @@
 -- A start that is not declined: its description is accepted, and it clears. After it and any calls the memory passes the tests of a memory.
--- Assumes what the clock owes.
+-- Assumes nothing.
 use Rattle.std.specs.Prelude.{◌≡◌, Bool, true, false, not, ◌||◌, List, eqb, length, get_or, drop, replicate}
 use Rattle.std.proofs.Math.Path.{refl}
 use Rattle.std.proofs.Common.{◌∙◌, ap, arith, length-append, eqb-true}
@@ -22,7 +22,7 @@ use Rattle.network.specs.Links.{written_length}
 use Rattle.network.specs.Steps.{all_waiting, all_length}
 use Rattle.network.specs.Runs.{Cleared}
 use Rattle.network.specs.Kept.{kept, cleared_sound}
-use Rattle.network.specs.Calls.{ClockGrants, refusal_none, or_else_lem, calls_granted}
+use Rattle.network.specs.Calls.{refusal_none, or_else_lem, calls_granted}
 use Rattle.network.specs.Declined.{Passes}
 use Rattle.network.specs.Plain.{Described}
 use Rattle.network.specs.Figures.{words_are}
@@ -95,9 +95,9 @@ module _ (l : Limits) (s values : List ℕ) (M₀ : Memory) where
         }
 
     -- after any calls the memory passes the tests
-    pub passes_after : ClockGrants → (cs : List Told) → Passes d (apply_all A M₁ (granted_by s M₁ cs))
-    passes_after K cs =
-        let k = kept W cleared.fit.long (cleared_sound W values M₁ cleared) (calls_granted K s M₁ cs) in
+    pub passes_after : (cs : List Told) → Passes d (apply_all A M₁ (granted_by s M₁ cs))
+    passes_after cs =
+        let k = kept W cleared.fit.long (cleared_sound W values M₁ cleared) (calls_granted s M₁ cs) in
         record {
           waits = ap length (all_waiting A M₁ (granted_by s M₁ cs)) ∙ length-map (pipe_order A) (λ e. get_or values e 0) ∙ D.elements_add;
           list = all_length A M₁ (granted_by s M₁ cs) ∙ length-replicate {A = ℕ} (length_of d) 0;

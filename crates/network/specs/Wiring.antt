@@ -83,7 +83,7 @@ pub data Course (A : Array) (pace late : ℕ) (time : ℕ → ℕ → ℕ) (q : 
       → ((k : ℕ) → k < stops_on A q → (stop_at A q k).keeps ≡ false → count_at A (process_on A q k) ≡ 0)
       → 2 * elements_on A q ≤ late
       → ((k m : ℕ) → k < stops_on A q → m < count_at A (process_on A q k)
-      → (2 * stops_on A q + 2 * elements_on A q ≤ 3 * time (process_on A q k) m) × (3 * time (process_on A q k) m + 1 < late))
+      → (2 * stops_on A q + 2 * elements_on A q < 3 * time (process_on A q k) m) × (3 * time (process_on A q k) m + 1 < late))
       → Course A pace late time q
 
 -- ---- what geometry has to show

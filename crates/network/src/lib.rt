@@ -12,12 +12,11 @@
 //               the stores of each rule; `step-more`, `step-granted`: a ready step that is done is a granted step of the abstract network;
 //               `part-is`, `parts_are`: a pipe's part of the received list, and the whole of it
 //   Members, Runs, Outcome
-//               `named`: a step of the abstract network is one of the array's; lists of granted steps from a cleared state: `reached-all`,
-//               `after`: the claims; Count: the granted steps are the sum of the counters
+//               lists of granted steps from a cleared state: `reached-all`, `after`: the claims; Count: the granted steps are the sum of
+//               the counters
 //   States      `says-sound`; `sound-kept`: every granted step keeps a sound state sound, reached or not
 //   Kept        `kept`: of lists of granted steps, and that they write to slots only; `written-beyond`: what stands past the words is kept
 //   Finish      `final-word`, `finish-words`: when all values are out, every count is its total and every other word 0, whatever the order
-//   Same        `same_memory`, `same-done`: granted steps from a cleared memory that do every step equally often leave the same memory
 //   Calls       `calls-granted`, `calls-leave`: calls do granted steps only, whatever limits each is told, and nothing else changes
 //   Declined    `numbers-are`: a call is declined by its tests; `declined`: every call declines what is refused; `usable`: what a call that
 //               is not declined was lent;

@@ -13,7 +13,7 @@ use Rattle.meaning.specs.Lists.{total}
 use Rattle.meaning.specs.Space.{row_index, space, processes}
 use Rattle.meaning.specs.Streams.{hop, elements}
 use Rattle.meaning.specs.Pipes.{entries, pipe_elements}
-use Rattle.meaning.specs.Description.{streams_of, no_stream, stream_at}
+use Rattle.meaning.specs.Description.{streams_of, no_stream}
 use Rattle.meaning.specs.Body.{stream_start}
 use Rattle.meaning.specs.Array.{Array, array_of, pipe_number, part_start}
 use Rattle.lists.specs.Members.{filter_in}
@@ -24,7 +24,7 @@ use Rattle.geometry.specs.Places.{ahead, get_d_in, ahead_get_d, ahead_filter}
 use Rattle.geometry.specs.Boxes.{row_distinct, points_sorted}
 use Rattle.geometry.specs.Elements.{part_of}
 use Rattle.geometry.specs.Descriptions.{Laid}
-use Rattle.geometry.specs.Arrays.{pipe_count_lem}
+use Rattle.geometry.specs.Arrays.{stream_at, pipe_count_lem}
 use Rattle.addresses.specs.Pipes.{entry_count, base, entry_at, base_next, part_start_lem}
 use Rattle.addresses.specs.Through.{point_of}
 use Rattle.addresses.specs.Ends.{number_lt, number_point, entry_inside}

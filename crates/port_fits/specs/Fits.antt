@@ -9,14 +9,15 @@ use Rattle.meaning.specs.declared.Description.{Description}
 use Rattle.meaning.specs.Limits.{gauge_limits}
 use Rattle.meaning.specs.Space.{computing}
 use Rattle.meaning.specs.Pipes.{uses, pipe_elements, soak}
-use Rattle.meaning.specs.Description.{description_of, streams_of, stream_at}
+use Rattle.meaning.specs.Description.{description_of, streams_of}
 use Rattle.meaning.specs.Array.{row_soak, Array, array_of, process_count, stream_count, pipe_number, elements_on, stop_at, on_pipe}
 use Rattle.meaning.specs.State.{word_count}
 use Rattle.meaning.specs.Accept.{refusal_of}
 use Rattle.meaning.specs.Calls.{length_of, state_length}
 use Rattle.lists.specs.Tests.{position_most}
 use Rattle.geometry.specs.Descriptions.{Laid, laid}
-use Rattle.wired.specs.Wired.{wired}
+use Rattle.geometry.specs.Arrays.{stream_at}
+use Rattle.guarantee.specs.Wired.{wired}
 use Rattle.addresses.specs.Through.{point_of, on_is}
 use Rattle.addresses.specs.Ports.{soak_is, elements_is}
 use Rattle.addresses.specs.Indices.{stream_count_lem, word_count_lem}

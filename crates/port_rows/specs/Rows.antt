@@ -9,11 +9,12 @@ use Rattle.meaning.specs.Lists.{total}
 use Rattle.meaning.specs.Space.{row_index, space, processes, count}
 use Rattle.meaning.specs.Streams.{hop, move}
 use Rattle.meaning.specs.Pipes.{reach, before, is_pipe, entries, pipe_elements}
-use Rattle.meaning.specs.Description.{streams_of, stream_at}
+use Rattle.meaning.specs.Description.{streams_of}
 use Rattle.meaning.specs.Array.{Array, array_of, pipe_through, place_on, part_start, count_at}
 use Rattle.meaning.specs.State.{Firings, Taken, Given, Sent, Received, End, index}
 use Rattle.meaning.specs.Rules.{put_in, taken_out, link_place}
 use Rattle.geometry.specs.Descriptions.{Laid}
+use Rattle.geometry.specs.Arrays.{stream_at}
 use Rattle.addresses.specs.Pipes.{base, entry_at, hop_on, elements_on_lem}
 use Rattle.addresses.specs.Through.{point_of, entry_number, through_is, entry_lt, entry_rank, on_is}
 use Rattle.addresses.specs.Ports.{process_on_lem, keeps_is, soak_is, stream_is, hop_is, elements_is, count_at_lem}

@@ -14,7 +14,7 @@ ghost use Rattle.meaning.specs.Lists.{every, numbers};
 ghost use Rattle.meaning.specs.Limits.{limits_of};
 ghost use Rattle.meaning.specs.Description.{description_of};
 ghost use Rattle.meaning.specs.Rules.{memory_of};
-ghost use Rattle.meaning.specs.Calls.{length_of, result};
+ghost use Rattle.meaning.specs.Calls.{length_of, result as result_call};
 ghost use Rattle.survey.specs.Surveys.{Surveyed, SurveyOf};
 ghost use Rattle.layout.specs.Spans.{Spans, span_words};
 ghost use Rattle.figures.specs.Shares.{AllLanes};
@@ -32,7 +32,7 @@ use survey::Survey;
 // Whether every pipe is wholly received.
 fn all_out(ports: &[u32], state: &[u32], pipes: usize) -> bool
     requires { Asked ports.now (length state.now) pipes }
-    ensures* { λ r. ⌜ r ≡ every (out_by ports.now state.now) (numbers pipes) ⌝ }
+    ensures { result ≡ every (out_by ports.now state.now) (numbers pipes) }
 {
     let mut q = 0;
     while q < pipes {
@@ -48,7 +48,7 @@ fn all_out(ports: &[u32], state: &[u32], pipes: usize) -> bool
 // The values at the places of their elements, element by element.
 fn put_in_order(received: &[u32], places: &[u16], elements: usize, output: &mut [u32])
     requires { Readable received.now places.now elements output.old }
-    ensures* { λ r. ⌜ output.new ≡ fill_by (placed received.now places.now) elements output.old ⌝ }
+    ensures { output.new ≡ fill_by (placed received.now places.now) elements output.old }
 {
     let mut e = 0;
     while e < elements {
@@ -62,7 +62,7 @@ fn fill_output(v: Survey, spans: &[u32], lanes: &[u16], received: &[u32], output
     requires { (Placeable v.description) × (Surveyed v) × (length received.now ≡ length_of v.description)
         × (length output.old ≡ length_of v.description) × (Spans v.description.nest spans.now) × (span_words ≤ length spans.now)
         × (AllLanes v.description lanes.now) }
-    ensures* { λ r. ⌜ output.new ≡ element_order v.description received.now ⌝ }
+    ensures { output.new ≡ element_order v.description received.now }
 {
     let mut places = [0u16; ELEMENTS];
     element_places::fill_places(v, spans, lanes, &mut places);
@@ -84,7 +84,7 @@ fn result_opened(
     requires { (Drawable s.now ports.now z received.now state.now) × (SurveyOf s.now v)
         × (Spans (description_of s.now).nest spans.now) × (span_words ≤ length spans.now)
         × (AllLanes (description_of s.now) lanes.now) }
-    ensures* { λ r. ⌜ Called s.now received.now state.now output.old r output.new ⌝ }
+    ensures { Called s.now received.now state.now output.old result output.new }
 {
     let out = all_out(ports, state, z.pipes);
     let r = declines::of_result(out, output.len() == received.len());
@@ -105,12 +105,12 @@ pub fn result(
     received: &[u32],
     state: &[u32],
 ) -> Answer
-    ensures* { λ r. ⌜ (r
-        ≡ (result (limits_of board) s.now output.old
+    ensures { (result
+        ≡ (result_call (limits_of board) s.now output.old
         (memory_of waiting.now received.now state.now)).answer)
         × (output.new
-        ≡ (result (limits_of board) s.now output.old
-        (memory_of waiting.now received.now state.now)).output) ⌝ }
+        ≡ (result_call (limits_of board) s.now output.old
+        (memory_of waiting.now received.now state.now)).output) }
 {
     let mut spans = [0u32; SPANS];
     let mut ports = [0u32; PORTS];

@@ -12,7 +12,7 @@ use Rattle.network.specs.Decide.{said}
 use Rattle.network.specs.Steps.{waiting_same, received_length, step_length}
 use Rattle.network.specs.States.{says_sound, sound_kept}
 use Rattle.network.specs.Wiring.{Wired}
-use Rattle.wired.specs.Wired.{wired}
+use Rattle.guarantee.specs.Wired.{wired}
 use Rattle.addresses.specs.Indices.{word_count_lem}
 use Rattle.lists.specs.Tests.{both_true}
 use Rattle.port_table.specs.declared.Size.{Size}

@@ -24,7 +24,7 @@ pub widens : (z : ℤ) → mag z < 2 ^ 7 → SFits w32 (to_z w8 (of_z w8 z))
 widens z h = let f : SFits w8 z = record { sfits = h } in cast_fits f (sfits_widen tt f)
 
 pub widened : {z : ℤ} → mag z < 2 ^ 7 → to_z w32 (of_z w32 (to_z w8 (of_z w8 z))) ≡ z
-widened {z} h = let f : SFits w8 z = record { sfits = h } in cast_same f (sfits_widen tt f)
+widened {z} h = let f : SFits w8 z = record { sfits = h } in cast_same {u = w8} {w = w32} f (sfits_widen tt f)
 
 -- and a coordinate, which they hold, stored as it is
 in_byte : {z : ℤ} → Abs z 64 → SFits w8 z
@@ -35,10 +35,10 @@ in_byte {z} h = record { sfits = go z h.abs }
     go (negsuc n) b = omega arith
 
 pub narrows : {z : ℤ} → Abs z 64 → SFits w8 (to_z w32 (of_z w32 z))
-narrows h = cast_fits (sfits_widen tt (in_byte h)) (in_byte h)
+narrows h = cast_fits {u = w32} {w = w8} (sfits_widen tt (in_byte h)) (in_byte h)
 
 pub narrowed : {z : ℤ} → Abs z 64 → to_z w8 (of_z w8 (to_z w32 (of_z w32 z))) ≡ z
-narrowed h = cast_same (sfits_widen tt (in_byte h)) (in_byte h)
+narrowed h = cast_same {u = w32} {w = w8} (sfits_widen tt (in_byte h)) (in_byte h)
 
 -- ---- an instance in three
 

@@ -1,4 +1,3 @@
 -- Whole runs, computed; src/lib.rt has the list.
 pub mod Runs
 pub mod GuardedRuns
-pub mod ClockedRuns

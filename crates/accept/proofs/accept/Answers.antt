@@ -11,10 +11,9 @@ use Rattle.accept.proofs.accept.Goals as goal
 
 pub figures_of-figures-requires : goal.figures_of-figures-requires
 figures_of-figures-requires c =
-    let v = c in
-    let a = v.args in
+    let a = c.args in
     let z = c.if-refusal-eq0.true in
-    let e = v.survey_of-v.ensures in
+    let e = c.survey_of-v.ensures in
     let h = e.1 z in (
       subst Described (sym h.0.description_is) (described a.s.now (by_board a.board a.s.now (sym e.0 ∙ z))),
       h.0.surveyed,
@@ -29,11 +28,10 @@ divisors_of-requires c =
 
 pub returns-then-refusal-eq0 : goal.returns-then-refusal-eq0
 returns-then-refusal-eq0 c =
-    let v = c in
     let z = c.if-refusal-eq0.true in
-    let e = v.survey_of-v.ensures in
+    let e = c.survey_of-v.ensures in
     let d = (e.1 z).0.description_is in
-    accepts _ v.args.s.now (sym e.0 ∙ z) (c.figures_of-figures.ensures.0 ∙ ap figures d)
+    accepts _ c.args.s.now (sym e.0 ∙ z) (c.figures_of-figures.ensures.0 ∙ ap figures d)
     (c.divisors_of.ensures ∙ ap divisors d)
 
 pub returns-else-refusal-eq0 : goal.returns-else-refusal-eq0

@@ -10,13 +10,10 @@ use Rattle.answer_words.proofs.note.Goals as goal
 
 pub returns-then-k-list : goal.returns-then-k-list
 returns-then-k-list c =
-    let third = c in
-    let second = third in
-    let first = second in
-    let a = first.args in
-    third.put-then-k-list-2.ensures
+    let a = c.args in
+    c.put-then-k-list-2.ensures
     ∙ ap (λ (l : List ℕ). set l (3 * a.k + 2) a.words.second)
-    (second.put-then-k-list.ensures ∙ ap (λ (l : List ℕ). set l (3 * a.k + 1) a.words.first) first.put.ensures)
+    (c.put-then-k-list.ensures ∙ ap (λ (l : List ℕ). set l (3 * a.k + 1) a.words.first) c.put.ensures)
 
 pub returns-else-k-list : goal.returns-else-k-list
 returns-else-k-list c = let a = c.args in sym (noted_out a.list.now a.k a.words (omega arith))

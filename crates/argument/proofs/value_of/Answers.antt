@@ -8,14 +8,13 @@ use Rattle.argument.proofs.value_of.Goals as goal
 
 pub loop-i-preserved : goal.loop-i-preserved
 loop-i-preserved c =
-    let b = c in
-    let ds = b.args.digits.now in
-    let i = b.loop-i.i in (
+    let ds = c.args.digits.now in
+    let i = c.loop-i.i in (
       omega arith,
-      ap (λ (v : ℕ). value_of v (drop (i + 1) ds)) c.with_digit-value.ensures ∙ value_next ds i b.loop-i.value (omega arith)
-          ∙ b.loop-i.invariant.1,
+      ap (λ (v : ℕ). value_of v (drop (i + 1) ds)) c.with_digit-value.ensures ∙ value_next ds i c.loop-i.value (omega arith)
+          ∙ c.loop-i.invariant.1,
     )
 
 pub returns : goal.returns
 returns c =
-    let b = c in value_end b.args.digits.now b.loop-i.i b.loop-i.value (omega arith) ∙ b.loop-i.invariant.1
+    value_end c.args.digits.now c.loop-i.i c.loop-i.value (omega arith) ∙ c.loop-i.invariant.1

@@ -14,7 +14,6 @@ returns-then-c-gt57 c =
 
 pub returns : goal.returns
 returns c =
-    let w = c in
-    let k = w.args.c in
-    rw (le-ltb k 48 w.if-c-lt48.false, le-ltb 57 k w.if-c-gt57.false)
-    (c.capped.ensures ∙ ap (λ (x : ℕ). min (10 * x + (k - 48)) 4294967295) w.wide.ensures.0)
+    let k = c.args.c in
+    rw (le-ltb k 48 c.if-c-lt48.false, le-ltb 57 k c.if-c-gt57.false)
+    (c.capped.ensures ∙ ap (λ (x : ℕ). min (10 * x + (k - 48)) 4294967295) c.wide.ensures.0)

@@ -4,6 +4,5 @@ use Rattle.beqlanosh.proofs.beqlanosh_make.Goals as goal
 
 pub returns : goal.returns
 returns c =
-    let p = c in
-    let h = rw p.make-made.ensures.0 at c.put_made.ensures in
-    (h.0, p.make-made.ensures.1, h.1)
+    let h = rw c.make-made.ensures.0 at c.put_made.ensures in
+    (h.0, c.make-made.ensures.1, h.1)

@@ -4,6 +4,5 @@ use Rattle.beqlanosh.proofs.beqlanosh_ready.Goals as goal
 
 pub returns : goal.returns
 returns c =
-    let p = c in
-    let h = rw p.ready-found.ensures.0 at c.put_readiness.ensures in
-    (h.0, p.ready-found.ensures.1, h.1)
+    let h = rw c.ready-found.ensures.0 at c.put_readiness.ensures in
+    (h.0, c.ready-found.ensures.1, h.1)

@@ -4,6 +4,5 @@ use Rattle.beqlanosh.proofs.beqlanosh_run.Goals as goal
 
 pub returns : goal.returns
 returns c =
-    let p = c in
-    let h = rw p.run-ran.ensures.0 at c.put_ran.ensures in
-    (h.0, p.run-ran.ensures.1, h.1)
+    let h = rw c.run-ran.ensures.0 at c.put_ran.ensures in
+    (h.0, c.run-ran.ensures.1, h.1)

@@ -1,10 +1,7 @@
 -- `body::gather` meets its contract: after i turns the first i values are in the registers. Assumes nothing.
-use mathlib.Core.Path.{◌≡◌, refl, ◌∙◌}
-use Prim.Native.Nat.{◌≤◌, ◌-◌}
+use mathlib.Core.Path.{refl, ◌∙◌}
 use native.Mathlib.Omega.{arith}
-use lib.ListN.{length}
-use borrow.Author.Rules.{rules}
-use Rattle.body.specs.Store.{gathered, gather_next, gather_end}
+use Rattle.body.specs.Store.{gather_next, gather_end}
 use Rattle.body.proofs.gather.Goals as goal
 
 pub loop-i-init : goal.loop-i-init
@@ -21,13 +18,10 @@ bounds-store-place c = c.requires.within _ c.loop-i-test.true
 
 pub loop-i-preserved : goal.loop-i-preserved
 loop-i-preserved c =
-    let q = c in
-    let s = q in
-    let next = gather_next s.args.store.now s.args.places.now q.loop-i.i c.loop-i-test.true
-    s.requires.streams in
-    (omega arith, rw q.loop-i.invariant.1 next)
+    let next = gather_next c.args.store.now c.args.places.now c.loop-i.i c.loop-i-test.true
+    c.requires.streams in
+    (omega arith, rw c.loop-i.invariant.1 next)
 
 pub returns : goal.returns
 returns c =
-    let q = c in
-    q.loop-i.invariant.1 ∙ gather_end q.args.store.now q.args.places.now q.loop-i.i (omega arith)
+    c.loop-i.invariant.1 ∙ gather_end c.args.store.now c.args.places.now c.loop-i.i (omega arith)

@@ -1,10 +1,8 @@
 -- `body::gather` meets its contract: after i turns the first i values are in the registers. Assumes nothing.
-use mathlib.Core.Path.{◌≡◌, refl, ◌∙◌}
+use mathlib.Core.Path.{◌≡◌}
 use Prim.Native.Nat.{◌≤◌, ◌-◌}
-use native.Mathlib.Omega.{arith}
 use lib.ListN.{length}
-use borrow.Author.Rules.{rules}
-use Rattle.body.specs.Store.{gathered, gather_next, gather_end}
+use Rattle.body.specs.Store.{gathered}
 use Rattle.body.proofs.gather.Given as goal
 
 abbrev pub invariant-loop-i : goal.invariant-loop-i

@@ -1,6 +1,5 @@
 -- `body::run_line` meets its contract: a target or an operand is at most 7, and so is one of the eight registers. Assumes nothing.
 use mathlib.Core.Path.{refl, sym, ◌∙◌}
-use borrow.Author.Rules.{rules}
 use Rattle.body.proofs.run_line.Goals as goal
 
 pub returns-then-admits : goal.returns-then-admits

@@ -1,8 +1,8 @@
 -- `body::run_lines` meets its contract: after i turns the first i lines have run. Assumes nothing.
 use mathlib.Core.Path.{◌≡◌, refl, sym, ◌∙◌, ap}
-use Prim.Native.Nat.{◌<◌, ◌≤◌, ◌-◌}
+use Prim.Native.Nat.{◌<◌}
 use native.Mathlib.Omega.{arith}
-use lib.ListN.{length, get_or, take}
+use lib.ListN.{length, get_or}
 use borrow.Author.Rules.{rules}
 use Rattle.meaning.specs.Body.{run_line, run_lines}
 use Rattle.meaning.specs.Description.{no_line}
@@ -18,19 +18,16 @@ bounds-lines-i c = omega (arith, c.requires.lines)
 
 pub run_line-requires : goal.run_line-requires
 run_line-requires c =
-    let q = c in q.requires.within q.loop-i.i (omega arith)
+    c.requires.within c.loop-i.i (omega arith)
 
 pub loop-i-preserved : goal.loop-i-preserved
 loop-i-preserved c =
-    let q = c in
-    let s = q in
-    let l : length s.args.t2 ≡ 8 = search rules in
-    let n : q.loop-i.i < length s.args.t2 = omega (arith, s.requires.lines) in
-    let next = run_next s.args.x s.args.t2 q.loop-i.i s.args.registers.now n in
-    (omega arith, c.run_line.ensures ∙ ap (run_line s.args.x (get_or s.args.t2 q.loop-i.i no_line)) q.loop-i.invariant.1 ∙ sym next)
+    let l : length c.args.lines ≡ 8 = search rules in
+    let n : c.loop-i.i < length c.args.lines = omega (arith, c.requires.lines) in
+    let next = run_next c.args.x c.args.lines c.loop-i.i c.args.registers.now n in
+    (omega arith, c.run_line.ensures ∙ ap (run_line c.args.x (get_or c.args.lines c.loop-i.i no_line)) c.loop-i.invariant.1 ∙ sym next)
 
 pub returns : goal.returns
 returns c =
-    let q = c in
-    let e : q.loop-i.i ≡ q.args.count = omega arith in
-    rw e at q.loop-i.invariant.1
+    let e : c.loop-i.i ≡ c.args.count = omega arith in
+    rw e at c.loop-i.invariant.1

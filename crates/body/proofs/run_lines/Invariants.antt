@@ -1,12 +1,8 @@
 -- `body::run_lines` meets its contract: after i turns the first i lines have run. Assumes nothing.
-use mathlib.Core.Path.{◌≡◌, refl, sym, ◌∙◌, ap}
-use Prim.Native.Nat.{◌<◌, ◌≤◌, ◌-◌}
-use native.Mathlib.Omega.{arith}
-use lib.ListN.{length, get_or, take}
-use borrow.Author.Rules.{rules}
-use Rattle.meaning.specs.Body.{run_line, run_lines}
-use Rattle.meaning.specs.Description.{no_line}
-use Rattle.body.specs.Lines.{run_next}
+use mathlib.Core.Path.{◌≡◌}
+use Prim.Native.Nat.{◌≤◌, ◌-◌}
+use lib.ListN.{take}
+use Rattle.meaning.specs.Body.{run_lines}
 use Rattle.body.proofs.run_lines.Given as goal
 
 abbrev pub invariant-loop-i : goal.invariant-loop-i

@@ -1,10 +1,9 @@
 -- `body::scatter` meets its contract: what is left from turn i on gives the whole. Assumes nothing.
 use mathlib.Core.Path.{◌≡◌, refl, sym, ◌∙◌}
-use Prim.Native.Nat.{◌≤◌, ◌<◌, ◌-◌}
+use Prim.Native.Nat.{◌<◌}
 use native.Mathlib.Omega.{arith}
-use lib.ListN.{length, drop, length-set}
+use lib.ListN.{length, length-set}
 use borrow.Author.Rules.{rules}
-use Rattle.meaning.specs.Body.{scatter}
 use Rattle.body.specs.Store.{scatter_next, scatter_end}
 use Rattle.body.proofs.scatter.Goals as goal
 
@@ -22,14 +21,11 @@ bounds-store-place c = omega (arith, c.requires.within _ c.loop-i-test.true)
 
 pub loop-i-preserved : goal.loop-i-preserved
 loop-i-preserved c =
-    let q = c in
-    let s = q in
-    let l : length s.args.t3 ≡ 8 = search rules in
-    let n : q.loop-i.i < length s.args.t3 = omega (arith, s.requires.streams) in
-    let next = scatter_next q.loop-i.store s.args.places.now s.args.t3 q.loop-i.i c.loop-i-test.true n in
-    (omega arith, simp length-set q.loop-i.invariant.1, sym next ∙ q.loop-i.invariant.2)
+    let l : length c.args.registers ≡ 8 = search rules in
+    let n : c.loop-i.i < length c.args.registers = omega (arith, c.requires.streams) in
+    let next = scatter_next c.loop-i.store c.args.places.now c.args.registers c.loop-i.i c.loop-i-test.true n in
+    (omega arith, simp length-set c.loop-i.invariant.1, sym next ∙ c.loop-i.invariant.2)
 
 pub returns : goal.returns
 returns c =
-    let q = c in
-    sym (scatter_end q.loop-i.store q.args.places.now _ q.loop-i.i c.loop-i-test.false) ∙ q.loop-i.invariant.2
+    sym (scatter_end c.loop-i.store c.args.places.now _ c.loop-i.i c.loop-i-test.false) ∙ c.loop-i.invariant.2

@@ -1,11 +1,8 @@
 -- `body::scatter` meets its contract: what is left from turn i on gives the whole. Assumes nothing.
-use mathlib.Core.Path.{◌≡◌, refl, sym, ◌∙◌}
-use Prim.Native.Nat.{◌≤◌, ◌<◌, ◌-◌}
-use native.Mathlib.Omega.{arith}
-use lib.ListN.{length, drop, length-set}
-use borrow.Author.Rules.{rules}
+use mathlib.Core.Path.{◌≡◌}
+use Prim.Native.Nat.{◌≤◌, ◌-◌}
+use lib.ListN.{length, drop}
 use Rattle.meaning.specs.Body.{scatter}
-use Rattle.body.specs.Store.{scatter_next, scatter_end}
 use Rattle.body.proofs.scatter.Given as goal
 
 abbrev pub invariant-loop-i : goal.invariant-loop-i

@@ -12,7 +12,7 @@ pub returns : goal.returns
 returns c =
     let a = c.corner.ensures in
     let b = c.corner-2.ensures in
-    let s = c in (
-      λ i. record { first = a.0 i; last = b.0 i; direction = s.args.n.direction },
-      record { first = a.1; last = b.1; direction = directions_small s.requires.directed },
+    (
+      λ i. record { first = a.0 i; last = b.0 i; direction = c.args.n.direction },
+      record { first = a.1; last = b.1; direction = directions_small c.requires.directed },
     )

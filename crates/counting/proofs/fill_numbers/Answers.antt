@@ -23,16 +23,6 @@ use Rattle.counting.specs.Strides.{along, along_zero, along_next, PlaneFits, Agr
 use Rattle.counting.specs.Strides.{start_ready, start_word}
 use Rattle.counting.proofs.fill_numbers.Goals as goal
 
--- what is known before the loop
-known : (c : goal.After-number_by-number invariant_loop decreases_loop)
-    → Counted c.args.n c.args.m c.turns_of-turns.result c.strides_of-strides.result (to_z w32 c.number_by-number.result)
-known c =
-    let p = c.requires in
-    let f = c.form_of-form.ensures in
-    let s = c.strides_of-strides.ensures in
-    counted_by p.bounded p.rows p.box f c.turns_of-turns.ensures s.0
-    (start_word p.bounded p.rows p.box f c.corner-first.ensures.0 c.number_by-number.ensures).1 s.1
-
 -- a word that holds a small number
 reading : {t z : ℤ} → t ≡ z → Abs z 3500000 → Holds t z 3500000
 reading {z} e h = subst (λ (t : ℤ). Holds t z 3500000) (sym e) (leaf h)
@@ -97,7 +87,9 @@ loop-i-init c =
 pub put_plane-requires : goal.put_plane-requires
 put_plane-requires c =
     let l = c.loop-i in
-    let k = known c in
+    let k = (counted_by c.requires.bounded c.requires.rows c.requires.box c.form_of-form.ensures c.turns_of-turns.ensures c.strides_of-strides.ensures.0
+      (start_word c.requires.bounded c.requires.rows c.requires.box c.form_of-form.ensures c.corner-first.ensures.0 c.number_by-number.ensures).1
+      c.strides_of-strides.ensures.1) in
     let t = c.turns_of-turns.result in
     let h = c.loop-i-test.true in (
       subst (λ (z : ℤ). PlaneFits t.middle t.inner z c.strides_of-strides.result) (sym l.invariant.2) (k.fits l.i h),
@@ -114,7 +106,9 @@ put_plane-requires c =
 pub overflow_add-number : goal.overflow_add-number
 overflow_add-number c =
     let l = c.loop-i in
-    fits tt (add (reading l.invariant.2 ((known c).small l.i l.invariant.0)) (at tt c.strides_of-strides.ensures.1.xs))
+    fits tt (add (reading l.invariant.2 ((counted_by c.requires.bounded c.requires.rows c.requires.box c.form_of-form.ensures c.turns_of-turns.ensures c.strides_of-strides.ensures.0
+      (start_word c.requires.bounded c.requires.rows c.requires.box c.form_of-form.ensures c.corner-first.ensures.0 c.number_by-number.ensures).1
+      c.strides_of-strides.ensures.1).small l.i l.invariant.0)) (at tt c.strides_of-strides.ensures.1.xs))
 
 pub overflow_add-at : goal.overflow_add-at
 overflow_add-at c =
@@ -137,7 +131,9 @@ loop-i-preserved c =
     let r = c.put_plane.ensures in (
       omega (arith, h),
       r.0 ∙ l.invariant.1,
-      (box tt (add (reading l.invariant.2 ((known c).small l.i l.invariant.0)) (at tt s.ensures.1.xs))).eq
+      (box tt (add (reading l.invariant.2 ((counted_by c.requires.bounded c.requires.rows c.requires.box c.form_of-form.ensures c.turns_of-turns.ensures c.strides_of-strides.ensures.0
+      (start_word c.requires.bounded c.requires.rows c.requires.box c.form_of-form.ensures c.corner-first.ensures.0 c.number_by-number.ensures).1
+      c.strides_of-strides.ensures.1).small l.i l.invariant.0)) (at tt s.ensures.1.xs))).eq
           ∙ along_next l.i (to_z w32 c.number_by-number.result) s.result.x,
       ap (λ (a : ℕ). a + t.middle * t.inner) l.invariant.3 ∙ further l.i (t.middle * t.inner),
       λ f g.
@@ -150,12 +146,13 @@ loop-i-preserved c =
 pub returns : goal.returns
 returns c =
     let l = c.loop-i in
-    let s = c in
-    let a = s.args in
-    let k = known c in
+    let a = c.args in
+    let k = (counted_by c.requires.bounded c.requires.rows c.requires.box c.form_of-form.ensures c.turns_of-turns.ensures c.strides_of-strides.ensures.0
+      (start_word c.requires.bounded c.requires.rows c.requires.box c.form_of-form.ensures c.corner-first.ensures.0 c.number_by-number.ensures).1
+      c.strides_of-strides.ensures.1) in
     let t = c.turns_of-turns.result in
     let e : l.i ≡ t.outer = omega (arith, l.invariant.0, c.loop-i-test.false) in
     l.invariant.4 (number_at a.n a.m) k.agrees
     ∙ ap (λ (k : ℕ). fill_by (number_at a.n a.m) k a.out.now)
     (l.invariant.3 ∙ ap (λ (i : ℕ). i * (t.middle * t.inner)) e ∙ sym k.whole)
-    ∙ fill_list (λ x. row_index (box_of a.n a.m) (image a.m x)) (instances a.n) zero3 0 _ s.requires.room
+    ∙ fill_list (λ x. row_index (box_of a.n a.m) (image a.m x)) (instances a.n) zero3 0 _ c.requires.room

@@ -50,9 +50,8 @@ loop-j-init c =
 pub put_row-requires : goal.put_row-requires
 put_row-requires c =
     let l = c.loop-j in
-    let s = c in
     let t = c.loop-j-test.true in
-    (row s.requires.0 t l.invariant.2, omega (arith, l.invariant.3, l.invariant.1, s.requires.1, mul-le-mul_right s.args.count t))
+    (row c.requires.0 t l.invariant.2, omega (arith, l.invariant.3, l.invariant.1, c.requires.1, mul-le-mul_right c.args.count t))
 
 pub overflow_add-number : goal.overflow_add-number
 overflow_add-number c =
@@ -63,23 +62,21 @@ overflow_add-number c =
 pub overflow_add-at : goal.overflow_add-at
 overflow_add-at c =
     let l = c.loop-j in
-    let s = c in
     record {
       fits = omega (
         arith,
         l.invariant.3,
         l.invariant.1,
-        s.requires.1,
-        mul-le-mul_right s.args.count c.loop-j-test.true,
+        c.requires.1,
+        mul-le-mul_right c.args.count c.loop-j-test.true,
       );
     }
 
 pub loop-j-preserved : goal.loop-j-preserved
 loop-j-preserved c =
     let l = c.loop-j in
-    let s = c in
-    let a = s.args in
-    let h = s.requires.0 in
+    let a = c.args in
+    let h = c.requires.0 in
     let t = c.loop-j-test.true in
     let r = c.put_row.ensures in (
       omega (arith, t),
@@ -101,11 +98,10 @@ loop-j-preserved c =
 pub returns : goal.returns
 returns c =
     let l = c.loop-j in
-    let s = c in
-    let h = s.requires.0 in
-    let e : l.j ≡ s.args.rows = omega (arith, l.invariant.0, c.loop-j-test.false) in (
+    let h = c.requires.0 in
+    let e : l.j ≡ c.args.rows = omega (arith, l.invariant.0, c.loop-j-test.false) in (
       l.invariant.1,
       λ f xs g q.
-          l.invariant.4 f xs (λ j k m w. g j k m w ∙ ap (λ (a : ℤ). up (along a s.args.strides.z k)) (sym (words h j))) q
-          ∙ ap (λ (j : ℕ). fill_by f (s.args.from + j * s.args.count) xs) e,
+          l.invariant.4 f xs (λ j k m w. g j k m w ∙ ap (λ (a : ℤ). up (along a c.args.strides.z k)) (sym (words h j))) q
+          ∙ ap (λ (j : ℕ). fill_by f (c.args.from + j * c.args.count) xs) e,
     )

@@ -63,26 +63,24 @@ overflow_add-number c =
 pub loop-k-preserved : goal.loop-k-preserved
 loop-k-preserved c =
     let l = c.loop-k in
-    let s = c in
-    let h = s.requires.0 in
+    let h = c.requires.0 in
     let t = c.loop-k-test.true in (
       omega arith,
       simp length-set l.invariant.1,
       next h l.invariant.0 l.invariant.2,
       λ f xs g e.
-          ap₂ (λ (m : List ℕ) (v : ℕ). set m (s.args.from + l.k) v) (l.invariant.3 f xs g e)
+          ap₂ (λ (m : List ℕ) (v : ℕ). set m (c.args.from + l.k) v) (l.invariant.3 f xs g e)
           (number h t l.invariant.2 ∙ sym (g l.k t))
-          ∙ sym (fill_step f (s.args.from + l.k) xs)
-          ∙ ap (λ (k : ℕ). fill_by f k xs) (sym (one_more s.args.from l.k)),
+          ∙ sym (fill_step f (c.args.from + l.k) xs)
+          ∙ ap (λ (k : ℕ). fill_by f k xs) (sym (one_more c.args.from l.k)),
     )
 
 pub returns : goal.returns
 returns c =
     let l = c.loop-k in
-    let s = c in
-    let h = s.requires.0 in
-    let e : l.k ≡ s.args.count = omega (arith, l.invariant.0, c.loop-k-test.false) in (
+    let h = c.requires.0 in
+    let e : l.k ≡ c.args.count = omega (arith, l.invariant.0, c.loop-k-test.false) in (
       l.invariant.1,
       λ f xs g q.
-          l.invariant.3 f xs (λ k m. g k m ∙ ap up (sym (words h k))) q ∙ ap (λ (k : ℕ). fill_by f (s.args.from + k) xs) e,
+          l.invariant.3 f xs (λ k m. g k m ∙ ap up (sym (words h k))) q ∙ ap (λ (k : ℕ). fill_by f (c.args.from + k) xs) e,
     )

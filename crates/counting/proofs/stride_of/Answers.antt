@@ -23,9 +23,8 @@ overflow_add-result-2 c =
 
 pub returns : goal.returns
 returns c =
-    let s = c in
-    let p = s.requires in
-    let v = s.args.v in
+    let p = c.requires in
+    let v = c.args.v in
     let e = c.distance.ensures.0 in
     let columns = leaf (columns_held p.0.second e) in
     let sum = add (box tt (mul columns (at tt p.1.first))) (at tt p.1.second) in

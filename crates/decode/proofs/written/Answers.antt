@@ -41,22 +41,17 @@ loop-j-init c = refl
 
 pub returns-then-line-i : goal.returns-then-line-i
 returns-then-line-i c =
-    let b = c in
-    let a = b in
-    stops a.args.d a.args.i a.requires (c.well_formed.0.1.1.1.1.1.0.1.0.1) b.loop-j.j (omega arith) c.line.ensures
+    stops c.args.d c.args.i c.requires (c.well_formed.0.1.1.1.1.1.0.1.0.1) c.loop-j.j (omega arith) c.line.ensures
     (eq-eqb _ _ c.if-line-i.true)
-    ∙ b.loop-j.invariant
+    ∙ c.loop-j.invariant
 
 pub loop-j-preserved : goal.loop-j-preserved
 loop-j-preserved c =
-    let b = c in
-    let a = b in
-    goes a.args.d a.args.i a.requires (c.well_formed.0.1.1.1.1.1.0.1.0.1) b.loop-j.j (omega arith) c.line.ensures
+    goes c.args.d c.args.i c.requires (c.well_formed.0.1.1.1.1.1.0.1.0.1) c.loop-j.j (omega arith) c.line.ensures
     (ne_eqb _ _ c.if-line-i.false)
-    ∙ b.loop-j.invariant
+    ∙ c.loop-j.invariant
 
 pub returns : goal.returns
 returns c =
     let e : length c.args.d.lines ≡ 8 = c.well_formed.0.1.1.1.1.1.0.1.0.1 in
-    let b = c in
-    let a = b in ends a.args.d a.args.i a.requires (e) b.loop-j.j (omega arith) ∙ b.loop-j.invariant
+    ends c.args.d c.args.i c.requires (e) c.loop-j.j (omega arith) ∙ c.loop-j.invariant

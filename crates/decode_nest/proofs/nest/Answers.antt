@@ -6,10 +6,9 @@ use Rattle.decode_nest.proofs.nest.Goals as goal
 pub returns : goal.returns
 unfolding nest_of
 returns c =
-    let b = c in
     rw (
-      b.vector.ensures,
-      b.vector-2.ensures,
+      c.vector.ensures,
+      c.vector-2.ensures,
       c.vector-3.ensures,
       c.vector-4.ensures,
       c.matrix.ensures,

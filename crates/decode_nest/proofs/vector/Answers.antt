@@ -12,7 +12,6 @@ v3 e f g = rw (e, f, g)
 
 pub returns : goal.returns
 returns c =
-    let a = c in
-    let pad = tower a.args.pad a.ranges.pad.sfits in
+    let pad = tower c.args.pad c.ranges.pad.sfits in
     v3 (held c.word_at.type_inv c.word_at.ensures)
     (held c.word_at-2.type_inv c.word_at-2.ensures) (held c.last.type_inv (rw pad at c.last.ensures))

@@ -6,7 +6,6 @@ use Rattle.demand3.proofs.play_call.Goals as goal
 
 pub returns : goal.returns
 returns c =
-    let m = c in
     let a =
-    m.args in
-    rw c.note.ensures (ap (lent_after a.answers.now a.k) m.make_call-noted.ensures)
+    c.args in
+    rw c.note.ensures (ap (lent_after a.answers.now a.k) c.make_call-noted.ensures)

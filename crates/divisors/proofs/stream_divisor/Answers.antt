@@ -12,15 +12,13 @@ use Rattle.divisors.proofs.stream_divisor.Goals as goal
 
 pub returns-then-i-v : goal.returns-then-i-v
 returns-then-i-v c =
-    let s = c in
-    let d = s.args.v.description in
-    let i = s.args.i in
+    let d = c.args.v.description in
+    let i = c.args.i in
     let t = c.if-i-v.true in
-    (flow_is s.requires.0 i t c.flow_at-f.ensures).divisor_is
+    (flow_is c.requires.0 i t c.flow_at-f.ensures).divisor_is
     ∙ ap (λ (r : Stream). divisor r.map) (sym (get_or-take d.sizes.streams d.streams i no_stream t))
-    ∙ sym (in_use d s.requires.0.in_use i t)
+    ∙ sym (in_use d c.requires.0.in_use i t)
 
 pub returns-else-i-v : goal.returns-else-i-v
 returns-else-i-v c =
-    let s = c in
-    sym (past_use s.args.v.description s.requires.0.in_use s.args.i (omega (arith, c.if-i-v.false)))
+    sym (past_use c.args.v.description c.requires.0.in_use c.args.i (omega (arith, c.if-i-v.false)))

@@ -13,7 +13,7 @@ use Rattle.element_places.specs.Lent.{saying_at, right_at_lem}
 use Rattle.element_places.proofs.fill_places.Goals as goal
 
 pub loop-i-init : goal.loop-i-init
-loop-i-init c = let s = c in (omega arith, s.requires.5, λ e l. absurd (none_before s.args.v.description e l))
+loop-i-init c = (omega arith, c.requires.5, λ e l. absurd (none_before c.args.v.description e l))
 
 pub flow_at-f-requires : goal.flow_at-f-requires
 flow_at-f-requires c =
@@ -26,7 +26,7 @@ elements_in-first-requires c =
     (p.0.described.few, p.1, omega (arith, c.loop-i-test.true))
 
 -- stream i is one of six
-stream_lt : (c : goal.After-elements_in-first invariant_loop decreases_loop) → c.loop-i.i < 6
+stream_lt : (c : goal.After-elements_in-first) → c.loop-i.i < 6
 stream_lt c =
     let p = c.requires.0 in
     omega (arith, c.loop-i-test.true, p.described.few.ranged.sized.most_streams)
@@ -49,28 +49,24 @@ part_fill_stream_end c = omega (arith, stream_lt c, c.requires.4.words)
 
 pub fill_stream-requires : goal.fill_stream-requires
 fill_stream-requires c =
-    let l = c in
-    let p = l.requires in
+    let p = c.requires in
     let t = c.loop-i-test.true in
-    let i = l.loop-i.i in
+    let i = c.loop-i.i in
     let a = 3072 * i in
     saying_at p.0 p.1 i t c.flow_at-f.ensures c.elements_in-first.ensures p.2 p.3
-    (part_lanes p.4 i t {k = a + 3072 - a} (omega arith)) l.loop-i.invariant.1
+    (part_lanes p.4 i t {k = a + 3072 - a} (omega arith)) c.loop-i.invariant.1
 
 pub overflow_add-i : goal.overflow_add-i
 overflow_add-i c =
-    let l = c in
-    let p = l.requires.0 in
-    record { fits = omega (arith, l.loop-i-test.true, p.described.few.ranged.sized.most_streams) }
+    let p = c.requires.0 in
+    record { fits = omega (arith, c.loop-i-test.true, p.described.few.ranged.sized.most_streams) }
 
 pub loop-i-preserved : goal.loop-i-preserved
 loop-i-preserved c =
-    let k = c in
-    let l = k in
-    let p = l.requires in
-    let t = k.loop-i-test.true in
-    let n = right_at_lem p.0 p.1 l.loop-i.i t k.flow_at-f.ensures k.elements_in-first.ensures l.loop-i.places _
-    c.fill_stream.ensures l.loop-i.invariant.1 l.loop-i.invariant.2 in
+    let p = c.requires in
+    let t = c.loop-i-test.true in
+    let n = right_at_lem p.0 p.1 c.loop-i.i t c.flow_at-f.ensures c.elements_in-first.ensures c.loop-i.places _
+    c.fill_stream.ensures c.loop-i.invariant.1 c.loop-i.invariant.2 in
     (omega (arith, t), n.0, n.1)
 
 pub returns : goal.returns

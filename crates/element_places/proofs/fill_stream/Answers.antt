@@ -19,27 +19,25 @@ loop-p-init c =
 
 pub put_pipe-start-requires : goal.put_pipe-start-requires
 put_pipe-start-requires c =
-    let s = c in
-    let p = s.requires in
+    let p = c.requires in
     let l = c.loop-p in
     record {
       near = record { seen = p.seen; lt = omega (arith, c.loop-p-test.true, p.counted) };
       fits = p.fits;
-      low = omega (arith, l.invariant.3, start_most p.seen.flows.laid.accepted p.small s.args.first l.p, p.fits);
+      low = omega (arith, l.invariant.3, start_most p.seen.flows.laid.accepted p.small c.args.first l.p, p.fits);
       words = l.invariant.1 ∙ p.words;
     }
 
 pub overflow_add-start : goal.overflow_add-start
 overflow_add-start c =
-    let s = c in
-    let p = s.requires in
+    let p = c.requires in
     let l = c.loop-p in
     omega (
       arith,
       l.invariant.3,
       c.put_pipe-start.ensures.1,
       p.fits,
-      start_most p.seen.flows.laid.accepted p.small s.args.first l.p,
+      start_most p.seen.flows.laid.accepted p.small c.args.first l.p,
     )
 
 pub overflow_add-p : goal.overflow_add-p
@@ -47,8 +45,7 @@ overflow_add-p c = omega (arith, c.loop-p-test.true)
 
 pub loop-p-preserved : goal.loop-p-preserved
 loop-p-preserved c =
-    let s = c in
-    let a = s.args in
+    let a = c.args in
     let n = a.f.nest in
     let m = a.f.stream in
     let l = c.loop-p in
@@ -61,7 +58,7 @@ loop-p-preserved c =
           ∙ ap₂ (λ (k : ℕ) (w : List ℕ). said_on n m a.first (process_of n l.p) k (entering_length n m l.p) w) l.invariant.3 l.invariant.2
           ∙ sym (spreads_step _ _ _ l.p a.places.now),
       ap (λ (k : ℕ). k + e.result) l.invariant.3
-          ∙ start_next n m a.first l.p (omega (arith, t, s.requires.counted)) _ e.ensures.0 ∙ ap (start_at n m a.first) z,
+          ∙ start_next n m a.first l.p (omega (arith, t, c.requires.counted)) _ e.ensures.0 ∙ ap (start_at n m a.first) z,
     )
 
 pub returns : goal.returns

@@ -21,5 +21,4 @@ put_run-requires c =
 pub returns : goal.returns
 returns c =
     let p = c.requires in
-    let r = c in
-    run_said p.0 (run_here p.0 p.2 p.1 r.one_at.ensures r.run_of-r.ensures) c.put_run.ensures
+    run_said p.0 (run_here p.0 p.2 p.1 c.one_at.ensures c.run_of-r.ensures) c.put_run.ensures

@@ -14,10 +14,9 @@ bounds-spans-q c = let p = c.requires in omega (arith, p.lt, p.flows.laid.proces
 
 pub returns-then-spans-q-eq0 : goal.returns-then-spans-q-eq0
 returns-then-spans-q-eq0 c =
-    let s = c in
-    let a = s.args in
+    let a = c.args in
     own_none a.f.nest a.f.stream a.first (process_of a.f.nest a.q) a.place a.places.now
-    (null_here s.requires c.if-spans-q-eq0.true)
+    (null_here c.requires c.if-spans-q-eq0.true)
 
 pub first_element-requires : goal.first_element-requires
 first_element-requires c = at_here c.requires c.if-spans-q-eq0.false
@@ -29,28 +28,25 @@ row_number-requires c =
 
 pub overflow_add-e : goal.overflow_add-e
 overflow_add-e c =
-    let s = c in
-    let a = at_here s.requires c.if-spans-q-eq0.false in
+    let a = at_here c.requires c.if-spans-q-eq0.false in
     let e = c.first_element.ensures in
-    record { fits = omega (arith, number_fits a e s.args.first s.requires.fits c.row_number.ensures) }
+    record { fits = omega (arith, number_fits a e c.args.first c.requires.fits c.row_number.ensures) }
 
 pub overflow_cast-places : goal.overflow_cast-places
 overflow_cast-places c = let p = c.requires in omega (arith, p.low)
 
 pub bounds-places-e : goal.bounds-places-e
 bounds-places-e c =
-    let s = c in
-    let a = at_here s.requires c.if-spans-q-eq0.false in
+    let a = at_here c.requires c.if-spans-q-eq0.false in
     omega (
       arith,
-      number_fits a c.first_element.ensures s.args.first s.requires.fits c.row_number.ensures,
-      s.requires.words,
+      number_fits a c.first_element.ensures c.args.first c.requires.fits c.row_number.ensures,
+      c.requires.words,
     )
 
 pub returns : goal.returns
 returns c =
-    let s = c in
-    let a = s.args in
+    let a = c.args in
     let g = c.if-spans-q-eq0.false in
-    own_one a.f.nest a.f.stream a.first (process_of a.f.nest a.q) a.place a.places.now (computes_here s.requires g)
-    (ap (λ (i : ℕ). a.first + i) (number_is (at_here s.requires g) c.first_element.ensures c.row_number.ensures))
+    own_one a.f.nest a.f.stream a.first (process_of a.f.nest a.q) a.place a.places.now (computes_here c.requires g)
+    (ap (λ (i : ℕ). a.first + i) (number_is (at_here c.requires g) c.first_element.ensures c.row_number.ensures))

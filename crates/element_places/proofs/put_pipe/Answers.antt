@@ -11,27 +11,22 @@ is_entry-requires c = c.requires.near
 
 pub put_moving-requires : goal.put_moving-requires
 put_moving-requires c =
-    let i = c in
-    let s = i in
-    (s.requires, subst T (sym c.if-f.true) tt, sym i.is_entry.ensures ∙ i.if-is_entry.true)
+    (c.requires, subst T (sym c.if-f.true) tt, sym c.is_entry.ensures ∙ c.if-is_entry.true)
 
 pub put_still-requires : goal.put_still-requires
 put_still-requires c =
-    let i = c in
-    walking i.requires (sym i.is_entry.ensures ∙ i.if-is_entry.true) c.if-f.false
+    walking c.requires (sym c.is_entry.ensures ∙ c.if-is_entry.true) c.if-f.false
 
 pub returns-then-f : goal.returns-then-f
 returns-then-f c =
-    let i = c in
-    let a = i.args in
-    said_entering a.f a.first a.start a.p a.places.now (sym i.is_entry.ensures ∙ i.if-is_entry.true)
+    let a = c.args in
+    said_entering a.f a.first a.start a.p a.places.now (sym c.is_entry.ensures ∙ c.if-is_entry.true)
     c.put_moving.ensures
 
 pub returns-else-f : goal.returns-else-f
 returns-else-f c =
-    let i = c in
-    let a = i.args in
-    said_entering a.f a.first a.start a.p a.places.now (sym i.is_entry.ensures ∙ i.if-is_entry.true)
+    let a = c.args in
+    said_entering a.f a.first a.start a.p a.places.now (sym c.is_entry.ensures ∙ c.if-is_entry.true)
     c.put_still.ensures
 
 pub returns-else-is_entry : goal.returns-else-is_entry

@@ -25,47 +25,39 @@ loop-k-init c = (omega arith, refl, gone_zero _ _ _ _ _ _)
 pub process_on-q-requires : goal.process_on-q-requires
 process_on-q-requires c =
     let r = c.reach_of-reach.ensures in
-    let s = c in
-    lined s.requires c.point_at-y.ensures r.0 r.1 c.loop-k-test.true
+    lined c.requires c.point_at-y.ensures r.0 r.1 c.loop-k-test.true
 
 pub put_own-place-requires : goal.put_own-place-requires
 put_own-place-requires c =
-    let l = c in
-    let s = l in
-    let low : l.loop-k.place ≤ 30208 =
-    omega (arith, next_most l.loop-k.invariant.2, s.requires.low, c.loop-k-test.true, l.reach_of-reach.ensures.1) in
-    owning s.requires.own c.process_on-q.ensures.0 low l.loop-k.invariant.1
+    let low : c.loop-k.place ≤ 30208 =
+    omega (arith, next_most c.loop-k.invariant.2, c.requires.low, c.loop-k-test.true, c.reach_of-reach.ensures.1) in
+    owning c.requires.own c.process_on-q.ensures.0 low c.loop-k.invariant.1
 
 pub overflow_add-place : goal.overflow_add-place
 overflow_add-place c =
-    let l = c in
-    let s = l in
-    let n = s.args.f.nest in
+    let n = c.args.f.nest in
     omega (
       arith,
-      next_most l.loop-k.invariant.2,
-      s.requires.low,
+      next_most c.loop-k.invariant.2,
+      c.requires.low,
       c.loop-k-test.true,
-      l.reach_of-reach.ensures.1,
+      c.reach_of-reach.ensures.1,
       c.put_own-place.ensures.0,
       one_most n (process_of n c.process_on-q.result),
     )
 
 pub overflow_add-k : goal.overflow_add-k
 overflow_add-k c =
-    let l = c in
-    omega (arith, l.loop-k-test.true, l.reach_of-reach.ensures.1)
+    omega (arith, c.loop-k-test.true, c.reach_of-reach.ensures.1)
 
 pub loop-k-preserved : goal.loop-k-preserved
 loop-k-preserved c =
-    let l = c in
-    let s = l in
     let t = c.loop-k-test.true in
     let q = c.process_on-q.ensures in
     let own = c.put_own-place in (
       omega (arith, t),
-      omega (arith, own.auto, l.loop-k.invariant.1),
-      walk_next s.requires l.point_at-y.ensures l.reach_of-reach.ensures.0 t q.1 l.loop-k.invariant.2
+      omega (arith, own.auto, c.loop-k.invariant.1),
+      walk_next c.requires c.point_at-y.ensures c.reach_of-reach.ensures.0 t q.1 c.loop-k.invariant.2
           own.ensures.0 own.ensures.1,
     )
 
@@ -76,6 +68,5 @@ pub returns : goal.returns
 returns c =
     let l = c.loop-k in
     let r = c.reach_of-reach.ensures in
-    let s = c in
-    walk_all s.requires c.point_at-y.ensures r.0 r.1 (omega (arith, c.loop-k-test.false, l.invariant.0))
+    walk_all c.requires c.point_at-y.ensures r.0 r.1 (omega (arith, c.loop-k-test.false, l.invariant.0))
     l.invariant.2

@@ -28,15 +28,13 @@ row_number-requires c =
 
 pub overflow_add-result : goal.overflow_add-result
 overflow_add-result c =
-    let a = c in
     let e = c.first_element-e.ensures in
-    record { fits = omega (arith, number_fits a.requires.at e a.args.first a.requires.fits c.row_number.ensures) }
+    record { fits = omega (arith, number_fits c.requires.at e c.args.first c.requires.fits c.row_number.ensures) }
 
 pub overflow_cast-result : goal.overflow_cast-result
 overflow_cast-result c =
-    let a = c in
     let e = c.first_element-e.ensures in
-    omega (arith, number_fits a.requires.at e a.args.first a.requires.fits c.row_number.ensures)
+    omega (arith, number_fits c.requires.at e c.args.first c.requires.fits c.row_number.ensures)
 
 pub overflow_cast-result-2 : goal.overflow_cast-result-2
 overflow_cast-result-2 c = omega (arith, c.reach_of-before.ensures.1)
@@ -45,19 +43,17 @@ pub overflow_mul-result : goal.overflow_mul-result
 overflow_mul-result c =
     let r = c.reach_of-before.ensures in
     let t = c.stride_of-stride in
-    let a = c in
-    fits tt (back_holds a.requires c.first_element-e.ensures r.0 r.1
-    (t.ensures ∙ stride_is a.requires.at.flows) t.type_inv)
+    fits tt (back_holds c.requires c.first_element-e.ensures r.0 r.1
+    (t.ensures ∙ stride_is c.requires.at.flows) t.type_inv)
 
 pub overflow_sub-result : goal.overflow_sub-result
 overflow_sub-result c =
-    let a = c in
     let e = c.first_element-e.ensures in
     let r = c.reach_of-before.ensures in
     let t = c.stride_of-stride in
-    let small : a.args.first + c.row_number.result ≤ 24576 =
-    omega (arith, number_fits a.requires.at e a.args.first a.requires.fits c.row_number.ensures) in
-    fits tt (sub (bits tt small) (box tt (back_holds a.requires e r.0 r.1 (t.ensures ∙ stride_is a.requires.at.flows) t.type_inv)))
+    let small : c.args.first + c.row_number.result ≤ 24576 =
+    omega (arith, number_fits c.requires.at e c.args.first c.requires.fits c.row_number.ensures) in
+    fits tt (sub (bits tt small) (box tt (back_holds c.requires e r.0 r.1 (t.ensures ∙ stride_is c.requires.at.flows) t.type_inv)))
 
 pub reach_of-requires : goal.reach_of-requires
 reach_of-requires c =
@@ -66,15 +62,14 @@ reach_of-requires c =
 
 pub returns : goal.returns
 returns c =
-    let a = c in
     let e = c.first_element-e.ensures in
     let r = c.reach_of-before.ensures in
     let t = c.stride_of-stride in
     let i = c.row_number in
-    let small : a.args.first + i.result ≤ 24576 =
-    omega (arith, number_fits a.requires.at e a.args.first a.requires.fits i.ensures) in
-    run_is a.requires e r.0 i.ensures
-    (box tt (sub (bits tt small) (box tt (back_holds a.requires e r.0 r.1 (t.ensures ∙ stride_is a.requires.at.flows) t.type_inv)))).eq
-    (held t.type_inv (t.ensures ∙ stride_is a.requires.at.flows)) refl
-    (length_moving a.requires.at a.requires.moves e r.0 c.reach_of.ensures.0)
+    let small : c.args.first + i.result ≤ 24576 =
+    omega (arith, number_fits c.requires.at e c.args.first c.requires.fits i.ensures) in
+    run_is c.requires e r.0 i.ensures
+    (box tt (sub (bits tt small) (box tt (back_holds c.requires e r.0 r.1 (t.ensures ∙ stride_is c.requires.at.flows) t.type_inv)))).eq
+    (held t.type_inv (t.ensures ∙ stride_is c.requires.at.flows)) refl
+    (length_moving c.requires.at c.requires.moves e r.0 c.reach_of.ensures.0)
     (omega (arith, r.1, c.reach_of.ensures.1))

@@ -8,14 +8,13 @@ use Rattle.elements.proofs.element_count.Goals as goal
 
 pub returns : goal.returns
 returns c =
-    let a = c in
-    let d = a.args.v.description in
-    let u = a.requires.1.in_use in (
-      c.elements_in.ensures ∙ start_all d u a.requires.0,
+    let d = c.args.v.description in
+    let u = c.requires.1.in_use in (
+      c.elements_in.ensures ∙ start_all d u c.requires.0,
       omega (
         arith,
         c.elements_in.ensures,
-        start_most d u a.requires.0 d.sizes.streams (omega arith),
-        a.requires.0.ranged.sized.most_streams,
+        start_most d u c.requires.0 d.sizes.streams (omega arith),
+        c.requires.0.ranged.sized.most_streams,
       ),
     )

@@ -30,29 +30,27 @@ size_of-sum-requires c =
 pub overflow_add-sum : goal.overflow_add-sum
 overflow_add-sum c =
     let l = c.loop-i in
-    let s = c in
-    let d = s.args.v.description in
-    let t : l.i < d.sizes.streams = omega (arith, c.loop-i-test.true, s.requires.2) in
-    let k = flow_is s.requires.1 l.i t c.flow_at-f.ensures in
+    let d = c.args.v.description in
+    let t : l.i < d.sizes.streams = omega (arith, c.loop-i-test.true, c.requires.2) in
+    let k = flow_is c.requires.1 l.i t c.flow_at-f.ensures in
     let e = c.size_of-sum.ensures.0 ∙ ap (λ (b : Box). length (points b)) k.elements_is in
     omega (
       arith,
       l.invariant.1,
-      start_next d s.requires.1.in_use s.requires.0 l.i t refl e,
-      start_most d s.requires.1.in_use s.requires.0 (l.i + 1) (omega (arith, t)),
-      s.requires.0.ranged.sized.most_streams,
+      start_next d c.requires.1.in_use c.requires.0 l.i t refl e,
+      start_most d c.requires.1.in_use c.requires.0 (l.i + 1) (omega (arith, t)),
+      c.requires.0.ranged.sized.most_streams,
     )
 
 pub loop-i-preserved : goal.loop-i-preserved
 loop-i-preserved c =
     let l = c.loop-i in
-    let s = c in
-    let d = s.args.v.description in
-    let t : l.i < d.sizes.streams = omega (arith, c.loop-i-test.true, s.requires.2) in
-    let k = flow_is s.requires.1 l.i t c.flow_at-f.ensures in
+    let d = c.args.v.description in
+    let t : l.i < d.sizes.streams = omega (arith, c.loop-i-test.true, c.requires.2) in
+    let k = flow_is c.requires.1 l.i t c.flow_at-f.ensures in
     let e = c.size_of-sum.ensures.0 ∙ ap (λ (b : Box). length (points b)) k.elements_is in (
       omega (arith, c.loop-i-test.true),
-      ap (λ (n : ℕ). n + c.size_of-sum.result) l.invariant.1 ∙ start_next d s.requires.1.in_use s.requires.0 l.i t refl e,
+      ap (λ (n : ℕ). n + c.size_of-sum.result) l.invariant.1 ∙ start_next d c.requires.1.in_use c.requires.0 l.i t refl e,
     )
 
 pub returns : goal.returns

@@ -16,46 +16,38 @@ element_count-requires c = let p = c.requires in (p.0.few, p.1)
 
 pub overflow_mul-result : goal.overflow_mul-result
 overflow_mul-result c =
-    let t = c in
-    let s = t in
-    let p = s.args.v.ground.processes in
+    let p = c.args.v.ground.processes in
     record {
       fits = omega (
         arith,
-        process_words_lem {p = p} (omega (arith, s.requires.1.ground.processes_is, s.requires.0.processes)) t.totals_of-t.ensures.1.words,
+        process_words_lem {p = p} (omega (arith, c.requires.1.ground.processes_is, c.requires.0.processes)) c.totals_of-t.ensures.1.words,
       );
     }
 
 pub overflow_add-result-2 : goal.overflow_add-result-2
 overflow_add-result-2 c =
-    let t = c in
-    let s = t in
-    let p = s.args.v.ground.processes in
-    let r = t.totals_of-t.ensures.1 in
+    let p = c.args.v.ground.processes in
+    let r = c.totals_of-t.ensures.1 in
     record {
       fits = omega (
         arith,
-        process_words_lem {p = p} (omega (arith, s.requires.1.ground.processes_is, s.requires.0.processes)) r.words,
+        process_words_lem {p = p} (omega (arith, c.requires.1.ground.processes_is, c.requires.0.processes)) r.words,
         r.ends,
       );
     }
 
 pub overflow_add-result-3 : goal.overflow_add-result-3
 overflow_add-result-3 c =
-    let t = c in
-    let s = t in
-    record { fits = omega (arith, t.totals_of-t.ensures.1.steps, s.requires.1.ground.instances_is, s.requires.0.instances) }
+    record { fits = omega (arith, c.totals_of-t.ensures.1.steps, c.requires.1.ground.instances_is, c.requires.0.instances) }
 
 pub shape_of-lanes : goal.shape_of-lanes
 shape_of-lanes c =
-    let t = c in
-    t.totals_of-t.ensures.2.words ∙ sym (zero_words t.requires.4)
+    c.totals_of-t.ensures.2.words ∙ sym (zero_words c.requires.4)
 
 pub returns : goal.returns
 returns c =
-    let t = c in
-    let p = t.requires in (
-      figures_are p.0 t.totals_of-t.ensures.0 p.1.ground.processes_is p.1.ground.instances_is
+    let p = c.requires in (
+      figures_are p.0 c.totals_of-t.ensures.0 p.1.ground.processes_is p.1.ground.instances_is
           c.element_count.ensures.0 refl refl refl,
-      t.totals_of-t.ensures.2,
+      c.totals_of-t.ensures.2,
     )

@@ -10,20 +10,16 @@ fill_lanes-requires c = let p = c.requires in record { flowing = p.1; words = p.
 
 pub sums_of-sums-requires : goal.sums_of-sums-requires
 sums_of-sums-requires c =
-    let k = c in
-    let p = k.requires in
-    record { seen = k.fill_lanes.ensures; counted = p.1.counted; small = sharing_under p.0 }
+    let p = c.requires in
+    record { seen = c.fill_lanes.ensures; counted = p.1.counted; small = sharing_under p.0 }
 
 pub shape_of-lanes : goal.shape_of-lanes
 shape_of-lanes c =
-    let k = c in
-    k.fill_lanes.ensures.of_lanes.words ∙ sym k.requires.2
+    c.fill_lanes.ensures.of_lanes.words ∙ sym c.requires.2
 
 pub returns : goal.returns
 returns c =
-    let k = c in
-    let s = k in
-    let p = s.requires in
-    let f = s.args.f in
+    let p = c.requires in
+    let f = c.args.f in
     let e = share_is f.nest f.stream c.sums_of-sums.ensures p.1.flows.flow.hop_is refl refl in
-    (e, subst Small (sym e) (share_small p.0), lanes_of refl refl k.fill_lanes.ensures.of_lanes)
+    (e, subst Small (sym e) (share_small p.0), lanes_of refl refl c.fill_lanes.ensures.of_lanes)

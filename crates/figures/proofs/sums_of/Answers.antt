@@ -11,8 +11,7 @@ loop-p-init c = let f = c.args.f in (omega arith, sums_zero f.nest f.stream)
 
 pub added-sums-requires : goal.added-sums-requires
 added-sums-requires c =
-    let s = c in
-    (record { seen = s.requires.seen; lt = omega (arith, s.requires.counted, c.loop-p-test.true) }, c.loop-p.invariant.1, s.requires.small)
+    (record { seen = c.requires.seen; lt = omega (arith, c.requires.counted, c.loop-p-test.true) }, c.loop-p.invariant.1, c.requires.small)
 
 pub loop-p-preserved : goal.loop-p-preserved
 loop-p-preserved c =
@@ -23,6 +22,5 @@ loop-p-preserved c =
 
 pub returns : goal.returns
 returns c =
-    let s = c in
     let l = c.loop-p in
-    l.invariant.1 ∙ sums_all s.args.f.nest s.args.f.stream l.p (omega (arith, c.loop-p-test.false, l.invariant.0, s.requires.counted))
+    l.invariant.1 ∙ sums_all c.args.f.nest c.args.f.stream l.p (omega (arith, c.loop-p-test.false, l.invariant.0, c.requires.counted))

@@ -10,9 +10,8 @@ use Rattle.figures.proofs.totals_of.Goals as goal
 
 pub loop-i-init : goal.loop-i-init
 loop-i-init c =
-    let s = c in
-    let d = s.args.v.description in
-    (omega arith, totals_zero d, lanes_none d.nest (streams_of d) s.requires.4)
+    let d = c.args.v.description in
+    (omega arith, totals_zero d, lanes_none d.nest (streams_of d) c.requires.4)
 
 pub flow_at-f-requires : goal.flow_at-f-requires
 flow_at-f-requires c = omega (
@@ -42,23 +41,21 @@ part_share_of_end c = omega (
 
 pub share_of-requires : goal.share_of-requires
 share_of-requires c =
-    let s = c in
     let l = c.loop-i in
     let t = c.loop-i-test.true in
     let e = c.flow_at-f.ensures in
     let k = 3072 * l.i + 3072 - 3072 * l.i in
-    let six : l.i < 6 = omega (arith, t, s.requires.0.few.ranged.sized.most_streams) in (
-      sharing_at s.requires.0 s.requires.1 l.i t e,
-      share_at s.requires.0 s.requires.1 l.i t e s.requires.2 s.requires.3,
+    let six : l.i < 6 = omega (arith, t, c.requires.0.few.ranged.sized.most_streams) in (
+      sharing_at c.requires.0 c.requires.1 l.i t e,
+      share_at c.requires.0 c.requires.1 l.i t e c.requires.2 c.requires.3,
       part_length six l.invariant.2 {k = k} (omega arith),
       part_zeros six l.invariant.2 {k = k} (omega arith),
     )
 
 pub joined-totals-requires : goal.joined-totals-requires
 joined-totals-requires c =
-    let s = c in
     let l = c.loop-i in (
-      subst Room (sym l.invariant.1) (totals_room s.args.v.description s.requires.0 l.i l.invariant.0),
+      subst Room (sym l.invariant.1) (totals_room c.args.v.description c.requires.0 l.i l.invariant.0),
       c.share_of.ensures.1,
     )
 
@@ -74,17 +71,16 @@ overflow_add-i c = record {
 
 pub loop-i-preserved : goal.loop-i-preserved
 loop-i-preserved c =
-    let s = c in
     let l = c.loop-i in
     let t = c.loop-i-test.true in
     let r = c.share_of in
     let e = c.flow_at-f.ensures in
     let k = 3072 * l.i + 3072 - 3072 * l.i in
-    let six : l.i < 6 = omega (arith, t, s.requires.0.few.ranged.sized.most_streams) in (
+    let six : l.i < 6 = omega (arith, t, c.requires.0.few.ranged.sized.most_streams) in (
       omega (arith, t),
-      c.joined-totals.ensures ∙ share_next s.requires.0 s.requires.1 l.i t e l.invariant.1 r.ensures.0,
-      lanes_next six l.invariant.2 {k = k} (omega arith) s.requires.0.processes _
-          (lanes_at s.requires.0 s.requires.1 l.i t e r.ensures.2),
+      c.joined-totals.ensures ∙ share_next c.requires.0 c.requires.1 l.i t e l.invariant.1 r.ensures.0,
+      lanes_next six l.invariant.2 {k = k} (omega arith) c.requires.0.processes _
+          (lanes_at c.requires.0 c.requires.1 l.i t e r.ensures.2),
     )
 
 pub shape_of-lanes : goal.shape_of-lanes
@@ -92,12 +88,11 @@ shape_of-lanes c = c.loop-i.invariant.2.words ∙ sym (zero_words c.requires.4)
 
 pub returns : goal.returns
 returns c =
-    let s = c in
-    let d = s.args.v.description in
+    let d = c.args.v.description in
     let l = c.loop-i in
     let z : l.i ≡ d.sizes.streams = omega (arith, c.loop-i-test.false, l.invariant.0) in
     let e = l.invariant.1 ∙ ap (totals_of d) z in (
       e,
-      subst Room (sym e) (totals_room d s.requires.0 d.sizes.streams (omega arith)),
+      subst Room (sym e) (totals_room d c.requires.0 d.sizes.streams (omega arith)),
       subst (λ (i : ℕ). LanesOf d.nest (streams_of d) i l.lanes) z l.invariant.2,
     )

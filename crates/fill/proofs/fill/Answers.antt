@@ -6,19 +6,15 @@ use Rattle.fill.proofs.fill.Goals as goal
 
 pub fill_places-requires : goal.fill_places-requires
 fill_places-requires c =
-    let w = c in
-    let a = w.args in
-    long_enough a.seed a.n a.list.now (sym w.refusal-r.ensures ∙ c.if-r-eq0.true)
+    let a = c.args in
+    long_enough a.seed a.n a.list.now (sym c.refusal-r.ensures ∙ c.if-r-eq0.true)
 
 pub returns-then-r-eq0 : goal.returns-then-r-eq0
 returns-then-r-eq0 c =
-    let f = c in
-    let w = f in
-    let a = w.args in
-    filled_call a.seed a.n a.list.now (sym w.refusal-r.ensures ∙ f.if-r-eq0.true) f.fill_places.ensures
+    let a = c.args in
+    filled_call a.seed a.n a.list.now (sym c.refusal-r.ensures ∙ c.if-r-eq0.true) c.fill_places.ensures
 
 pub returns-else-r-eq0 : goal.returns-else-r-eq0
 returns-else-r-eq0 c =
-    let w = c in
-    let a = w.args in
-    declined_call a.seed a.n a.list.now w.refusal-r.ensures c.if-r-eq0.false
+    let a = c.args in
+    declined_call a.seed a.n a.list.now c.refusal-r.ensures c.if-r-eq0.false

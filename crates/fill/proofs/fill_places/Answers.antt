@@ -15,7 +15,7 @@ loop-i-init c = (omega arith, refl, sym (after_none _), sym (fill_zero _ _))
 
 pub bounds-list-i : goal.bounds-list-i
 bounds-list-i c =
-    let l = c in omega (arith, c.loop-i-test.true, l.loop-i.invariant.1, l.requires)
+    omega (arith, c.loop-i-test.true, c.loop-i.invariant.1, c.requires)
 
 pub loop-i-preserved : goal.loop-i-preserved
 loop-i-preserved c =

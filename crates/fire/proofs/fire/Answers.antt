@@ -8,38 +8,32 @@ use Rattle.fire.specs.Firing.{used_fit, used_list, runnable, fire_facts}
 use Rattle.fire.proofs.fire.Goals as goal
 
 pub word-f-requires : goal.word-f-requires
-word-f-requires c = let s = c in (s.requires.0.ports 0 s.requires.0.some).fired
+word-f-requires c = (c.requires.0.ports 0 c.requires.0.some).fired
 
 pub used_words-words-requires : goal.used_words-words-requires
-used_words-words-requires c = let s = c in used_fit _ _ _ s.requires.0
+used_words-words-requires c = used_fit _ _ _ c.requires.0
 
 pub execute-requires : goal.execute-requires
 execute-requires c =
-    let s = c in
-    let l : length s.args.t2 ≡ 6 = search rules in
+    let l : length c.args.ports ≡ 6 = search rules in
     let e = c.used_words-words.ensures in
-    rw (e, used_list s.args.t2 s.args.streams s.requires.0.most l) (runnable _ _ _ _ _ s.requires.0 l s.requires.1)
+    rw (e, used_list c.args.ports c.args.streams c.requires.0.most l) (runnable _ _ _ _ _ c.requires.0 l c.requires.1)
 
 pub overflow_cast-state : goal.overflow_cast-state
 overflow_cast-state c =
-    let s = c in
-    let k = s.requires.0.ports 0 s.requires.0.some in
-    omega (arith, k.count, fire_facts s.args.state.now s.args.t2 s.args.streams s.requires.2)
+    let k = c.requires.0.ports 0 c.requires.0.some in
+    omega (arith, k.count, fire_facts c.args.state.now c.args.ports c.args.streams c.requires.2)
 
 pub offset_bounds-state-at : goal.offset_bounds-state-at
 offset_bounds-state-at c =
-    let s = c in
-    omega (arith, (s.requires.0.ports 0 s.requires.0.some).fired)
+    omega (arith, (c.requires.0.ports 0 c.requires.0.some).fired)
 
 pub bounds-state-at : goal.bounds-state-at
 bounds-state-at c =
-    let s = c in
-    omega (arith, (s.requires.0.ports 0 s.requires.0.some).fired)
+    omega (arith, (c.requires.0.ports 0 c.requires.0.some).fired)
 
 pub returns : goal.returns
 returns c =
-    let s = c in
-    let l : length s.args.t2 ≡ 6 = search rules in
-    let u = c in
-    let e = used_list s.args.t2 s.args.streams s.requires.0.most l in
-    rw (c.execute.ensures, u.used_words-words.ensures, u.word-f.ensures.0, e)
+    let l : length c.args.ports ≡ 6 = search rules in
+    let e = used_list c.args.ports c.args.streams c.requires.0.most l in
+    rw (c.execute.ensures, c.used_words-words.ensures, c.word-f.ensures.0, e)

@@ -1,5 +1,4 @@
 -- `fire::used` meets its contract. Assumes nothing.
-use borrow.Author.Rules.{rules}
 use Rattle.fire.proofs.used.Goals as goal
 
 pub returns-then-k : goal.returns-then-k

@@ -1,11 +1,9 @@
 -- `fire::used_words` meets its contract: after s turns the first s words stand there. Assumes nothing.
-use mathlib.Core.Path.{◌≡◌, sym}
-use Prim.Native.Nat.{◌≤◌, ◌-◌}
+use mathlib.Core.Path.{sym}
 use native.Mathlib.Omega.{arith}
 use lib.ListN.{replicate}
-use borrow.Author.Rules.{rules}
 use Rattle.fire.specs.Firing.{used_in}
-use Rattle.integers.specs.Fill.{fill_by, fill_zero, fill_step, fill_done}
+use Rattle.integers.specs.Fill.{fill_zero, fill_step, fill_done}
 use Rattle.fire.proofs.used_words.Goals as goal
 
 pub loop-s-init : goal.loop-s-init
@@ -15,16 +13,15 @@ pub bounds-ports-s : goal.bounds-ports-s
 bounds-ports-s c = omega (arith, c.requires.most)
 
 pub used-requires : goal.used-requires
-used-requires c = let q = c in q.requires.small q.loop-s.s c.loop-s-test.true
+used-requires c = c.requires.small c.loop-s.s c.loop-s-test.true
 
 pub bounds-out-s : goal.bounds-out-s
 bounds-out-s c = omega (arith, c.requires.most)
 
 pub loop-s-preserved : goal.loop-s-preserved
 loop-s-preserved c =
-    let q = c in
-    let f = used_in q.args.t1 in
-    (omega arith, rw (c.used.ensures, q.loop-s.invariant.1) (sym (fill_step f q.loop-s.s (replicate 6 0))))
+    let f = used_in c.args.ports in
+    (omega arith, rw (c.used.ensures, c.loop-s.invariant.1) (sym (fill_step f c.loop-s.s (replicate 6 0))))
 
 pub returns : goal.returns
-returns c = let q = c in fill_done _ _ _ _ q.loop-s.invariant.1 (omega arith)
+returns c = fill_done _ _ _ _ c.loop-s.invariant.1 (omega arith)

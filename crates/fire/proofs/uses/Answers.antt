@@ -1,7 +1,6 @@
 -- `fire::uses` meets its contract: its tests are the rule's, and the numbers have 32 bits, so that a usize holds their sums.
 -- Assumes nothing.
 use borrow.Author.Tests.{lt-ltb, le-ltb, eq-eqb, ne_eqb}
-use borrow.Author.Rules.{rules}
 use Rattle.fire.specs.Firing.{uses}
 use Rattle.fire.proofs.uses.Goals as goal
 

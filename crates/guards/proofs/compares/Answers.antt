@@ -10,7 +10,7 @@ pub returns-in-0 : goal.returns-in-0
 returns-in-0 c = rw c.in-0.is refl
 
 pub returns-in-1 : goal.returns-in-1
-returns-in-1 c = let a = c in rw c.in-1.is (eq_bits a.args.v a.args.bound a.ranges.v.sfits a.ranges.bound.sfits)
+returns-in-1 c = rw c.in-1.is (eq_bits c.args.v c.args.bound c.ranges.v.sfits c.ranges.bound.sfits)
 
 pub returns-in-2 : goal.returns-in-2
 returns-in-2 c = rw c.in-2.is (search rules)

@@ -6,7 +6,6 @@ use Rattle.instances.proofs.first_of.Goals as goal
 
 pub returns : goal.returns
 returns c =
-    let s = c in
     let e = c.first_at.ensures in
-    let h = s.requires.held in
-    let l = s.requires.process in (e ∙ h.firsts s.args.p l, subst (Within 64) (sym e) (h.first_small s.args.p l))
+    let h = c.requires.held in
+    let l = c.requires.process in (e ∙ h.firsts c.args.p l, subst (Within 64) (sym e) (h.first_small c.args.p l))

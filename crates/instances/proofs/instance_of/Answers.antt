@@ -8,5 +8,4 @@ use Rattle.instances.proofs.instance_of.Goals as goal
 
 pub returns : goal.returns
 returns c =
-    let s = c in
-    c.later.ensures ∙ ap₂ (λ (x i : V3). shift3 x (pos s.args.f) i) c.first_of.ensures.0 s.requires.increment
+    c.later.ensures ∙ ap₂ (λ (x i : V3). shift3 x (pos c.args.f) i) c.first_of.ensures.0 c.requires.increment

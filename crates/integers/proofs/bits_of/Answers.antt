@@ -10,19 +10,16 @@ use Rattle.integers.proofs.bits_of.Goals as goal
 
 pub overflow_sub-result : goal.overflow_sub-result
 overflow_sub-result c =
-    let s = c in
-    let t = tower s.args.z s.ranges.z.sfits in
-    let e = c.magnitude-size.ensures ∙ ap nat_abs t in omega (arith, e, size_positive s.args.z (less_of t refl c.if-z-lt0.true))
+    let t = tower c.args.z c.ranges.z.sfits in
+    let e = c.magnitude-size.ensures ∙ ap nat_abs t in omega (arith, e, size_positive c.args.z (less_of t refl c.if-z-lt0.true))
 
 pub returns-then-z-lt0 : goal.returns-then-z-lt0
 returns-then-z-lt0 c =
-    let s = c in
-    let t = tower s.args.z s.ranges.z.sfits in
+    let t = tower c.args.z c.ranges.z.sfits in
     ap (λ (n : ℕ). 4294967295 - (n - 1)) (c.magnitude-size.ensures ∙ ap nat_abs t)
-    ∙ bits_negative s.args.z s.ranges.z.sfits (less_of t refl c.if-z-lt0.true)
+    ∙ bits_negative c.args.z c.ranges.z.sfits (less_of t refl c.if-z-lt0.true)
 
 pub returns-else-z-lt0 : goal.returns-else-z-lt0
 returns-else-z-lt0 c =
-    let s = c in
-    let t = tower s.args.z s.ranges.z.sfits in
-    c.magnitude-size.ensures ∙ ap nat_abs t ∙ bits_other s.args.z (not_less_of t refl c.if-z-lt0.false)
+    let t = tower c.args.z c.ranges.z.sfits in
+    c.magnitude-size.ensures ∙ ap nat_abs t ∙ bits_other c.args.z (not_less_of t refl c.if-z-lt0.false)

@@ -19,28 +19,25 @@ overflow_cast-result-2 c = record { sfits = omega (arith, c.reach_of-k.ensures.1
 
 pub overflow_mul-result : goal.overflow_mul-result
 overflow_mul-result c =
-    let k = c in fits tt (mul (bits tt k.reach_of-k.ensures.1) (at tt (step_small k.requires.0)))
+    fits tt (mul (bits tt c.reach_of-k.ensures.1) (at tt (step_small c.requires.0)))
 
 pub overflow_sub-result : goal.overflow_sub-result
 overflow_sub-result c =
-    let k = c in
-    let p = k.requires in
-    let far = mul (bits tt k.reach_of-k.ensures.1) (at tt (step_small p.0)) in
+    let p = c.requires in
+    let far = mul (bits tt c.reach_of-k.ensures.1) (at tt (step_small p.0)) in
     fits tt (sub (bits tt (process_few p.0 p.1 p.2)) (box tt far))
 
 pub overflow_cast-result-3 : goal.overflow_cast-result-3
 overflow_cast-result-3 c =
-    let k = c in
-    let p = k.requires in
-    let far = mul (bits tt k.reach_of-k.ensures.1) (at tt (step_small p.0)) in
+    let p = c.requires in
+    let far = mul (bits tt c.reach_of-k.ensures.1) (at tt (step_small p.0)) in
     cast_of tt (box tt (sub (bits tt (process_few p.0 p.1 p.2)) (box tt far)))
-    (entry_some p.0 p.1 p.2 k.reach_of-k.ensures.0)
+    (entry_some p.0 p.1 p.2 c.reach_of-k.ensures.0)
 
 pub returns : goal.returns
 returns c =
-    let k = c in
-    let p = k.requires in
-    let r = k.reach_of-k.ensures in
+    let p = c.requires in
+    let r = c.reach_of-k.ensures in
     let far = mul (bits tt r.1) (at tt (step_small p.0)) in
     entry_number_lem p.0 p.1 p.2 r.0
     (ap nat_abs ((box tt (sub (bits tt (process_few p.0 p.1 p.2)) (box tt far))).eq ∙ entry_back p.0 p.1 p.2 r.0))

@@ -18,10 +18,9 @@ use Rattle.lanes.proofs.fill_lanes.Goals as goal
 
 pub loop-p-init : goal.loop-p-init
 loop-p-init c =
-    let s = c in
-    let f = s.requires.flowing in (
+    let f = c.requires.flowing in (
       omega arith,
-      lanes_start _ _ _ s.args.processes _ (omega (arith, f.counted, f.flows.laid.processes)) s.requires.words s.requires.zeros,
+      lanes_start _ _ _ c.args.processes _ (omega (arith, f.counted, f.flows.laid.processes)) c.requires.words c.requires.zeros,
       λ l. first_point_lem (spanning f.flows) (point_lt f.flows (omega (arith, l, f.counted))),
     )
 
@@ -42,8 +41,7 @@ bounds-spans-p c =
 
 pub visit-requires : goal.visit-requires
 visit-requires c =
-    let s = c in
-    let f = s.requires.flowing in
+    let f = c.requires.flowing in
     let l = c.loop-p in
     let t = c.loop-p-test.true in
     let e = c.entry_number-e in
@@ -54,7 +52,7 @@ visit-requires c =
       held = omega (
         arith,
         l.invariant.1.held e.result (omega (arith, e.ensures.1, f.counted)),
-        held_le (entry_number s.args.f.nest s.args.f.stream) (computes s.args.f.nest) l.p e.result,
+        held_le (entry_number c.args.f.nest c.args.f.stream) (computes c.args.f.nest) l.p e.result,
         t,
         f.counted,
         f.flows.laid.processes,
@@ -70,8 +68,7 @@ next_point-y-requires c =
 
 pub loop-p-preserved : goal.loop-p-preserved
 loop-p-preserved c =
-    let s = c in
-    let f = s.requires.flowing in
+    let f = c.requires.flowing in
     let l = c.loop-p in
     let e = c.entry_number-e in
     let t = c.loop-p-test.true in (
@@ -89,18 +86,17 @@ shape_of-lanes c = omega (arith, c.loop-p.invariant.1.words, c.requires.words)
 
 pub returns : goal.returns
 returns c =
-    let s = c in
-    let f = s.requires.flowing in
+    let f = c.requires.flowing in
     let l = c.loop-p in
-    let e : l.p ≡ s.args.processes = omega (arith, c.loop-p-test.false, l.invariant.0) in
-    let E = entry_number s.args.f.nest s.args.f.stream in
-    let C = computes s.args.f.nest in
-    let P = length (processes s.args.f.nest) in
+    let e : l.p ≡ c.args.processes = omega (arith, c.loop-p-test.false, l.invariant.0) in
+    let E = entry_number c.args.f.nest c.args.f.stream in
+    let C = computes c.args.f.nest in
+    let P = length (processes c.args.f.nest) in
     record {
       flows = f.flows;
       of_spans = f.of_spans;
       long = f.long;
       of_lanes = subst (λ (m : Bool). Lanes E C m P P l.lanes) f.flows.flow.moving_is
-          (subst (λ (k : ℕ). Lanes E C s.args.f.moving k k l.lanes) f.counted
-          (subst (λ (k : ℕ). Lanes E C s.args.f.moving s.args.processes k l.lanes) e l.invariant.1));
+          (subst (λ (k : ℕ). Lanes E C c.args.f.moving k k l.lanes) f.counted
+          (subst (λ (k : ℕ). Lanes E C c.args.f.moving c.args.processes k l.lanes) e l.invariant.1));
     }

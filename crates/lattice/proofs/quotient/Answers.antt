@@ -36,33 +36,29 @@ returns-then-d-eq0 c = by_zero c.args.x ∙ ap (λ (d : ℕ). quot_z c.args.x (p
 
 pub negative-requires : goal.negative-requires
 negative-requires c =
-    let s = c in
-    let h = s.ranges.x.sfits in
-    let e = c.magnitude.ensures ∙ ap nat_abs (tower s.args.x h) in
-    omega (arith, div-le_self c.magnitude.result s.args.d, nat_abs-le s.args.x h, e)
+    let h = c.ranges.x.sfits in
+    let e = c.magnitude.ensures ∙ ap nat_abs (tower c.args.x h) in
+    omega (arith, div-le_self c.magnitude.result c.args.d, nat_abs-le c.args.x h, e)
 
 pub overflow_cast-result : goal.overflow_cast-result
 overflow_cast-result c =
-    let s = c in
-    let h = s.ranges.x.sfits in
-    let e = c.magnitude.ensures ∙ ap nat_abs (tower s.args.x h) in
+    let h = c.ranges.x.sfits in
+    let e = c.magnitude.ensures ∙ ap nat_abs (tower c.args.x h) in
     record {
-      sfits = subst (λ (n : ℕ). n / s.args.d < 2 ^ 31) (sym e)
-          (small s.args.x s.args.d h (not_less_of (tower s.args.x h) refl c.if-x-lt0.false));
+      sfits = subst (λ (n : ℕ). n / c.args.d < 2 ^ 31) (sym e)
+          (small c.args.x c.args.d h (not_less_of (tower c.args.x h) refl c.if-x-lt0.false));
     }
 
 pub returns-then-x-lt0 : goal.returns-then-x-lt0
 returns-then-x-lt0 c =
-    let s = c in
-    let h = s.ranges.x.sfits in
-    let e = c.magnitude.ensures ∙ ap nat_abs (tower s.args.x h) in
-    held c.negative.type_inv (c.negative.ensures ∙ ap (λ (n : ℕ). neg_ℤ (pos (n / s.args.d))) e
-    ∙ below s.args.x s.args.d (less_of (tower s.args.x h) refl c.if-x-lt0.true))
+    let h = c.ranges.x.sfits in
+    let e = c.magnitude.ensures ∙ ap nat_abs (tower c.args.x h) in
+    held c.negative.type_inv (c.negative.ensures ∙ ap (λ (n : ℕ). neg_ℤ (pos (n / c.args.d))) e
+    ∙ below c.args.x c.args.d (less_of (tower c.args.x h) refl c.if-x-lt0.true))
 
 pub returns-else-x-lt0 : goal.returns-else-x-lt0
 returns-else-x-lt0 c =
-    let s = c in
-    let h = s.ranges.x.sfits in
-    let e = c.magnitude.ensures ∙ ap nat_abs (tower s.args.x h) in
-    let k = not_less_of (tower s.args.x h) refl c.if-x-lt0.false in
-    ap (λ (n : ℕ). to_z w32 (n / s.args.d)) e ∙ to_z_pos w32 _ (small s.args.x s.args.d h k) ∙ above s.args.x s.args.d k
+    let h = c.ranges.x.sfits in
+    let e = c.magnitude.ensures ∙ ap nat_abs (tower c.args.x h) in
+    let k = not_less_of (tower c.args.x h) refl c.if-x-lt0.false in
+    ap (λ (n : ℕ). to_z w32 (n / c.args.d)) e ∙ to_z_pos w32 _ (small c.args.x c.args.d h k) ∙ above c.args.x c.args.d k

@@ -17,10 +17,8 @@ distance-requires-3 c = apart_words (above c.requires.zs)
 
 pub returns : goal.returns
 returns c =
-    let b = c in
-    let a = b in
-    let h = a.requires in
-    let x = words_up (above h.xs) a.distance.ensures.0 in
-    let y = words_up (above h.ys) b.distance-2.ensures.0 in
+    let h = c.requires in
+    let x = words_up (above h.xs) c.distance.ensures.0 in
+    let y = words_up (above h.ys) c.distance-2.ensures.0 in
     let z = words_up (above h.zs) c.distance-3.ensures.0 in
     ap₂ (λ (q d : ℕ). q * 256 + d) (ap₂ (λ (q d : ℕ). q * 256 + d) x y) z

@@ -10,11 +10,8 @@ use Rattle.integers.specs.Fill.{fill_by, fill_zero, fill_step, fill_past, fill_d
 use Rattle.meaning.specs.declared.Nest.{Nest}
 use Rattle.layout.specs.Codes.{code_of}
 use Rattle.layout.specs.Spans.{numbered}
+use Rattle.layout.proofs.fill_firsts.Invariants.{code_in}
 use Rattle.layout.proofs.fill_firsts.Goals as goal
-
--- the code of process p by the words lent
-abbrev code_in : Nest → List ℕ → ℕ → ℕ
-code_in n firsts p = code_of (numbered n (get_or firsts p 0))
 
 -- what the loop has not come to is as it was lent
 kept : (n : Nest) (firsts₀ : List ℕ) {firsts : List ℕ} (p : ℕ) → firsts ≡ fill_by (code_in n firsts₀) p firsts₀
@@ -27,20 +24,17 @@ loop-p-init c = (omega arith, refl, sym (fill_zero _ _))
 pub instance_numbered-requires : goal.instance_numbered-requires
 instance_numbered-requires c =
     let l = c.loop-p in
-    let s = c in
-    (s.requires.0, omega (arith, kept s.args.n s.args.firsts.now l.p l.invariant.2, s.requires.2 l.p c.loop-p-test.true))
+    (c.requires.0, omega (arith, kept c.args.n c.args.firsts.now l.p l.invariant.2, c.requires.2 l.p c.loop-p-test.true))
 
 pub code_of-requires : goal.code_of-requires
 code_of-requires c = c.instance_numbered.ensures.1
 
 pub loop-p-preserved : goal.loop-p-preserved
 loop-p-preserved c =
-    let i = c in
-    let l = i.loop-p in
-    let s = i in
-    let n = s.args.n in
-    let e = c.code_of.ensures ∙ ap code_of i.instance_numbered.ensures.0
-    ∙ ap (λ (k : ℕ). code_of (numbered n k)) (kept n s.args.firsts.now l.p l.invariant.2) in
+    let l = c.loop-p in
+    let n = c.args.n in
+    let e = c.code_of.ensures ∙ ap code_of c.instance_numbered.ensures.0
+    ∙ ap (λ (k : ℕ). code_of (numbered n k)) (kept n c.args.firsts.now l.p l.invariant.2) in
     (omega arith, simp length-set l.invariant.1, ap₂ (λ (w : List ℕ) (x : ℕ). set w l.p x) l.invariant.2 e ∙ sym (fill_step _ l.p _))
 
 pub returns : goal.returns

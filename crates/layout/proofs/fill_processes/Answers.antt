@@ -13,36 +13,26 @@ use Rattle.layout.proofs.fill_processes.Goals as goal
 
 pub against-back-requires : goal.against-back-requires
 against-back-requires c =
-    let s = c in (directions_small s.requires.0.directed, s.requires.1.increment_small)
+    (directions_small c.requires.0.directed, c.requires.1.increment_small)
 
 pub fill_spans-requires : goal.fill_spans-requires
 fill_spans-requires c =
-    let f = c in
-    let s = f in
-    let t = filled_table _ f.fill_numbers.ensures s.requires.1.instances_is s.requires.1.processes_is in
-    record { table = table_listed s.requires.0.directed t; few = omega (arith, t.sized, s.requires.4); words = s.requires.5 }
+    let t = filled_table _ c.fill_numbers.ensures c.requires.1.instances_is c.requires.1.processes_is in
+    record { table = table_listed c.requires.0.directed t; few = omega (arith, t.sized, c.requires.4); words = c.requires.5 }
 
 pub fill_firsts-requires : goal.fill_firsts-requires
 fill_firsts-requires c =
-    let w = c in
-    let v = w.fill_spans.new.spans in
-    let f = w in
-    let a = f in
-    let s = a in
-    let t = filled_table _ f.fill_numbers.ensures s.requires.1.instances_is s.requires.1.processes_is in
-    let b = a.against-back.ensures ∙ ap (against s.args.n.direction) s.requires.1.increment_is in (
-      s.requires.0,
-      omega (arith, t.sized, s.requires.4, mid_len 1024 2048 v (omega (arith, w.fill_spans.auto.spans, s.requires.5))),
-      first_le s.requires.2 t b w.fill_spans.ensures (omega (arith, t.sized, s.requires.4)),
+    let v = c.fill_spans.new.spans in
+    let t = filled_table _ c.fill_numbers.ensures c.requires.1.instances_is c.requires.1.processes_is in
+    let b = c.against-back.ensures ∙ ap (against c.args.n.direction) c.requires.1.increment_is in (
+      c.requires.0,
+      omega (arith, t.sized, c.requires.4, mid_len 1024 2048 v (omega (arith, c.fill_spans.auto.spans, c.requires.5))),
+      first_le c.requires.2 t b c.fill_spans.ensures (omega (arith, t.sized, c.requires.4)),
     )
 
 pub returns : goal.returns
 returns c =
-    let w = c in
-    let f = w in
-    let a = f in
-    let s = a in
-    let t = filled_table _ f.fill_numbers.ensures s.requires.1.instances_is s.requires.1.processes_is in
-    let b = a.against-back.ensures ∙ ap (against s.args.n.direction) s.requires.1.increment_is in
-    ends_are s.requires.2 t b w.fill_spans.ensures (omega (arith, t.sized, s.requires.4)) s.requires.0
-    (w.fill_spans.auto.spans ∙ s.requires.5) _ c.fill_firsts.ensures
+    let t = filled_table _ c.fill_numbers.ensures c.requires.1.instances_is c.requires.1.processes_is in
+    let b = c.against-back.ensures ∙ ap (against c.args.n.direction) c.requires.1.increment_is in
+    ends_are c.requires.2 t b c.fill_spans.ensures (omega (arith, t.sized, c.requires.4)) c.requires.0
+    (c.fill_spans.auto.spans ∙ c.requires.5) _ c.fill_firsts.ensures

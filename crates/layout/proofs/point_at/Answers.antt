@@ -14,36 +14,27 @@ distance-columns-requires c = apart_words c.requires.0.second
 
 pub overflow_cast-result : goal.overflow_cast-result
 overflow_cast-result c =
-    let s = c in
     record {
-      sfits = omega (arith, row_small s.requires.0 s.args.p (size_words s.requires.0.second c.distance-columns.ensures.0) s.requires.1);
+      sfits = omega (arith, row_small c.requires.0 c.args.p (size_words c.requires.0.second c.distance-columns.ensures.0) c.requires.1);
     }
 
 pub overflow_add-result : goal.overflow_add-result
 overflow_add-result c =
-    let b = c in
-    let s = b in
-    fits tt (add (at tt s.requires.0.first.low)
-    (bits tt (row_small s.requires.0 s.args.p (size_words s.requires.0.second b.distance-columns.ensures.0) s.requires.1)))
+    fits tt (add (at tt c.requires.0.first.low)
+    (bits tt (row_small c.requires.0 c.args.p (size_words c.requires.0.second c.distance-columns.ensures.0) c.requires.1)))
 
 pub overflow_cast-result-2 : goal.overflow_cast-result-2
 overflow_cast-result-2 c =
-    let b = c in
-    let s = b in
-    record { sfits = omega (arith, column_small s.requires.0 s.args.p (size_words s.requires.0.second b.distance-columns.ensures.0)) }
+    record { sfits = omega (arith, column_small c.requires.0 c.args.p (size_words c.requires.0.second c.distance-columns.ensures.0)) }
 
 pub overflow_add-result-2 : goal.overflow_add-result-2
 overflow_add-result-2 c =
-    let b = c in
-    let s = b in
-    fits tt (add (at tt s.requires.0.second.low)
-    (bits tt (column_small s.requires.0 s.args.p (size_words s.requires.0.second b.distance-columns.ensures.0))))
+    fits tt (add (at tt c.requires.0.second.low)
+    (bits tt (column_small c.requires.0 c.args.p (size_words c.requires.0.second c.distance-columns.ensures.0))))
 
 pub returns : goal.returns
 returns c =
-    let b = c in
-    let s = b in
-    let e = size_words s.requires.0.second b.distance-columns.ensures.0 in
-    same2 (box tt (add (at tt s.requires.0.first.low) (bits tt (row_small s.requires.0 s.args.p e s.requires.1)))).eq
-    (box tt (add (at tt s.requires.0.second.low) (bits tt (column_small s.requires.0 s.args.p e)))).eq
-    ∙ point_is s.requires.0 s.args.p e s.requires.1
+    let e = size_words c.requires.0.second c.distance-columns.ensures.0 in
+    same2 (box tt (add (at tt c.requires.0.first.low) (bits tt (row_small c.requires.0 c.args.p e c.requires.1)))).eq
+    (box tt (add (at tt c.requires.0.second.low) (bits tt (column_small c.requires.0 c.args.p e)))).eq
+    ∙ point_is c.requires.0 c.args.p e c.requires.1

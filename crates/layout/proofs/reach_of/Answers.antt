@@ -13,12 +13,10 @@ room-b-requires c = subst Along (sym c.second_ray.ensures) (second_along c.requi
 
 pub returns-then-a-b : goal.returns-then-a-b
 returns-then-a-b c =
-    let b = c in
-    reach_left b.requires b.first_ray.ensures b.room-a.ensures c.second_ray.ensures
+    reach_left c.requires c.first_ray.ensures c.room-a.ensures c.second_ray.ensures
     c.room-b.ensures c.if-a-b.true
 
 pub returns-else-a-b : goal.returns-else-a-b
 returns-else-a-b c =
-    let b = c in
-    reach_right b.requires b.first_ray.ensures b.room-a.ensures c.second_ray.ensures
+    reach_right c.requires c.first_ray.ensures c.room-a.ensures c.second_ray.ensures
     c.room-b.ensures c.if-a-b.false

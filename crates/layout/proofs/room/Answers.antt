@@ -13,20 +13,17 @@ use Rattle.layout.proofs.room.Goals as goal
 
 pub returns-then-r-eq0 : goal.returns-then-r-eq0
 returns-then-r-eq0 c =
-    let s = c in room_free s.args.r (sym (zero_bits tt s.requires.by) ∙ eq-eqb _ _ c.if-r-eq0.true)
+    room_free c.args.r (sym (zero_bits tt c.requires.by) ∙ eq-eqb _ _ c.if-r-eq0.true)
 
 pub distance-requires : goal.distance-requires
 distance-requires c = apart_words c.requires.low
 
 pub steps_in-requires : goal.steps_in-requires
 steps_in-requires c =
-    let m = c in
-    let i = m in
-    let s = i in
     omega (
       arith,
-      step_size s.requires.by m.magnitude-steps.ensures,
-      some_step s.args.r.by (sym (zero_bits tt s.requires.by) ∙ ne_eqb _ _ i.if-r-eq0.false),
+      step_size c.requires.by c.magnitude-steps.ensures,
+      some_step c.args.r.by (sym (zero_bits tt c.requires.by) ∙ ne_eqb _ _ c.if-r-eq0.false),
     )
 
 pub distance-requires-else-r-lt0 : goal.distance-requires-else-r-lt0
@@ -34,31 +31,21 @@ distance-requires-else-r-lt0 c = apart_words c.requires.high
 
 pub steps_in-requires-else-r-lt0 : goal.steps_in-requires-else-r-lt0
 steps_in-requires-else-r-lt0 c =
-    let m = c in
-    let i = m in
-    let s = i in
     omega (
       arith,
-      step_size s.requires.by m.magnitude-steps.ensures,
-      some_step s.args.r.by (sym (zero_bits tt s.requires.by) ∙ ne_eqb _ _ i.if-r-eq0.false),
+      step_size c.requires.by c.magnitude-steps.ensures,
+      some_step c.args.r.by (sym (zero_bits tt c.requires.by) ∙ ne_eqb _ _ c.if-r-eq0.false),
     )
 
 pub returns-then-r-lt0 : goal.returns-then-r-lt0
 returns-then-r-lt0 c =
-    let b = c in
-    let m = b in
-    let s = m in
     c.steps_in.ensures
-    ∙ ap₂ ◌/◌ (words_up s.requires.low b.distance.ensures.0) (step_size s.requires.by m.magnitude-steps.ensures)
-    ∙ room_down s.args.r (less_of (at tt s.requires.by).eq refl b.if-r-lt0.true)
+    ∙ ap₂ ◌/◌ (words_up c.requires.low c.distance.ensures.0) (step_size c.requires.by c.magnitude-steps.ensures)
+    ∙ room_down c.args.r (less_of (at tt c.requires.by).eq refl c.if-r-lt0.true)
 
 pub returns-else-r-lt0 : goal.returns-else-r-lt0
 returns-else-r-lt0 c =
-    let b = c in
-    let m = b in
-    let i = m in
-    let s = i in
     c.steps_in-else-r-lt0.ensures
-    ∙ ap₂ ◌/◌ (words_up s.requires.high b.distance-else-r-lt0.ensures.0) (step_size s.requires.by m.magnitude-steps.ensures)
-    ∙ room_up s.args.r (sym (zero_bits tt s.requires.by) ∙ ne_eqb _ _ i.if-r-eq0.false)
-    (not_less_of (at tt s.requires.by).eq refl b.if-r-lt0.false)
+    ∙ ap₂ ◌/◌ (words_up c.requires.high c.distance-else-r-lt0.ensures.0) (step_size c.requires.by c.magnitude-steps.ensures)
+    ∙ room_up c.args.r (sym (zero_bits tt c.requires.by) ∙ ne_eqb _ _ c.if-r-eq0.false)
+    (not_less_of (at tt c.requires.by).eq refl c.if-r-lt0.false)

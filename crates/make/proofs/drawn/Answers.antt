@@ -9,8 +9,7 @@ use Rattle.make.proofs.drawn.Goals as goal
 
 pub drawn_from-requires : goal.drawn_from-requires
 drawn_from-requires c =
-    let s = c in
-    subst Drawable (sym c.range_at.ensures) (drawable s.args.z s.requires s.args.k)
+    subst Drawable (sym c.range_at.ensures) (drawable c.args.z c.requires c.args.k)
 
 pub returns-then-is_direction : goal.returns-then-is_direction
 returns-then-is_direction c =
@@ -19,7 +18,6 @@ returns-then-is_direction c =
 
 pub returns-else-is_direction : goal.returns-else-is_direction
 returns-else-is_direction c =
-    let w = c in
-    let x = w.args.x in
-    rw (sym w.is_direction.ensures ∙ c.if-is_direction.false)
+    let x = c.args.x in
+    rw (sym c.is_direction.ensures ∙ c.if-is_direction.false)
     (held c.drawn_from.type_inv (c.drawn_from.ensures ∙ ap (λ (r : Range). drawn_from r x) c.range_at.ensures))

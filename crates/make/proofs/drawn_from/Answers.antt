@@ -18,13 +18,11 @@ overflow_cast-result c =
 
 pub overflow_add-result : goal.overflow_add-result
 overflow_add-result c =
-    let s = c in
-    let h = s.size_of-size.ensures in fits tt (add (at tt s.requires.least) (bits {n = 128} tt (small _ _ h.0 h.1)))
+    let h = c.size_of-size.ensures in fits tt (add (at tt c.requires.least) (bits {n = 128} tt (small _ _ h.0 h.1)))
 
 pub returns : goal.returns
 returns c =
-    let s = c in
-    let a = s.args in
-    let h = s.size_of-size.ensures in
-    (box tt (add (at tt s.requires.least) (bits {n = 128} tt (small _ _ h.0 h.1)))).eq
+    let a = c.args in
+    let h = c.size_of-size.ensures in
+    (box tt (add (at tt c.requires.least) (bits {n = 128} tt (small _ _ h.0 h.1)))).eq
     ∙ ap (λ (n : ℕ). a.r.least +ℤ pos (a.x % n)) h.0

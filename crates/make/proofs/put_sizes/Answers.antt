@@ -7,9 +7,6 @@ use Rattle.make.proofs.put_sizes.Goals as goal
 
 pub returns : goal.returns
 returns c =
-    let third = c in
-    let second = third in
-    let first = second in
-    let z = first.args.z in
-    third.put_word-3.ensures
-    ∙ ap (stored (bytes_of z.lines) 8 4) (second.put_word-2.ensures ∙ ap (stored (bytes_of z.streams) 4 4) first.put_word.ensures)
+    let z = c.args.z in
+    c.put_word-3.ensures
+    ∙ ap (stored (bytes_of z.lines) 8 4) (c.put_word-2.ensures ∙ ap (stored (bytes_of z.streams) 4 4) c.put_word.ensures)

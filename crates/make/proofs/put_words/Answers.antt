@@ -24,38 +24,32 @@ loop-k-init c = (omega arith, omega (arith, c.line_at-words.ensures.0), refl, sy
 
 pub put_word-requires : goal.put_word-requires
 put_word-requires c =
-    let l = c in
-    let s = l in
     let t = c.loop-k-test.true in
-    omega (arith, l.loop-k.invariant.2 ∙ s.put_sizes.auto.out, s.requires.1, t, l.line_at-words.ensures.0)
+    omega (arith, c.loop-k.invariant.2 ∙ c.put_sizes.auto.out, c.requires.1, t, c.line_at-words.ensures.0)
 
 pub loop-k-preserved : goal.loop-k-preserved
 loop-k-preserved c =
-    let w = c in
-    let n = w in
-    let l = n in
-    let v = l.loop-k.invariant in
-    let a = l.args in
-    let k = l.loop-k.k in
-    let t = n.loop-k-test.true in
+    let v = c.loop-k.invariant in
+    let a = c.args in
+    let k = c.loop-k.k in
+    let t = c.loop-k-test.true in
     let e : (k - 3) + 1 ≡ k + 1 - 3 = omega (arith, v.0) in
     let f : k + 1 - 3 ≡ k - 2 = omega (arith, v.0) in
-    let state = n.next-next.ensures ∙ ap round v.3 ∙ sym (after_more _ _) ∙ ap (λ (m : ℕ). after m a.seed) e in
-    let bits = w.bits_drawn.ensures
+    let state = c.next-next.ensures ∙ ap round v.3 ∙ sym (after_more _ _) ∙ ap (λ (m : ℕ). after m a.seed) e in
+    let bits = c.bits_drawn.ensures
     ∙ ap (λ (x : ℕ). of_z w32 (drawn a.z k x)) (state ∙ ap (λ (m : ℕ). after m a.seed) f) in
-    let inside : suc k ≤ words_of a.z = omega (arith, t, l.line_at-words.ensures.0) in (
+    let inside : suc k ≤ words_of a.z = omega (arith, t, c.line_at-words.ensures.0) in (
       omega (arith, v.0),
       omega (arith, t),
-      w.put_word.auto.out ∙ v.2,
+      c.put_word.auto.out ∙ v.2,
       state,
-      λ first g. w.put_word.ensures ∙ drawn_more a.z a.seed first k v.0 inside (v.4 first g) bits,
+      λ first g. c.put_word.ensures ∙ drawn_more a.z a.seed first k v.0 inside (v.4 first g) bits,
     )
 
 pub returns : goal.returns
 returns c =
     let v = c.loop-k.invariant in
-    let s = c in
-    let a = s.args in
+    let a = c.args in
     let e : c.loop-k.k ≡ words_of a.z = omega (arith, c.loop-k-test.false, v.1, c.line_at-words.ensures.0) in
-    v.4 a.out.now (s.put_sizes.ensures ∙ sizes_are a.z a.seed a.out.now)
+    v.4 a.out.now (c.put_sizes.ensures ∙ sizes_are a.z a.seed a.out.now)
     ∙ ap (λ (n : ℕ). words_to (made_words a.z a.seed) n a.out.now) e

@@ -22,17 +22,15 @@ line_at-words-requires c =
 
 pub returns-then-out-words : goal.returns-then-out-words
 returns-then-out-words c =
-    let b = c in
-    let a = b.args in
-    passes 29 _ (ne_eqb _ _ b.if-seed-eq0.false)
-    (passes 30 _ (sym b.size_refused.ensures ∙ b.if-size_refused.false)
+    let a = c.args in
+    passes 29 _ (ne_eqb _ _ c.if-seed-eq0.false)
+    (passes 30 _ (sym c.size_refused.ensures ∙ c.if-size_refused.false)
     (refuses 31 _ (lt-ltb (length a.out.now) (4 * words_of a.z) (omega (arith, c.if-out-words.true, c.line_at-words.ensures.0)))))
 
 pub returns-else-out-words : goal.returns-else-out-words
 returns-else-out-words c =
-    let b = c in
-    let a = b.args in
-    passes 29 _ (ne_eqb _ _ b.if-seed-eq0.false)
-    (passes 30 _ (sym b.size_refused.ensures ∙ b.if-size_refused.false)
+    let a = c.args in
+    passes 29 _ (ne_eqb _ _ c.if-seed-eq0.false)
+    (passes 30 _ (sym c.size_refused.ensures ∙ c.if-size_refused.false)
     (passes 31 _ (le-ltb (length a.out.now) (4 * words_of a.z) (omega (arith, c.if-out-words.false, c.line_at-words.ensures.0)))
     accepts))

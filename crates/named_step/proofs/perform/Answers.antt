@@ -13,13 +13,12 @@ program_of-g-requires c = c.requires.1.ground
 
 pub act-requires : goal.act-requires
 act-requires c =
-    let s = c in
-    let h = s.requires.0 in
+    let h = c.requires.0 in
     let e = c.program_of-g.ensures in
-    let w : Within 200 (increment s.args.v.description.nest) = rw e.0 at e.1 in
+    let w : Within 200 (increment c.args.v.description.nest) = rw e.0 at e.1 in
     rw e.0 (
       fits h.grounds h.stood,
-      programmed h.grounds h.stood s.requires.2 s.requires.3 w,
+      programmed h.grounds h.stood c.requires.2 c.requires.3 w,
       h.inside,
       waiting_fits h.grounds h.stood,
       received_fits h.grounds h.stood,
@@ -28,6 +27,5 @@ act-requires c =
 
 pub returns : goal.returns
 returns c =
-    let k = c in
     c.act.ensures
-    ∙ rw k.program_of-g.ensures.0 (performed k.requires.0)
+    ∙ rw c.program_of-g.ensures.0 (performed c.requires.0)

@@ -14,46 +14,39 @@ named-requires c = let o = c.requires.0 in
 
 pub can-requires : goal.can-requires
 can-requires c =
-    let s = c in
-    let a = s.args in
-    let o = s.requires.0 in (
+    let a = c.args in
+    let o = c.requires.0 in (
       fits (grounds _ o.accepted) o.stood,
       named_inside a.ports.now _ a.kind a.number a.stream (sym c.named.ensures ∙ c.if-named.true),
     )
 
 pub perform-requires : goal.perform-requires
 perform-requires c =
-    let k = c in
-    let s = k in
-    let a = s.args in
-    let v = s.requires.1 in (
+    let a = c.args in
+    let v = c.requires.1 in (
       rw v.description_is (
-          steppable s.requires.0 a.kind a.number a.stream (sym k.named.ensures
-          ∙ k.if-named.true) (sym k.can.ensures ∙ c.if-can.true)
+          steppable c.requires.0 a.kind a.number a.stream (sym c.named.ensures
+          ∙ c.if-named.true) (sym c.can.ensures ∙ c.if-can.true)
           ),
       v.surveyed,
-      rw v.description_is s.requires.2,
-      s.requires.3,
+      rw v.description_is c.requires.2,
+      c.requires.3,
     )
 
 pub returns-then-can : goal.returns-then-can
 returns-then-can c =
-    let k = c in
-    let s = k in
-    let a = s.args in
-    done s.requires.0 a.kind a.number a.stream (sym k.named.ensures ∙ k.if-named.true)
-    (sym k.can.ensures ∙ c.if-can.true)
-    (c.perform.ensures ∙ rw s.requires.1.description_is)
+    let a = c.args in
+    done c.requires.0 a.kind a.number a.stream (sym c.named.ensures ∙ c.if-named.true)
+    (sym c.can.ensures ∙ c.if-can.true)
+    (c.perform.ensures ∙ rw c.requires.1.description_is)
 
 pub returns-else-can : goal.returns-else-can
 returns-else-can c =
-    let s = c in
-    let a = s.args in
-    unready s.requires.0 a.kind a.number a.stream (sym c.named.ensures
+    let a = c.args in
+    unready c.requires.0 a.kind a.number a.stream (sym c.named.ensures
     ∙ c.if-named.true) (sym c.can.ensures ∙ c.if-can.false)
 
 pub returns-else-named : goal.returns-else-named
 returns-else-named c =
-    let s = c in
-    let a = s.args in
-    unnamed s.requires.0 a.kind a.number a.stream (sym c.named.ensures ∙ c.if-named.false)
+    let a = c.args in
+    unnamed c.requires.0 a.kind a.number a.stream (sym c.named.ensures ∙ c.if-named.false)

@@ -29,17 +29,15 @@ end_of-requires-3 c =
 
 pub returns : goal.returns
 returns c =
-    let y = c in
-    let x = y in
-    let p = x.requires in
+    let p = c.requires in
     let e =
-    same3 (held x.end_of.type_inv (of p.0.xs p.1.xs p.2.xs x.end_of.ensures.0))
-    (held y.end_of-2.type_inv (of p.0.ys p.1.ys p.2.ys y.end_of-2.ensures.0))
+    same3 (held c.end_of.type_inv (of p.0.xs p.1.xs p.2.xs c.end_of.ensures.0))
+    (held c.end_of-2.type_inv (of p.0.ys p.1.ys p.2.ys c.end_of-2.ensures.0))
     (held c.end_of-3.type_inv (of p.0.zs p.1.zs p.2.zs c.end_of-3.ensures.0)) in (
       e,
       record {
-        xs = held_abs x.end_of.type_inv x.end_of.ensures.1;
-        ys = held_abs y.end_of-2.type_inv y.end_of-2.ensures.1;
+        xs = held_abs c.end_of.type_inv c.end_of.ensures.1;
+        ys = held_abs c.end_of-2.type_inv c.end_of-2.ensures.1;
         zs = held_abs c.end_of-3.type_inv c.end_of-3.ensures.1;
       },
     )

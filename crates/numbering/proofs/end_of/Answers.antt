@@ -9,16 +9,14 @@ use Rattle.numbering.proofs.end_of.Goals as goal
 
 pub returns-then-weight-lt0 : goal.returns-then-weight-lt0
 returns-then-weight-lt0 c =
-    let s = c in
-    let e = ap (λ (w : _). lt_z w (pos 0)) (sym (to_z-of_z s.ranges.weight)) ∙ c.if-weight-lt0.true in (
-      to_z-of_z s.ranges.to ∙ ap (λ (t : Bool). cond t s.args.to s.args.from) (sym e),
-      subst (λ z. Abs z 64) (sym (to_z-of_z s.ranges.to)) s.requires.1,
+    let e = ap (λ (w : _). lt_z w (pos 0)) (sym (to_z-of_z c.ranges.weight)) ∙ c.if-weight-lt0.true in (
+      to_z-of_z c.ranges.to ∙ ap (λ (t : Bool). cond t c.args.to c.args.from) (sym e),
+      subst (λ z. Abs z 64) (sym (to_z-of_z c.ranges.to)) c.requires.1,
     )
 
 pub returns-else-weight-lt0 : goal.returns-else-weight-lt0
 returns-else-weight-lt0 c =
-    let s = c in
-    let e = ap (λ (w : _). lt_z w (pos 0)) (sym (to_z-of_z s.ranges.weight)) ∙ c.if-weight-lt0.false in (
-      to_z-of_z s.ranges.from ∙ ap (λ (t : Bool). cond t s.args.to s.args.from) (sym e),
-      subst (λ z. Abs z 64) (sym (to_z-of_z s.ranges.from)) s.requires.0,
+    let e = ap (λ (w : _). lt_z w (pos 0)) (sym (to_z-of_z c.ranges.weight)) ∙ c.if-weight-lt0.false in (
+      to_z-of_z c.ranges.from ∙ ap (λ (t : Bool). cond t c.args.to c.args.from) (sym e),
+      subst (λ z. Abs z 64) (sym (to_z-of_z c.ranges.from)) c.requires.0,
     )

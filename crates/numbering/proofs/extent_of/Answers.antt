@@ -23,9 +23,8 @@ returns c =
     let hia = c.outermost-3 in
     let lob = c.outermost-2 in
     let loa = c.outermost in
-    let s = c in
-    let k = box_corners s.args.m s.requires.0 in
+    let k = box_corners c.args.m c.requires.0 in
     let e =
     same_box (held loa.type_inv loa.ensures ∙ sym k.loa) (held lob.type_inv lob.ensures ∙ sym k.lob)
     (held hia.type_inv hia.ensures ∙ sym k.hia) (held hib.type_inv hib.ensures ∙ sym k.hib) in
-    (e, subst Spanning (sym e) (box_spanning s.requires.0 s.requires.1))
+    (e, subst Spanning (sym e) (box_spanning c.requires.0 c.requires.1))

@@ -30,16 +30,13 @@ value_after-requires-3 c = turned_in _ c.inner.ensures c.turns_before-t.ensures.
 pub returns : goal.returns
 returns c =
     let z = c.value_after-3 in
-    let cy = c in
-    let y = cy.value_after-2 in
-    let cx = cy in
-    let x = cx.value_after in
-    let t = cx.turns_before-t in
+    let y = c.value_after-2 in
+    let x = c.value_after in
+    let t = c.turns_before-t in
     let u = t.result in
-    let s = cx in
     let e =
-    same3 (held x.type_inv (x.ensures ∙ ap (value u.outer) cx.outer.ensures.0))
-    (held y.type_inv (y.ensures ∙ ap (value u.middle) cy.middle.ensures.0))
+    same3 (held x.type_inv (x.ensures ∙ ap (value u.outer) c.outer.ensures.0))
+    (held y.type_inv (y.ensures ∙ ap (value u.middle) c.middle.ensures.0))
     (held z.type_inv (z.ensures ∙ ap (value u.inner) c.inner.ensures.0))
-    ∙ instance_is s.args.n s.args.k u t.ensures in
-    (e, subst (Within 64) (sym e) (instance_small s.args.k s.requires.0 s.requires.1))
+    ∙ instance_is c.args.n c.args.k u t.ensures in
+    (e, subst (Within 64) (sym e) (instance_small c.args.k c.requires.0 c.requires.1))

@@ -10,16 +10,14 @@ use Rattle.numbering.proofs.instance_count.Goals as goal
 
 pub overflow_mul-result : goal.overflow_mul-result
 overflow_mul-result c =
-    let s = c in record { fits = omega (arith, plane_most (turning s.args.n c.turns_of-t.ensures s.requires)) }
+    record { fits = omega (arith, plane_most (turning c.args.n c.turns_of-t.ensures c.requires)) }
 
 pub overflow_mul-result-2 : goal.overflow_mul-result-2
 overflow_mul-result-2 c =
-    let s = c in
-    record { fits = omega (arith, all_most (turning s.args.n c.turns_of-t.ensures s.requires)) }
+    record { fits = omega (arith, all_most (turning c.args.n c.turns_of-t.ensures c.requires)) }
 
 pub returns : goal.returns
 returns c =
-    let s = c in
     let e = c.turns_of-t.ensures in
-    let h = turning s.args.n e s.requires in
-    (ap (λ (t : Turns). t.outer * (t.middle * t.inner)) e ∙ sym (instances_length s.args.n), all_some h, all_most h)
+    let h = turning c.args.n e c.requires in
+    (ap (λ (t : Turns). t.outer * (t.middle * t.inner)) e ∙ sym (instances_length c.args.n), all_some h, all_most h)

@@ -28,15 +28,13 @@ distance-requires-3 c =
 
 pub overflow_add-result-2 : goal.overflow_add-result-2
 overflow_add-result-2 c =
-    let w = c in
     record {
-      fits = omega (arith, most w.distance.ensures.1 w.distance-2.ensures.1, c.distance-3.ensures.1);
+      fits = omega (arith, most c.distance.ensures.1 c.distance-2.ensures.1, c.distance-3.ensures.1);
     }
 
 pub returns : goal.returns
 returns c =
     let p = c.requires in
-    let w = c in
-    let x = words_up (between_apart p.0.first p.1.ina) w.distance.ensures.0 in
-    ap₂ ◌+◌ (ap₂ ◌*◌ x (size_words p.0.second w.distance-2.ensures.0))
+    let x = words_up (between_apart p.0.first p.1.ina) c.distance.ensures.0 in
+    ap₂ ◌+◌ (ap₂ ◌*◌ x (size_words p.0.second c.distance-2.ensures.0))
     (words_up (between_apart p.0.second p.1.inb) c.distance-3.ensures.0)

@@ -7,7 +7,5 @@ use Rattle.numbering.proofs.turns_of.Goals as goal
 
 pub returns : goal.returns
 returns c =
-    let y = c in
-    let x = y in
-    same_turns (x.turn_count.ensures ∙ ap turns x.outer.ensures.0)
-    (y.turn_count-2.ensures ∙ ap turns y.middle.ensures.0) (c.turn_count-3.ensures ∙ ap turns c.inner.ensures.0)
+    same_turns (c.turn_count.ensures ∙ ap turns c.outer.ensures.0)
+    (c.turn_count-2.ensures ∙ ap turns c.middle.ensures.0) (c.turn_count-3.ensures ∙ ap turns c.inner.ensures.0)

@@ -13,33 +13,31 @@ figures_of-f-requires c =
 
 pub sound_refusal-requires : goal.sound_refusal-requires
 sound_refusal-requires c =
-    let s = c in
-    let a = s.args in
+    let a = c.args in
     let f = c.figures_of-f.ensures in
     let M = memory_of a.waiting.now a.received.now a.state.now in
     let l = lengths_hold a.v.description f.0 M c.of_memory-r.ensures c.if-r-eq0.true in (
       record {
-        grounds = s.requires.0;
+        grounds = c.requires.0;
         size = c.size_of-z.ensures ∙ size_is a.v.description f.0;
         long = l.2;
-        words = s.requires.5;
+        words = c.requires.5;
       },
-      s.requires.1,
-      s.requires.2,
-      s.requires.3,
+      c.requires.1,
+      c.requires.2,
+      c.requires.3,
       f.1,
     )
 
 pub returns-then-r-eq0 : goal.returns-then-r-eq0
 returns-then-r-eq0 c =
-    let k = c in
-    let a = k.args in
-    let f = k.figures_of-f.ensures in
+    let a = c.args in
+    let f = c.figures_of-f.ensures in
     let r = c.sound_refusal.ensures in
     let d = a.v.description in (
       refl,
-      lengths_passed d f.0 (memory_of a.waiting.now a.received.now a.state.now) k.of_memory-r.ensures
-          c.if-r-eq0.true (k.size_of-z.ensures ∙ size_is d f.0) r.0 r.1,
+      lengths_passed d f.0 (memory_of a.waiting.now a.received.now a.state.now) c.of_memory-r.ensures
+          c.if-r-eq0.true (c.size_of-z.ensures ∙ size_is d f.0) r.0 r.1,
       f.1,
     )
 

@@ -6,9 +6,8 @@ use Rattle.opening.proofs.open_with_lanes.Goals as goal
 pub open_within-requires : goal.open_within-requires
 open_within-requires c =
     let p = c.requires in
-    (c.Limits-of.ensures.1, p.0, p.1)
+    (c.limits_of-limits.ensures.1, p.0, p.1)
 
 pub returns : goal.returns
 returns c =
-    let o = c in
-    (by_limits o.Limits-of.ensures.0 o.open_within.ensures.0, o.open_within.ensures.1)
+    (by_limits c.limits_of-limits.ensures.0 c.open_within.ensures.0, c.open_within.ensures.1)

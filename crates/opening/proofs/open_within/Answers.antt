@@ -12,10 +12,9 @@ use Rattle.opening.proofs.open_within.Goals as goal
 
 pub open_accepted-requires : goal.open_accepted-requires
 open_accepted-requires c =
-    let v = c in
-    let p = v.requires in
+    let p = c.requires in
     let z = c.if-r-eq0.true in
-    let e = v.survey_within-v.ensures in
+    let e = c.survey_within-v.ensures in
     let h = e.1 z in (
       subst Grounds (sym h.0.description_is) (grounds _ (by_gauge p.0 _ (sym e.0 ∙ z))),
       h.0.surveyed,
@@ -27,15 +26,13 @@ open_accepted-requires c =
 
 pub returns-then-r-eq0 : goal.returns-then-r-eq0
 returns-then-r-eq0 c =
-    let v = c in
-    let k = v in
-    let a = k.args in
+    let a = c.args in
     let z = c.if-r-eq0.true in
-    let e = v.survey_within-v.ensures in
+    let e = c.survey_within-v.ensures in
     let h = e.1 z in
     let l = c.open_accepted.new.lanes in
     let o = c.open_accepted.ensures in (
-      opened k.requires.0 a.s.now (memory_of a.waiting.now a.received.now a.state.now) (sym e.0 ∙ z) h.0 o.0
+      opened c.requires.0 a.s.now (memory_of a.waiting.now a.received.now a.state.now) (sym e.0 ∙ z) h.0 o.0
           o.1 h.1,
       λ _. subst (λ (d : Description). AllLanes d l) h.0.description_is o.2,
     )
@@ -43,8 +40,8 @@ returns-then-r-eq0 c =
 pub returns-else-r-eq0 : goal.returns-else-r-eq0
 returns-else-r-eq0 c =
     let a = c.args in
-    let k = c in (
-      refused k.requires.0 a.s.now (memory_of a.waiting.now a.received.now a.state.now)
+    (
+      refused c.requires.0 a.s.now (memory_of a.waiting.now a.received.now a.state.now)
           c.survey_within-v.ensures.0 c.if-r-eq0.false,
       λ h. absurd (c.if-r-eq0.false h),
     )

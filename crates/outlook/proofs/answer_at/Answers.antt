@@ -11,7 +11,7 @@ use Rattle.vectors.specs.Within.{zero_bits}
 use Rattle.outlook.proofs.answer_at.Goals as goal
 
 pub leaps-requires : goal.leaps-requires
-leaps-requires c = let s = c in subst (λ (z : ℤ). Abs z 4800) (sym (at tt s.requires).eq) s.requires
+leaps-requires c = subst (λ (z : ℤ). Abs z 4800) (sym (at tt c.requires).eq) c.requires
 
 -- after the first test, and after the second
 moves : (c : goal.After-leaps) → eq_z c.args.step (pos 0) ≡ false
@@ -20,23 +20,18 @@ moves c = sym (zero_bits tt c.requires) ∙ ne_eqb _ _ c.if-step-eq0.false
 leaping : (c : goal.After-leaps) {b : Bool} → c.leaps.result ≡ b
     → let a = c.args in (a.o.moving && ltb a.hop (nat_abs a.step)) ≡ b
 leaping c e =
-    let s = c in
-    sym (c.leaps.ensures ∙ ap (λ (z : ℤ). s.args.o.moving && ltb s.args.hop (nat_abs z)) (at tt s.requires).eq) ∙ e
+    sym (c.leaps.ensures ∙ ap (λ (z : ℤ). c.args.o.moving && ltb c.args.hop (nat_abs z)) (at tt c.requires).eq) ∙ e
 
 pub returns-then-step-eq0 : goal.returns-then-step-eq0
 returns-then-step-eq0 c = rw (sym (zero_bits tt c.requires) ∙ eq-eqb _ _ c.if-step-eq0.true) refl
 
 pub returns-then-leaps : goal.returns-then-leaps
-returns-then-leaps c = let l = c in rw (moves l, leaping l c.if-leaps.true) refl
+returns-then-leaps c = rw (moves c, leaping c c.if-leaps.true) refl
 
 pub returns-then-step-lt0 : goal.returns-then-step-lt0
 returns-then-step-lt0 c =
-    let l = c in
-    let s = l in
-    rw (moves l, leaping l c.if-leaps.false, sym (ap (λ (z : ℤ). lt_z z (pos 0)) (at tt s.requires).eq) ∙ c.if-step-lt0.true) refl
+    rw (moves c, leaping c c.if-leaps.false, sym (ap (λ (z : ℤ). lt_z z (pos 0)) (at tt c.requires).eq) ∙ c.if-step-lt0.true) refl
 
 pub returns-else-step-lt0 : goal.returns-else-step-lt0
 returns-else-step-lt0 c =
-    let l = c in
-    let s = l in
-    rw (moves l, leaping l c.if-leaps.false, sym (ap (λ (z : ℤ). lt_z z (pos 0)) (at tt s.requires).eq) ∙ c.if-step-lt0.false) refl
+    rw (moves c, leaping c c.if-leaps.false, sym (ap (λ (z : ℤ). lt_z z (pos 0)) (at tt c.requires).eq) ∙ c.if-step-lt0.false) refl

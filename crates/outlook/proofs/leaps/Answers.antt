@@ -9,9 +9,8 @@ use Rattle.outlook.proofs.leaps.Goals as goal
 
 pub returns-then-moving : goal.returns-then-moving
 returns-then-moving c =
-    let s = c in
     and_goes refl c.if-moving.true
-    (ap (ltb s.args.hop) (c.magnitude.ensures ∙ ap nat_abs (at tt s.requires).eq))
+    (ap (ltb c.args.hop) (c.magnitude.ensures ∙ ap nat_abs (at tt c.requires).eq))
 
 pub returns-else-moving : goal.returns-else-moving
 returns-else-moving c = and_stops _ refl c.if-moving.false

@@ -14,24 +14,18 @@ order_is e p h = rw (p, h) at e
 
 pub returns : goal.returns
 returns c =
-    let l = c in
-    let t = l in
-    let o = t in
-    let m = o in
-    let k = m in
-    let s = k in
-    let rank = k.rank_refused-rank.ensures in
-    let wide = m.move_refused-wide.ensures in
-    let late = l.late_refusal-late.ensures in
+    let rank = c.rank_refused-rank.ensures in
+    let wide = c.move_refused-wide.ensures in
+    let late = c.late_refusal-late.ensures in
     record {
-      line_is = s.requires.0.flow.line_is;
-      line_small = s.requires.0.flow.line_small;
-      moving_is = s.requires.0.flow.moving_is;
+      line_is = c.requires.0.flow.line_is;
+      line_small = c.requires.0.flow.line_small;
+      moving_is = c.requires.0.flow.moving_is;
       still_is = rw rank at c.still_answer.ensures;
       leap_is = move_is c.move_answer.ensures rank wide refl;
       onward_is =
           move_is c.move_answer-2.ensures rank wide
-          (order_is c.order_answer.ensures o.order_refused-against.ensures late);
+          (order_is c.order_answer.ensures c.order_refused-against.ensures late);
       back_is =
-          move_is c.move_answer-3.ensures rank wide (order_is c.order_answer-2.ensures t.turned_refused-turned.ensures late);
+          move_is c.move_answer-3.ensures rank wide (order_is c.order_answer-2.ensures c.turned_refused-turned.ensures late);
     }

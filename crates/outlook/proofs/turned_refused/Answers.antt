@@ -11,15 +11,13 @@ negated-turned-requires c = c.requires.flow.line_small
 
 pub against-requires : goal.against-requires
 against-requires c =
-    let s = c in (directions_small s.requires.in_range_lem.nest.directed, c.negated-turned.ensures.1)
+    (directions_small c.requires.in_range_lem.nest.directed, c.negated-turned.ensures.1)
 
 pub returns-then-written : goal.returns-then-written
 returns-then-written c =
-    let b = c in
-    let s = b in
-    and_goes refl b.if-written.true
+    and_goes refl c.if-written.true
     (c.against.ensures
-    ∙ ap (against s.args.f.nest.direction) (b.negated-turned.ensures.0 ∙ ap neg3 s.requires.flow.line_is))
+    ∙ ap (against c.args.f.nest.direction) (c.negated-turned.ensures.0 ∙ ap neg3 c.requires.flow.line_is))
 
 pub returns-else-written : goal.returns-else-written
 returns-else-written c = and_stops _ refl c.if-written.false

@@ -7,13 +7,12 @@ use Rattle.pipe_parts.proofs.entering_length.Goals as goal
 
 pub returns-then-is_entry : goal.returns-then-is_entry
 returns-then-is_entry c =
-    let s = c in (
-      length_yes s.args.f.nest s.args.f.stream s.args.p (sym c.is_entry.ensures ∙ c.if-is_entry.true)
+    (
+      length_yes c.args.f.nest c.args.f.stream c.args.p (sym c.is_entry.ensures ∙ c.if-is_entry.true)
           c.total_at.ensures.0,
       c.total_at.ensures.1,
     )
 
 pub returns-else-is_entry : goal.returns-else-is_entry
 returns-else-is_entry c =
-    let s = c in
-    (length_no s.args.f.nest s.args.f.stream s.args.p (sym c.is_entry.ensures ∙ c.if-is_entry.false), omega arith)
+    (length_no c.args.f.nest c.args.f.stream c.args.p (sym c.is_entry.ensures ∙ c.if-is_entry.false), omega arith)

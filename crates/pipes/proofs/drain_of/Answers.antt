@@ -20,16 +20,14 @@ rank_at-rank-requires c = let p = c.requires in
 pub overflow_sub-result : goal.overflow_sub-result
 overflow_sub-result c =
     let p = c.requires in
-    let i = c in
     omega
-    (arith, c.held_at.ensures, c.rank_at-rank.ensures, still_drain p (at_here p i.if-spans-p-eq0.false).computing i.if-f.false)
+    (arith, c.held_at.ensures, c.rank_at-rank.ensures, still_drain p (at_here p c.if-spans-p-eq0.false).computing c.if-f.false)
 
 pub overflow_sub-result-else-f : goal.overflow_sub-result-else-f
 overflow_sub-result-else-f c =
     let p = c.requires in
-    let i = c in
     omega
-    (arith, c.held_at.ensures, c.rank_at-rank.ensures, still_drain p (at_here p i.if-spans-p-eq0.false).computing i.if-f.false)
+    (arith, c.held_at.ensures, c.rank_at-rank.ensures, still_drain p (at_here p c.if-spans-p-eq0.false).computing c.if-f.false)
 
 pub returns-then-f : goal.returns-then-f
 returns-then-f c = c.drain_at.ensures ∙ row_drain_lem c.requires c.if-spans-p-eq0.false
@@ -37,6 +35,5 @@ returns-then-f c = c.drain_at.ensures ∙ row_drain_lem c.requires c.if-spans-p-
 pub returns-else-f : goal.returns-else-f
 returns-else-f c =
     let p = c.requires in
-    let i = c in
-    let d = still_drain p (at_here p i.if-spans-p-eq0.false).computing i.if-f.false in
-    omega (arith, c.held_at.ensures, c.rank_at-rank.ensures, d, row_drain_lem p i.if-spans-p-eq0.false)
+    let d = still_drain p (at_here p c.if-spans-p-eq0.false).computing c.if-f.false in
+    omega (arith, c.held_at.ensures, c.rank_at-rank.ensures, d, row_drain_lem p c.if-spans-p-eq0.false)

@@ -13,31 +13,26 @@ fill_lanes-requires c =
 
 pub fill_soaks-requires : goal.fill_soaks-requires
 fill_soaks-requires c =
-    let s = c in
-    let p = s.requires.0 in
+    let p = c.requires.0 in
     record {
       seen = c.fill_lanes.ensures;
       counted = p.counted;
-      room = first_room _ s.args.block.now (omega (arith, p.counted, p.flows.laid.processes)) s.requires.1;
+      room = first_room _ c.args.block.now (omega (arith, p.counted, p.flows.laid.processes)) c.requires.1;
     }
 
 pub fill_drains-requires : goal.fill_drains-requires
 fill_drains-requires c =
-    let w = c in
-    let s = w in
-    let p = s.requires.0 in
+    let p = c.requires.0 in
     record {
-      seen = w.fill_lanes.ensures;
+      seen = c.fill_lanes.ensures;
       counted = p.counted;
-      room = second_room _ s.args.processes s.args.block.now _ (omega (arith, p.counted, p.flows.laid.processes)) s.requires.1
-          w.fill_soaks.ensures;
+      room = second_room _ c.args.processes c.args.block.now _ (omega (arith, p.counted, p.flows.laid.processes)) c.requires.1
+          c.fill_soaks.ensures;
     }
 
 pub returns : goal.returns
 returns c =
-    let w = c in
-    let s = w in
-    let p = s.requires.0 in
-    let f = s.args.f in
-    passed f.nest f.stream s.args.processes p.counted (omega (arith, p.counted, p.flows.laid.processes))
-    s.args.block.now _ _ s.requires.1 w.fill_soaks.ensures c.fill_drains.ensures
+    let p = c.requires.0 in
+    let f = c.args.f in
+    passed f.nest f.stream c.args.processes p.counted (omega (arith, p.counted, p.flows.laid.processes))
+    c.args.block.now _ _ c.requires.1 c.fill_soaks.ensures c.fill_drains.ensures

@@ -11,11 +11,9 @@ first_at-requires c = let p = c.requires in omega (arith, p.lt, p.long, p.flows.
 
 pub image_of-requires : goal.image_of-requires
 image_of-requires c =
-    let s = c in
-    (wider_map s.requires, wider tt (subst (Within 64) (sym c.first_at.ensures) (s.requires.words.first_small s.args.p s.requires.lt)))
+    (wider_map c.requires, wider tt (subst (Within 64) (sym c.first_at.ensures) (c.requires.words.first_small c.args.p c.requires.lt)))
 
 pub returns : goal.returns
 returns c =
-    let s = c in
     c.image_of.ensures.0
-    ∙ ap (image s.args.f.stream.map) (c.first_at.ensures ∙ s.requires.words.firsts s.args.p s.requires.lt)
+    ∙ ap (image c.args.f.stream.map) (c.first_at.ensures ∙ c.requires.words.firsts c.args.p c.requires.lt)

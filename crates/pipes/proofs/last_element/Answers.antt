@@ -19,5 +19,4 @@ image_of-requires c = let p = c.requires in (wider_map p, wider tt c.instance.en
 
 pub returns : goal.returns
 returns c =
-    let s = c in
-    c.image_of.ensures.0 ∙ ap (image s.args.f.stream.map) (c.instance.ensures.0 ∙ (last_number s.requires).2)
+    c.image_of.ensures.0 ∙ ap (image c.args.f.stream.map) (c.instance.ensures.0 ∙ (last_number c.requires).2)

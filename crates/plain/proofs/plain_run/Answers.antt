@@ -16,16 +16,13 @@ run_accepted-requires c =
 
 pub returns-then-v-eq0 : goal.returns-then-v-eq0
 returns-then-v-eq0 c =
-    let r = c in
-    let z = r.if-v-eq0.true in
-    let w = r in
-    let h = w.survey_of-v.ensures in
-    let a = w.args in
+    let z = c.if-v-eq0.true in
+    let h = c.survey_of-v.ensures in
+    let a = c.args in
     accepted_call _ a.s.now a.values.now a.output.now (sym h.0 ∙ z) (h.1 z).0.description_is
-    r.run_accepted.ensures
+    c.run_accepted.ensures
 
 pub returns-else-v-eq0 : goal.returns-else-v-eq0
 returns-else-v-eq0 c =
-    let w = c in
-    let a = w.args in
-    refused_call _ a.s.now a.values.now a.output.now w.survey_of-v.ensures.0 c.if-v-eq0.false
+    let a = c.args in
+    refused_call _ a.s.now a.values.now a.output.now c.survey_of-v.ensures.0 c.if-v-eq0.false

@@ -13,45 +13,34 @@ element_count-e-requires c = let p = c.requires in (p.0.few, p.1)
 
 pub store-requires : goal.store-requires
 store-requires c =
-    let r = c in
-    let k = r in
-    let a = k.args in
+    let a = c.args in
     let d = a.v.description in
-    let n = own_is d (length a.values.now) (length a.output.now) k.element_count-e.ensures.0 r.of_plain-r.ensures in
+    let n = own_is d (length a.values.now) (length a.output.now) c.element_count-e.ensures.0 c.of_plain-r.ensures in
     let l = lengths_are d (length a.values.now) (length a.output.now) n c.if-r-eq0.true in
     omega (arith, l.0, l.1)
 
 pub run_loops-requires : goal.run_loops-requires
 run_loops-requires c =
-    let i = c in
-    let r = i in
-    let k = r in
-    let s = k in
-    let a = s.args in
+    let a = c.args in
     let d = a.v.description in
-    let n = own_is d (length a.values.now) (length a.output.now) k.element_count-e.ensures.0 r.of_plain-r.ensures in
-    let l = lengths_are d (length a.values.now) (length a.output.now) n i.if-r-eq0.true in
-    (s.requires.0, s.requires.1, c.store.auto.list ∙ l.1)
+    let n = own_is d (length a.values.now) (length a.output.now) c.element_count-e.ensures.0 c.of_plain-r.ensures in
+    let l = lengths_are d (length a.values.now) (length a.output.now) n c.if-r-eq0.true in
+    (c.requires.0, c.requires.1, c.store.auto.list ∙ l.1)
 
 pub returns-then-r-eq0 : goal.returns-then-r-eq0
 returns-then-r-eq0 c =
-    let l = c in
-    let f = l in
-    let i = f in
-    let k = i in
-    let a = k.args in
+    let a = c.args in
     let d = a.v.description in
-    let n = own_is d (length a.values.now) (length a.output.now) k.element_count-e.ensures.0
-    i.of_plain-r.ensures in
-    let e = lengths_are d (length a.values.now) (length a.output.now) n i.if-r-eq0.true in
-    run_done d a.values.now a.output.now n i.if-r-eq0.true
-    (f.store.ensures ∙ stored_all a.values.now a.output.now (e.1 ∙ sym e.0)) l.run_loops.ensures
+    let n = own_is d (length a.values.now) (length a.output.now) c.element_count-e.ensures.0
+    c.of_plain-r.ensures in
+    let e = lengths_are d (length a.values.now) (length a.output.now) n c.if-r-eq0.true in
+    run_done d a.values.now a.output.now n c.if-r-eq0.true
+    (c.store.ensures ∙ stored_all a.values.now a.output.now (e.1 ∙ sym e.0)) c.run_loops.ensures
 
 pub returns-else-r-eq0 : goal.returns-else-r-eq0
 returns-else-r-eq0 c =
-    let k = c in
-    let a = k.args in
+    let a = c.args in
     let d = a.v.description in
-    let n = own_is d (length a.values.now) (length a.output.now) k.element_count-e.ensures.0
+    let n = own_is d (length a.values.now) (length a.output.now) c.element_count-e.ensures.0
     c.of_plain-r.ensures in
     run_refused d a.values.now a.output.now n c.if-r-eq0.false

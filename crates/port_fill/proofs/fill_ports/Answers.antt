@@ -7,13 +7,12 @@ stride_of-stride-requires c = let p = c.requires in (p.0, p.2)
 
 pub fill_streams-requires : goal.fill_streams-requires
 fill_streams-requires c =
-    let k = c in
-    let p = k.requires in (
+    let p = c.requires in (
       record {
         described = p.0;
         laid = p.1;
-        narrow = k.stride_of-stride.ensures.1;
-        strides = k.stride_of-stride.ensures.0;
+        narrow = c.stride_of-stride.ensures.1;
+        strides = c.stride_of-stride.ensures.0;
         of_spans = p.3;
         long = p.4;
       },

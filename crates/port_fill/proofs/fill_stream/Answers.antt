@@ -11,29 +11,24 @@ use Rattle.port_fill.proofs.fill_stream.Goals as goal
 
 pub put_ends-pipes-requires : goal.put_ends-pipes-requires
 put_ends-pipes-requires c =
-    let s = c in
-    let f = s.requires.0.flowing in (
-      ends_fillable s.requires.0 (seen_of f.flows refl refl f.of_spans f.long s.requires.1),
+    let f = c.requires.0.flowing in (
+      ends_fillable c.requires.0 (seen_of f.flows refl refl f.of_spans f.long c.requires.1),
       length-replicate {A = ℕ} 2048 0,
-      s.requires.2,
+      c.requires.2,
     )
 
 pub put_ports-requires : goal.put_ports-requires
 put_ports-requires c =
-    let u = c in
-    let s = u in
-    let f = s.requires.0.flowing in (
-      ports_fillable s.requires.0 (seen_of f.flows refl refl f.of_spans f.long s.requires.1) u.put_ends-pipes.ensures.1,
+    let f = c.requires.0.flowing in (
+      ports_fillable c.requires.0 (seen_of f.flows refl refl f.of_spans f.long c.requires.1) c.put_ends-pipes.ensures.1,
       omega (
         arith,
-        s.requires.2,
-        ends_length _ _ s.args.g s.args.first s.args.base _ s.args.ports.now u.put_ends-pipes.ensures.2,
+        c.requires.2,
+        ends_length _ _ c.args.g c.args.first c.args.base _ c.args.ports.now c.put_ends-pipes.ensures.2,
       ),
     )
 
 pub returns : goal.returns
 returns c =
-    let u = c in
-    let s = u in
-    let o = u.put_ends-pipes.ensures in
-    (o.0, strung s.requires.0 s.args.ports.now o.2 c.put_ports.ensures)
+    let o = c.put_ends-pipes.ensures in
+    (o.0, strung c.requires.0 c.args.ports.now o.2 c.put_ports.ensures)

@@ -11,22 +11,19 @@ use Rattle.port_fill.proofs.fill_streams.Goals as goal
 
 pub loop-i-init : goal.loop-i-init
 loop-i-init c =
-    let s = c in
-    let d = s.args.v.description in (omega arith, sums_zero d, filled_zero d s.requires.3)
+    let d = c.args.v.description in (omega arith, sums_zero d, filled_zero d c.requires.3)
 
 pub flow_at-f-requires : goal.flow_at-f-requires
 flow_at-f-requires c =
-    let s = c in
-    omega (arith, c.loop-i-test.true, six s.args.v.description s.requires.0.described)
+    omega (arith, c.loop-i-test.true, six c.args.v.description c.requires.0.described)
 
 pub strand_of-g-requires : goal.strand_of-g-requires
 strand_of-g-requires c =
-    let s = c in
     let l = c.loop-i in
     let t = c.loop-i-test.true in
     let e = c.flow_at-f.ensures in
-    let h = s.requires.0 in
-    let u = s.requires.1 in (
+    let h = c.requires.0 in
+    let u = c.requires.1 in (
       hop_few h u l.i t e l.invariant.1,
       processes_few h u l.i t e l.invariant.1,
       h.narrow,
@@ -35,14 +32,12 @@ strand_of-g-requires c =
 
 pub elements_in-first-requires : goal.elements_in-first-requires
 elements_in-first-requires c =
-    let s = c in
-    (s.requires.0.described.few, s.requires.1, c.loop-i.invariant.0)
+    (c.requires.0.described.few, c.requires.1, c.loop-i.invariant.0)
 
 -- stream i is one of six
-stream_lt : (c : goal.After-elements_in-first invariant_loop decreases_loop) → c.loop-i.i < 6
+stream_lt : (c : goal.After-elements_in-first) → c.loop-i.i < 6
 stream_lt c =
-    let s = c in
-    omega (arith, c.loop-i-test.true, six s.args.v.description s.requires.0.described)
+    omega (arith, c.loop-i-test.true, six c.args.v.description c.requires.0.described)
 
 pub overflow_cast-a : goal.overflow_cast-a
 overflow_cast-a c = omega (arith, stream_lt c)
@@ -66,27 +61,24 @@ part_fill_stream_end c =
 
 pub fill_stream-pipes-requires : goal.fill_stream-pipes-requires
 fill_stream-pipes-requires c =
-    let s = c in
     let l = c.loop-i in
     let t = c.loop-i-test.true in
     let e = c.flow_at-f.ensures in
-    let h = s.requires.0 in
-    let u = s.requires.1 in
+    let h = c.requires.0 in
+    let u = c.requires.1 in
     let a = 3072 * l.i in (
       stringing h u l.i t e l.invariant.1 c.strand_of-g.ensures.0 c.elements_in-first.ensures,
-      lanes_here h u l.i t e l.invariant.1 (part_lanes s.requires.2 l.i t {k = a + 3072 - a} (omega arith)),
+      lanes_here h u l.i t e l.invariant.1 (part_lanes c.requires.2 l.i t {k = a + 3072 - a} (omega arith)),
       l.invariant.2.words,
     )
 
 pub joined-sums-requires : goal.joined-sums-requires
 joined-sums-requires c =
-    let f = c in
-    let l = f.loop-i in
-    let s = f in
-    let t = f.loop-i-test.true in
-    let e = f.flow_at-f.ensures in
-    let h = s.requires.0 in
-    let u = s.requires.1 in (
+    let l = c.loop-i in
+    let t = c.loop-i-test.true in
+    let e = c.flow_at-f.ensures in
+    let h = c.requires.0 in
+    let u = c.requires.1 in (
       slack h u l.i t e l.invariant.1,
       hop_few h u l.i t e l.invariant.1,
       entries_few h u l.i t e l.invariant.1 c.fill_stream-pipes.ensures.0,
@@ -94,24 +86,19 @@ joined-sums-requires c =
 
 pub overflow_add-i : goal.overflow_add-i
 overflow_add-i c =
-    let f = c in
-    let s = f in
-    record { fits = omega (arith, f.loop-i-test.true, six s.args.v.description s.requires.0.described) }
+    record { fits = omega (arith, c.loop-i-test.true, six c.args.v.description c.requires.0.described) }
 
 pub loop-i-preserved : goal.loop-i-preserved
 loop-i-preserved c =
-    let g = c in
-    let f = g in
-    let l = f.loop-i in
-    let s = f in
-    let t = f.loop-i-test.true in
-    let e = f.flow_at-f.ensures in
-    let h = s.requires.0 in
-    let u = s.requires.1 in
+    let l = c.loop-i in
+    let t = c.loop-i-test.true in
+    let e = c.flow_at-f.ensures in
+    let h = c.requires.0 in
+    let u = c.requires.1 in
     let k = c.fill_stream-pipes.ensures in (
       omega (arith, t),
       c.joined-sums.ensures ∙ joined_next h u l.i t e l.invariant.1 k.0,
-      filled_next h u l.i t e l.invariant.1 g.strand_of-g.ensures.0
+      filled_next h u l.i t e l.invariant.1 c.strand_of-g.ensures.0
           c.elements_in-first.ensures l.ports k.1 l.invariant.2,
     )
 
@@ -120,8 +107,7 @@ shape_of-ports c = omega (arith, c.loop-i.invariant.2.words, c.requires.3)
 
 pub returns : goal.returns
 returns c =
-    let s = c in
     let l = c.loop-i in
-    let d = s.args.v.description in
+    let d = c.args.v.description in
     let e : l.i ≡ d.sizes.streams = omega (arith, c.loop-i-test.false, l.invariant.0) in
-    ports_is d s.requires.0.described e l.invariant.2
+    ports_is d c.requires.0.described e l.invariant.2

@@ -37,18 +37,16 @@ put_end-requires c =
 
 pub returns-then-total-eq0 : goal.returns-then-total-eq0
 returns-then-total-eq0 c =
-    let s = c in
-    let a = s.args in
-    let t = end_off s.requires.0 c.if-total-eq0.true in (
+    let a = c.args in
+    let t = end_off c.requires.0 c.if-total-eq0.true in (
       one_no a.f.nest a.f.stream a.p t,
       end_left a.f.nest a.f.stream a.g a.start a.base a.j a.p a.ports.now t,
     )
 
 pub returns-else-total-eq0 : goal.returns-else-total-eq0
 returns-else-total-eq0 c =
-    let s = c in
-    let a = s.args in
-    let t = end_on s.requires.0 c.if-total-eq0.false in (
+    let a = c.args in
+    let t = end_on c.requires.0 c.if-total-eq0.false in (
       one_yes a.f.nest a.f.stream a.p t,
       end_put a.f.nest a.f.stream a.g a.start a.base a.j a.p a.ports.now t
           c.end_of-e.ensures c.put_end.ensures,

@@ -14,10 +14,9 @@ use Rattle.port_fill.proofs.put_ends.Goals as goal
 
 pub loop-p-init : goal.loop-p-init
 loop-p-init c =
-    let s = c in
-    let n = s.args.f.nest in
-    let t = s.args.f.stream in
-    (omega arith, refl, refl, start_zero n t s.args.first, entered_zero n t, heads_zero n t s.requires.1, sym (marks_zero _ _ _ _ _))
+    let n = c.args.f.nest in
+    let t = c.args.f.stream in
+    (omega arith, refl, refl, start_zero n t c.args.first, entered_zero n t, heads_zero n t c.requires.1, sym (marks_zero _ _ _ _ _))
 
 pub entering_length-total-requires : goal.entering_length-total-requires
 entering_length-total-requires c = let p = c.requires.0 in
@@ -25,12 +24,10 @@ entering_length-total-requires c = let p = c.requires.0 in
 
 pub put_head-requires : goal.put_head-requires
 put_head-requires c =
-    let s = c in
-    let p = s.requires.0 in
-    let f = s.args.f in
-    let t = c in
-    let l = t.loop-p in (
-      omega (arith, t.loop-p-test.true, p.counted, p.seen.flows.laid.processes),
+    let p = c.requires.0 in
+    let f = c.args.f in
+    let l = c.loop-p in (
+      omega (arith, c.loop-p-test.true, p.counted, p.seen.flows.laid.processes),
       l.invariant.5.words,
       omega (arith, l.invariant.4, entered_le f.nest f.stream l.p, p.seen.flows.laid.processes),
       c.entering_length-total.ensures.1,
@@ -38,42 +35,36 @@ put_head-requires c =
 
 pub put_end-j-requires : goal.put_end-j-requires
 put_end-j-requires c =
-    let s = c in
-    let x = c in
-    let l = x.loop-p in (
-      end_fillable s.requires.0 l.p x.loop-p-test.true x.entering_length-total.ensures.0 l.invariant.3 l.invariant.4,
-      omega (arith, s.requires.2, l.invariant.2),
+    let l = c.loop-p in (
+      end_fillable c.requires.0 l.p c.loop-p-test.true c.entering_length-total.ensures.0 l.invariant.3 l.invariant.4,
+      omega (arith, c.requires.2, l.invariant.2),
     )
 
 pub overflow_add-j : goal.overflow_add-j
 overflow_add-j c =
-    let s = c in
-    let a = s.args in
+    let a = c.args in
     let l = c.loop-p in
     let q = c.loop-p-test.true in
-    let m : l.p < length (processes a.f.nest) = omega (arith, q, s.requires.0.counted) in
+    let m : l.p < length (processes a.f.nest) = omega (arith, q, c.requires.0.counted) in
     omega (
       arith,
       l.invariant.4,
       entered_next a.f.nest a.f.stream l.p m _ c.put_end-j.ensures.0,
       entered_le a.f.nest a.f.stream (suc l.p),
-      s.requires.0.seen.flows.laid.processes,
+      c.requires.0.seen.flows.laid.processes,
     )
 
 pub overflow_add-start : goal.overflow_add-start
 overflow_add-start c =
-    let x = c in
-    let l = x.loop-p in
-    let s = x in
-    omega (arith, start_few s.requires.0 l.p l.invariant.3, x.entering_length-total.ensures.1)
+    let l = c.loop-p in
+    omega (arith, start_few c.requires.0 l.p l.invariant.3, c.entering_length-total.ensures.1)
 
 pub overflow_add-p : goal.overflow_add-p
 overflow_add-p c = omega (arith, c.loop-p-test.true)
 
 pub loop-p-preserved : goal.loop-p-preserved
 loop-p-preserved c =
-    let s = c in
-    let a = s.args in
+    let a = c.args in
     let n = a.f.nest in
     let t = a.f.stream in
     let l = c.loop-p in
@@ -81,12 +72,12 @@ loop-p-preserved c =
     let x = c.entering_length-total in
     let k = c.put_end-j in
     let z : suc l.p ≡ l.p + 1 = omega arith in
-    let m : l.p < length (processes n) = omega (arith, q, s.requires.0.counted) in
-    let w = heads_next l.invariant.5 (omega (arith, m, s.requires.0.seen.flows.laid.processes)) l.invariant.4 x.ensures.0
+    let m : l.p < length (processes n) = omega (arith, q, c.requires.0.counted) in
+    let w = heads_next l.invariant.5 (omega (arith, m, c.requires.0.seen.flows.laid.processes)) l.invariant.4 x.ensures.0
     c.put_head.ensures in
     let e = ends_turn n t a.g a.first a.base l.p a.ports.now l.invariant.6 l.invariant.3 l.invariant.4 k.ensures.1 in (
       omega (arith, q),
-      w.words ∙ sym s.requires.1,
+      w.words ∙ sym c.requires.1,
       ends_length n t a.g a.first a.base (l.p + 1) a.ports.now e,
       ap (λ (u : ℕ). u + x.result) l.invariant.3 ∙ start_next n t a.first l.p m _ x.ensures.0 ∙ ap (start_at n t a.first) z,
       ap (λ (j : ℕ). j + k.result) l.invariant.4 ∙ entered_next n t l.p m _ k.ensures.0 ∙ ap (entered_at n t) z,
@@ -96,13 +87,12 @@ loop-p-preserved c =
 
 pub returns : goal.returns
 returns c =
-    let s = c in
-    let a = s.args in
+    let a = c.args in
     let n = a.f.nest in
     let t = a.f.stream in
     let l = c.loop-p in
     let e : l.p ≡ a.processes = omega (arith, c.loop-p-test.false, l.invariant.0) in (
-      l.invariant.4 ∙ entered_all n t l.p (e ∙ s.requires.0.counted),
+      l.invariant.4 ∙ entered_all n t l.p (e ∙ c.requires.0.counted),
       subst (λ (k : ℕ). Heads n t k l.heads) e l.invariant.5,
       l.invariant.6 ∙ ap (λ (k : ℕ). end_rows n t a.g a.first a.base k a.ports.now) e,
     )

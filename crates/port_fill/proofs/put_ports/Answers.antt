@@ -13,9 +13,8 @@ loop-p-init c = (omega arith, refl, sym (marks_zero _ _ _ _ _))
 
 pub put_port-requires : goal.put_port-requires
 put_port-requires c =
-    let s = c in
     let l = c.loop-p in
-    (port_fillable s.requires.0 l.p c.loop-p-test.true, omega (arith, s.requires.1, l.invariant.1))
+    (port_fillable c.requires.0 l.p c.loop-p-test.true, omega (arith, c.requires.1, l.invariant.1))
 
 pub overflow_add-p : goal.overflow_add-p
 overflow_add-p c = record { fits = omega (arith, c.loop-p-test.true) }

@@ -17,50 +17,45 @@ loop-i-init c = (omega arith, stride_zero c.args.v.description c.requires.0)
 
 pub flow_at-f-requires : goal.flow_at-f-requires
 flow_at-f-requires c =
-    let s = c in omega (arith, c.loop-i-test.true, six s.args.v.description s.requires.0)
+    omega (arith, c.loop-i-test.true, six c.args.v.description c.requires.0)
 
 pub overflow_add-sum : goal.overflow_add-sum
 overflow_add-sum c =
-    let s = c in
     let l = c.loop-i in
     let t = c.loop-i-test.true in
-    let k = flow_is s.requires.1 l.i t c.flow_at-f.ensures in
-    record { fits = omega (arith, k.hop_is, (stream_sharing s.args.v.description s.requires.0 l.i t refl).hop) }
+    let k = flow_is c.requires.1 l.i t c.flow_at-f.ensures in
+    record { fits = omega (arith, k.hop_is, (stream_sharing c.args.v.description c.requires.0 l.i t refl).hop) }
 
 pub overflow_add-sum-in-loop-i : goal.overflow_add-sum-in-loop-i
 overflow_add-sum-in-loop-i c =
-    let s = c in
     let l = c.loop-i in
     let t = c.loop-i-test.true in
-    let d = s.args.v.description in
-    let k = flow_is s.requires.1 l.i t c.flow_at-f.ensures in
+    let d = c.args.v.description in
+    let k = flow_is c.requires.1 l.i t c.flow_at-f.ensures in
     record {
       fits = omega (
         arith,
         k.hop_is,
-        (stream_sharing d s.requires.0 l.i t refl).hop,
+        (stream_sharing d c.requires.0 l.i t refl).hop,
         l.invariant.1,
-        (sums_slack d s.requires.0 l.i l.invariant.0).words,
+        (sums_slack d c.requires.0 l.i l.invariant.0).words,
       );
     }
 
 pub overflow_add-i : goal.overflow_add-i
 overflow_add-i c =
-    let s = c in
-    record { fits = omega (arith, c.loop-i-test.true, six s.args.v.description s.requires.0) }
+    record { fits = omega (arith, c.loop-i-test.true, six c.args.v.description c.requires.0) }
 
 pub loop-i-preserved : goal.loop-i-preserved
 loop-i-preserved c =
-    let s = c in
     let l = c.loop-i in
     let t = c.loop-i-test.true in
-    let k = flow_is s.requires.1 l.i t c.flow_at-f.ensures in
-    (omega (arith, t), stride_next s.args.v.description s.requires.0 l.i t refl k.hop_is l.invariant.1)
+    let k = flow_is c.requires.1 l.i t c.flow_at-f.ensures in
+    (omega (arith, t), stride_next c.args.v.description c.requires.0 l.i t refl k.hop_is l.invariant.1)
 
 pub returns : goal.returns
 returns c =
-    let s = c in
     let l = c.loop-i in
-    let d = s.args.v.description in
+    let d = c.args.v.description in
     let e : l.i ≡ d.sizes.streams = omega (arith, c.loop-i-test.false, l.invariant.0) in
-    stride_all d s.requires.0 e l.invariant.1
+    stride_all d c.requires.0 e l.invariant.1

@@ -17,7 +17,6 @@ returns-then-entry_at-p c = let p = c.requires.0 in rw (none_before p c.entry_at
 
 pub returns-else-entry_at-p : goal.returns-else-entry_at-p
 returns-else-entry_at-p c =
-    let s = c in
-    let g = s.args.g in
-    rw (one_before s.requires.0 c.entry_at.ensures.0 c.if-entry_at-p.false)
+    let g = c.args.g in
+    rw (one_before c.requires.0 c.entry_at.ensures.0 c.if-entry_at-p.false)
     (ap (λ (a : ℕ). a + 1) (c.port_at.ensures.0 ∙ ap (λ (k : ℕ). k * g.stride + g.offset) c.number_back.ensures.0))

@@ -26,15 +26,14 @@ number_on-requires c = let p = c.requires in
 
 pub returns : goal.returns
 returns c =
-    let s = c in
-    let n = s.args.f.nest in
-    let t = s.args.f.stream in
-    let e = reach_on s.requires.0 s.requires.1 c.point_at-y.ensures
+    let n = c.args.f.nest in
+    let t = c.args.f.stream in
+    let e = reach_on c.requires.0 c.requires.1 c.point_at-y.ensures
     c.reach_of.ensures.0 in
     let l = c.port_at-last.ensures.0
-    ∙ ap (port_index s.args.g) (c.number_on.ensures.0
-    ∙ ap (λ (k : ℕ). row_index (space n) (shift2 (process_of n s.args.p) (pos k) (move n t))) e) in
+    ∙ ap (port_index c.args.g) (c.number_on.ensures.0
+    ∙ ap (λ (k : ℕ). row_index (space n) (shift2 (process_of n c.args.p) (pos k) (move n t))) e) in
     let a = c.port_at-first.ensures.0 in
     let b = c.end_at-sent.ensures.0 in
     same_end b a (ap (λ (k : ℕ). k + 4) a) (ap (λ (k : ℕ). k + 1) l) (ap (λ (k : ℕ). k + 1) b) (ap (λ (k : ℕ). k + 2) b) refl
-    s.requires.4 refl
+    c.requires.4 refl

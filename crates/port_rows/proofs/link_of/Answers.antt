@@ -23,14 +23,12 @@ number_on-requires c =
 
 pub returns-then-reach_of-eq0 : goal.returns-then-reach_of-eq0
 returns-then-reach_of-eq0 c =
-    let s = c in
-    link_last s.args.f.nest s.args.f.stream s.args.g s.args.sent s.args.p
-    (sym (reach_on s.requires.0 s.requires.1 c.point_at-y.ensures c.reach_of.ensures.0) ∙ c.if-reach_of-eq0.true)
+    link_last c.args.f.nest c.args.f.stream c.args.g c.args.sent c.args.p
+    (sym (reach_on c.requires.0 c.requires.1 c.point_at-y.ensures c.reach_of.ensures.0) ∙ c.if-reach_of-eq0.true)
 
 pub returns-else-reach_of-eq0 : goal.returns-else-reach_of-eq0
 returns-else-reach_of-eq0 c =
-    let s = c in
-    link_next s.args.f.nest s.args.f.stream s.args.g s.args.sent s.args.p
-    (λ z. c.if-reach_of-eq0.false (reach_on s.requires.0 s.requires.1 c.point_at-y.ensures
+    link_next c.args.f.nest c.args.f.stream c.args.g c.args.sent c.args.p
+    (λ z. c.if-reach_of-eq0.false (reach_on c.requires.0 c.requires.1 c.point_at-y.ensures
     c.reach_of.ensures.0 ∙ z))
     c.number_on.ensures.0 c.port_at-at.ensures.0

@@ -30,15 +30,12 @@ soak_of-requires c =
 
 pub overflow_cast-result-8 : goal.overflow_cast-result-8
 overflow_cast-result-8 c =
-    let s = c in
-    record { fits = omega (arith, count_fits s.requires.0.near) }
+    record { fits = omega (arith, count_fits c.requires.0.near) }
 
 pub returns : goal.returns
 returns c =
-    let u = c in
-    let s = u in
-    port_row_lem s.args.g s.requires.0.near u.end_at-sent.result
-    (u.end_at-sent.ensures.0 ∙ ap (end_index s.args.g) u.pipe_number.ensures.0)
+    port_row_lem c.args.g c.requires.0.near c.end_at-sent.result
+    (c.end_at-sent.ensures.0 ∙ ap (end_index c.args.g) c.pipe_number.ensures.0)
     c.port_at.ensures.0
-    c.Before-of.ensures
-    u.link_of-link.ensures.0 u.link_of-link.ensures.1 refl refl c.soak_of.ensures refl s.requires.1 c.keeps.ensures
+    c.before_of.ensures
+    c.link_of-link.ensures.0 c.link_of-link.ensures.1 refl refl c.soak_of.ensures refl c.requires.1 c.keeps.ensures

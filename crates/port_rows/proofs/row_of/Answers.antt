@@ -5,11 +5,9 @@ use Rattle.port_rows.proofs.row_of.Goals as goal
 
 pub returns-then-total-eq0 : goal.returns-then-total-eq0
 returns-then-total-eq0 c =
-    let s = c in
-    row_bare s.requires.0.near c.pipe_total-total.ensures s.args.g c.if-total-eq0.true
+    row_bare c.requires.0.near c.pipe_total-total.ensures c.args.g c.if-total-eq0.true
     c.off_of.ensures
 
 pub returns-else-total-eq0 : goal.returns-else-total-eq0
 returns-else-total-eq0 c =
-    let s = c in
-    row_held s.requires.0.near c.pipe_total-total.ensures s.args.g c.if-total-eq0.false c.port_of.ensures
+    row_held c.requires.0.near c.pipe_total-total.ensures c.args.g c.if-total-eq0.false c.port_of.ensures

@@ -9,9 +9,8 @@ use Rattle.port_table.proofs.port_read.Goals as goal
 
 pub returns : goal.returns
 returns c =
-    let l = c in
-    same_port l.low.ensures.0 l.low-2.ensures.0
-    l.low-3.ensures.0 l.low-4.ensures.0 l.low-5.ensures.0
+    same_port c.low.ensures.0 c.low-2.ensures.0
+    c.low-3.ensures.0 c.low-4.ensures.0 c.low-5.ensures.0
     c.high.ensures c.high-2.ensures c.high-3.ensures
     c.high-4.ensures
     (ap (λ (w : ℕ). not (eqb w 0)) c.high-5.ensures)

@@ -7,8 +7,7 @@ use Rattle.port_table.specs.Rows.{flag_low}
 use Rattle.port_table.proofs.port_words.Goals as goal
 
 pub pack-requires-5 : goal.pack-requires-5
-pack-requires-5 c = let s = c in
-    (s.requires.fired, flag_low s.args.k.keeps c.flag.ensures)
+pack-requires-5 c = (c.requires.fired, flag_low c.args.k.keeps c.flag.ensures)
 
 pub returns : goal.returns
 returns c =

@@ -9,6 +9,5 @@ use Rattle.port_table.proofs.put_end.Goals as goal
 
 pub returns : goal.returns
 returns c =
-    let s = c in
-    c.store.ensures ∙ ap (λ (row : List ℕ). stored row s.args.at (length row) s.args.ports.now)
+    c.store.ensures ∙ ap (λ (row : List ℕ). stored row c.args.at (length row) c.args.ports.now)
     c.end_words-row.ensures

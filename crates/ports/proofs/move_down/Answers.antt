@@ -13,15 +13,12 @@ loop-i-init c = (omega arith, refl, simp unary_clauses)
 
 pub loop-i-preserved : goal.loop-i-preserved
 loop-i-preserved c =
-    let q = c in
-    let s = q in (
+    (
       omega arith,
-      simp length-set q.loop-i.invariant.1,
-      sym (move_next q.loop-i.state s.args.first q.loop-i.i s.args.n c.loop-i-test.true) ∙ q.loop-i.invariant.2,
+      simp length-set c.loop-i.invariant.1,
+      sym (move_next c.loop-i.state c.args.first c.loop-i.i c.args.n c.loop-i-test.true) ∙ c.loop-i.invariant.2,
     )
 
 pub returns : goal.returns
 returns c =
-    let q = c in
-    let s = q in
-    sym (move_end q.loop-i.state s.args.first q.loop-i.i s.args.n (omega arith)) ∙ q.loop-i.invariant.2
+    sym (move_end c.loop-i.state c.args.first c.loop-i.i c.args.n (omega arith)) ∙ c.loop-i.invariant.2

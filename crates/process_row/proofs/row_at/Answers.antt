@@ -4,11 +4,10 @@ use Rattle.process_row.proofs.row_at.Goals as goal
 
 pub returns : goal.returns
 returns c =
-    let f = c in
     rw (
       c.by_stream-2.ensures,
       c.by_stream.ensures,
       c.instance_numbered.ensures.0,
-      f.first_at.ensures,
-      f.point_at.ensures,
+      c.first_at.ensures,
+      c.point_at.ensures,
     )

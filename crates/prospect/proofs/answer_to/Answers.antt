@@ -9,7 +9,7 @@ use Rattle.vectors.specs.Within.{zero_bits}
 use Rattle.prospect.proofs.answer_to.Goals as goal
 
 pub dot_of-requires : goal.dot_of-requires
-dot_of-requires c = let s = c in (s.requires.vector, s.requires.increment)
+dot_of-requires c = (c.requires.vector, c.requires.increment)
 
 -- the increment moves
 moves : (c : goal.Else-dot_of-eq0) → let a = c.args in eq_z (dot a.v a.p.increment) (pos 0) ≡ false
@@ -19,7 +19,7 @@ moves c =
 
 pub streams_answer-requires : goal.streams_answer-requires
 streams_answer-requires c =
-    let s = c in (s.requires.vector, s.requires.few, s.requires.lines c.if-p.false)
+    (c.requires.vector, c.requires.few, c.requires.lines c.if-p.false)
 
 pub returns-then-dot_of-eq0 : goal.returns-then-dot_of-eq0
 returns-then-dot_of-eq0 c =

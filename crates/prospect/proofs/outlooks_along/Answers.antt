@@ -27,18 +27,16 @@ flow_at-f-requires c =
 pub outlook_of-requires : goal.outlook_of-requires
 outlook_of-requires c =
     let l = c.loop-i in
-    let s = c in
-    let k = flow_is s.requires.1 l.i c.loop-i-test.true c.flow_at-f.ensures in (
-      charted (in_range_lem s.requires.0.nest (s.requires.0.streams l.i)) k,
-      subst (λ (n : Nest). GroundOf n s.args.v.ground) (sym k.nest_is) s.requires.1.ground,
-      subst (λ (n : Nest). Along n s.args.walk.now) (sym k.nest_is) s.requires.2,
+    let k = flow_is c.requires.1 l.i c.loop-i-test.true c.flow_at-f.ensures in (
+      charted (in_range_lem c.requires.0.nest (c.requires.0.streams l.i)) k,
+      subst (λ (n : Nest). GroundOf n c.args.v.ground) (sym k.nest_is) c.requires.1.ground,
+      subst (λ (n : Nest). Along n c.args.walk.now) (sym k.nest_is) c.requires.2,
     )
 
 -- stream i is one of six
-stream_lt : (c : goal.After-outlook_of invariant_loop decreases_loop) → c.loop-i.i < 6
+stream_lt : (c : goal.After-outlook_of) → c.loop-i.i < 6
 stream_lt c =
-    let s = c in
-    omega (arith, c.loop-i-test.true, s.requires.0.sized.most_streams)
+    omega (arith, c.loop-i-test.true, c.requires.0.sized.most_streams)
 
 pub overflow_cast-out : goal.overflow_cast-out
 overflow_cast-out c = record { fits = omega (arith, stream_lt c) }
@@ -54,19 +52,17 @@ overflow_add-i c = record { fits = omega (arith, stream_lt c) }
 
 pub loop-i-preserved : goal.loop-i-preserved
 loop-i-preserved c =
-    let w = c in
-    let l = w.loop-i in
-    let t = w.loop-i-test.true in
-    let s = w in
-    let d = s.args.v.description in
-    let k = flow_is s.requires.1 l.i t w.flow_at-f.ensures in
+    let l = c.loop-i in
+    let t = c.loop-i-test.true in
+    let d = c.args.v.description in
+    let k = flow_is c.requires.1 l.i t c.flow_at-f.ensures in
     let o = c.outlook_of.result in (
       omega (arith, t),
       simp length-set l.invariant.1,
       known_next (λ (k : ℕ) (o : Outlook). OutlookOf d.nest (written d k) (get_or d.streams k no_stream) o) no_outlook l.out
           (omega (arith, stream_lt c, l.invariant.1)) l.invariant.2
-          (subst (λ (b : Bool). OutlookOf d.nest b (get_or d.streams l.i no_stream) o) w.written.ensures
-          (subst₂ (λ (n : Nest) (r : Stream). OutlookOf n w.written.result r o) k.nest_is k.stream_is c.outlook_of.ensures)),
+          (subst (λ (b : Bool). OutlookOf d.nest b (get_or d.streams l.i no_stream) o) c.written.ensures
+          (subst₂ (λ (n : Nest) (r : Stream). OutlookOf n c.written.result r o) k.nest_is k.stream_is c.outlook_of.ensures)),
     )
 
 pub returns : goal.returns

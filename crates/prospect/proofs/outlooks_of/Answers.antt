@@ -12,22 +12,20 @@ fill_processes-requires c =
 
 pub fill_walk-requires : goal.fill_walk-requires
 fill_walk-requires c =
-    let f = c in
-    let p = f.requires in
+    let p = c.requires in
     record {
       walkable =
           record { nest = nest_bounded p.0.ranged.nest; layout = p.0.layout; instances = p.0.instances; processes = p.1 };
       ground = p.0.surveyed.ground;
-      held = f.fill_processes.ensures;
+      held = c.fill_processes.ensures;
       words = search rules;
       room = omega arith;
     }
 
 pub outlooks_along-requires : goal.outlooks_along-requires
 outlooks_along-requires c =
-    let w = c in
-    let p = w.requires in (
+    let p = c.requires in (
       p.0.ranged,
       p.0.surveyed,
-      record { layout = p.0.layout; walked = w.fill_walk.ensures; few = p.0.instances; room = search rules },
+      record { layout = p.0.layout; walked = c.fill_walk.ensures; few = p.0.instances; room = search rules },
     )

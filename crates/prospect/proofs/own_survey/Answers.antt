@@ -16,25 +16,22 @@ own_nest-requires c = nest_bounded c.requires.0.nest
 in_range_lem : (c : goal.After-own_nest)
     → Ranged (with_nest c.args.d c.own_nest.result)
 in_range_lem c =
-    let s = c in
     let m = c.own_nest.ensures in
-    subst (λ (n : Nest). Ranged (with_nest s.args.d n)) (sym m.same) (own_ranged s.requires.0 m.small)
+    subst (λ (n : Nest). Ranged (with_nest c.args.d n)) (sym m.same) (own_ranged c.requires.0 m.small)
 
 pub survey_of-requires : goal.survey_of-requires
 survey_of-requires c = (in_range_lem c, c.requires.1)
 
 pub returns : goal.returns
 returns c =
-    let k = c in
-    let s = k in
-    let d = s.args.d in
+    let d = c.args.d in
     let e = c.survey_of.ensures.0 in
-    let m = k.own_nest.ensures in
+    let m = c.own_nest.ensures in
     record {
       same =
           e ∙ ap (with_nest d) m.same
           ∙ ap (λ (t : Description). with_nest d (stepped d.nest t.nest.step)) (sym e);
-      ranged = subst Ranged (sym e) (in_range_lem k);
+      ranged = subst Ranged (sym e) (in_range_lem c);
       surveyed = c.survey_of.ensures.1;
       moves = λ r. ap (λ (t : Description). refused8 t.nest) e ∙ m.moves r;
     }

@@ -8,23 +8,21 @@ use Rattle.prospect.proofs.prospect_of.Goals as goal
 
 pub outlooks_within-requires : goal.outlooks_within-requires
 outlooks_within-requires c =
-    let s = c in
-    let g = s.requires.0.surveyed.ground in
-    let most = s.args.limits.processes in
-    let some = s.args.v.ground.processes in (
-      s.requires.0,
-      λ e. omega (arith, ltb-false most some (sym c.processes_refused-crowded.ensures ∙ e), g.processes_is, s.requires.1.processes),
+    let g = c.requires.0.surveyed.ground in
+    let most = c.args.limits.processes in
+    let some = c.args.v.ground.processes in (
+      c.requires.0,
+      λ e. omega (arith, ltb-false most some (sym c.processes_refused-crowded.ensures ∙ e), g.processes_is, c.requires.1.processes),
     )
 
 pub returns : goal.returns
 returns c =
-    let s = c in
-    let p = s.requires.0 in
+    let p = c.requires.0 in
     let g = p.surveyed.ground in
     record {
       increment_is = g.increment_is;
       increment_small = g.increment_small;
-      crowded_is = ten g s.args.limits c.processes_refused-crowded.ensures;
+      crowded_is = ten g c.args.limits c.processes_refused-crowded.ensures;
       streams_is = refl;
       hop_is = refl;
       few = p.ranged.sized.most_streams;

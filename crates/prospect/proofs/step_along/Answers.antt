@@ -24,21 +24,21 @@ unit a b c = record { xs = a; ys = b; zs = c }
 
 pub returns-then-u-ne0 : goal.returns-then-u-ne0
 returns-then-u-ne0 c =
-    let s = c in (
+    (
       unit (record { abs = omega arith }) (record { abs = omega arith }) (record { abs = omega arith }),
-      along_first s.args.u (some s.requires.xs c.if-u-ne0.true),
+      along_first c.args.u (some c.requires.xs c.if-u-ne0.true),
     )
 
 pub returns-then-u-ne0-2 : goal.returns-then-u-ne0-2
 returns-then-u-ne0-2 c =
-    let s = c in (
+    (
       unit (record { abs = omega arith }) (record { abs = omega arith }) (record { abs = omega arith }),
-      along_second s.args.u (some s.requires.ys c.if-u-ne0-2.true),
+      along_second c.args.u (some c.requires.ys c.if-u-ne0-2.true),
     )
 
 pub returns-else-u-ne0-2 : goal.returns-else-u-ne0-2
 returns-else-u-ne0-2 c =
-    let s = c in (
+    (
       unit (record { abs = omega arith }) (record { abs = omega arith }) (record { abs = omega arith }),
-      along_third s.args.u (none s.requires.xs c.if-u-ne0.false) (none s.requires.ys c.if-u-ne0-2.false),
+      along_third c.args.u (none c.requires.xs c.if-u-ne0.false) (none c.requires.ys c.if-u-ne0-2.false),
     )

@@ -15,46 +15,41 @@ pub loop-i-init : goal.loop-i-init
 loop-i-init c = refl
 
 pub outlook_at-requires : goal.outlook_at-requires
-outlook_at-requires c = let s = c in omega (arith, c.loop-i-test.true, s.requires.1)
+outlook_at-requires c = omega (arith, c.loop-i-test.true, c.requires.1)
 
 pub answer_to-a-requires : goal.answer_to-a-requires
 answer_to-a-requires c =
-    let s = c in (
+    (
       subst (λ (o : Outlook). Within 200 o.line) (sym c.outlook_at.ensures)
-          (s.requires.2 c.loop-i.i c.loop-i-test.true),
-      s.requires.0,
+          (c.requires.2 c.loop-i.i c.loop-i-test.true),
+      c.requires.0,
     )
 
 -- stream i is one in use, and its outlook was read
-module _ (c : goal.After-answer_to-a invariant_loop decreases_loop) where
+module _ (c : goal.After-answer_to-a) where
   in_use : c.loop-i.i < length (used c.args.p)
   in_use =
-      let s = c in omega (arith, c.loop-i-test.true, used_length s.args.p)
+      omega (arith, c.loop-i-test.true, used_length c.args.p)
 
-  was_read : let s = c in
-      c.outlook_at.result ≡ get_or (used s.args.p) c.loop-i.i no_outlook
+  was_read : c.outlook_at.result ≡ get_or (used c.args.p) c.loop-i.i no_outlook
   was_read =
-      let s = c in
-      c.outlook_at.ensures ∙ sym (used_at_lem s.args.p c.loop-i.i c.loop-i-test.true)
+      c.outlook_at.ensures ∙ sym (used_at_lem c.args.p c.loop-i.i c.loop-i-test.true)
 
 pub returns-then-a-ne0 : goal.returns-then-a-ne0
 returns-then-a-ne0 c =
     let l = c.loop-i in
-    let s = c in
-    first_here s.args.p.hop s.args.v (used s.args.p) l.i (in_use c) (was_read c)
+    first_here c.args.p.hop c.args.v (used c.args.p) l.i (in_use c) (was_read c)
     c.answer_to-a.ensures c.if-a-ne0.true
     ∙ l.invariant
 
 pub overflow_add-i : goal.overflow_add-i
 overflow_add-i c =
-    let s = c in
-    record { fits = omega (arith, c.loop-i-test.true, s.requires.1) }
+    record { fits = omega (arith, c.loop-i-test.true, c.requires.1) }
 
 pub loop-i-preserved : goal.loop-i-preserved
 loop-i-preserved c =
     let l = c.loop-i in
-    let s = c in
-    let a = s.args in
+    let a = c.args in
     ap (λ (k : ℕ). first_by a.p.hop a.v (drop k (used a.p))) (add-one l.i)
     ∙ first_next a.p.hop a.v (used a.p) l.i (in_use c) (was_read c) c.answer_to-a.ensures
     c.if-a-ne0.false

@@ -8,33 +8,26 @@ use Rattle.ready.proofs.ready_opened.Goals as goal
 
 pub returns-then-r-ne0 : goal.returns-then-r-ne0
 returns-then-r-ne0 c =
-    let k = c in
-    let a = k.args in
-    answer_few a.ports.now a.state.now a.z a.words.now k.of_ready-r.ensures c.if-r-ne0.true
+    let a = c.args in
+    answer_few a.ports.now a.state.now a.z a.words.now c.of_ready-r.ensures c.if-r-ne0.true
 
 pub mark_ready-requires : goal.mark_ready-requires
 mark_ready-requires c =
-    let k = c in
-    let s = k in (s.requires, many_words s.args.words.now k.of_ready-r.ensures c.if-r-ne0.false)
+    (c.requires, many_words c.args.words.now c.of_ready-r.ensures c.if-r-ne0.false)
 
 pub count-requires : goal.count-requires
 count-requires c =
-    let q = c in
-    let k = q in
-    let a = k.args in
-    omega (arith, q.mark_ready.auto.words, many_words a.words.now k.of_ready-r.ensures q.if-r-ne0.false)
+    let a = c.args in
+    omega (arith, c.mark_ready.auto.words, many_words a.words.now c.of_ready-r.ensures c.if-r-ne0.false)
 
 pub lowest-requires : goal.lowest-requires
 lowest-requires c =
-    let q = c in
-    let k = q in
-    let a = k.args in
-    omega (arith, q.mark_ready.auto.words, many_words a.words.now k.of_ready-r.ensures q.if-r-ne0.false)
+    let a = c.args in
+    omega (arith, c.mark_ready.auto.words, many_words a.words.now c.of_ready-r.ensures c.if-r-ne0.false)
 
 pub returns : goal.returns
 returns c =
-    let q = c in
-    let a = q.args in
+    let a = c.args in
     let m = answer_marked _ _ _ a.words.now
-    (many_words a.words.now q.of_ready-r.ensures q.if-r-ne0.false) q.mark_ready.ensures in
+    (many_words a.words.now c.of_ready-r.ensures c.if-r-ne0.false) c.mark_ready.ensures in
     (ap₂ Ready c.count.ensures c.lowest.ensures ∙ m.0, m.1)

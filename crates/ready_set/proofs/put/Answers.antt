@@ -21,18 +21,16 @@ agree false true t = sym t
 pub returns-then-has-b : goal.returns-then-has-b
 returns-then-has-b c =
     let t = c.turn in
-    let i = c in
-    let h = i.has in
-    let a = i.args in (
+    let h = c.has in
+    let a = c.args in (
       t.ensures.0,
       λ f kept.
           subst (λ (b : Bool). Kept (put f a.r b) t.new.l)
-          (ap not (sym (h.ensures f kept)) ∙ differ h.result a.b i.if-has-b.true) (t.ensures.1 f kept),
+          (ap not (sym (h.ensures f kept)) ∙ differ h.result a.b c.if-has-b.true) (t.ensures.1 f kept),
     )
 
 pub returns-else-has-b : goal.returns-else-has-b
 returns-else-has-b c =
     let h = c.has in
-    let s = c in
-    let e = agree h.result s.args.b c.if-has-b.false in
-    (s.requires.0, λ f kept. put_kept f s.args.l.now s.args.r s.args.b (sym (h.ensures f kept) ∙ e) kept)
+    let e = agree h.result c.args.b c.if-has-b.false in
+    (c.requires.0, λ f kept. put_kept f c.args.l.now c.args.r c.args.b (sym (h.ensures f kept) ∙ e) kept)

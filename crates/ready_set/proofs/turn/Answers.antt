@@ -27,24 +27,16 @@ module _ (l : List ℕ) (r : ℕ) (words : length l ≡ flag_words) (h : r < mem
 pub returns-then-flip-2 : goal.returns-then-flip-2
 returns-then-flip-2 c =
     let z = c.flip-then-flip-2.ensures in
-    let d = c in
-    let b = d in
-    let s = b in
-    turned_high s.args.l.now s.args.r s.requires.0 s.requires.1 b.flip.ensures.0
-    (sym b.flip.ensures.1 ∙ d.if-flip.true)
-    d.flip-then-flip.ensures.0 (sym d.flip-then-flip.ensures.1 ∙ c.if-flip-2.true) z.0
+    turned_high c.args.l.now c.args.r c.requires.0 c.requires.1 c.flip.ensures.0
+    (sym c.flip.ensures.1 ∙ c.if-flip.true)
+    c.flip-then-flip.ensures.0 (sym c.flip-then-flip.ensures.1 ∙ c.if-flip-2.true) z.0
 
 pub returns-else-flip-2 : goal.returns-else-flip-2
 returns-else-flip-2 c =
-    let d = c in
-    let b = d in
-    let s = b in
-    turned_middle s.args.l.now s.args.r s.requires.0 s.requires.1 b.flip.ensures.0
-    (sym b.flip.ensures.1 ∙ d.if-flip.true)
-    d.flip-then-flip.ensures.0 (sym d.flip-then-flip.ensures.1 ∙ c.if-flip-2.false)
+    turned_middle c.args.l.now c.args.r c.requires.0 c.requires.1 c.flip.ensures.0
+    (sym c.flip.ensures.1 ∙ c.if-flip.true)
+    c.flip-then-flip.ensures.0 (sym c.flip-then-flip.ensures.1 ∙ c.if-flip-2.false)
 
 pub returns-else-flip : goal.returns-else-flip
 returns-else-flip c =
-    let b = c in
-    let s = b in
-    turned_low s.args.l.now s.args.r s.requires.0 s.requires.1 b.flip.ensures.0 (sym b.flip.ensures.1 ∙ c.if-flip.false)
+    turned_low c.args.l.now c.args.r c.requires.0 c.requires.1 c.flip.ensures.0 (sym c.flip.ensures.1 ∙ c.if-flip.false)

@@ -15,10 +15,8 @@ can_give-gives-requires c = let p = c.requires in rw c.port-k.ensures (p.0.ports
 
 pub returns-then-takes : goal.returns-then-takes
 returns-then-takes c =
-    let s = c in
-    c.if-takes.true ∙ sym (passes_taking _ _ _ _ s.port-k.ensures (sym s.can_take-takes.ensures ∙ c.if-takes.true))
+    c.if-takes.true ∙ sym (passes_taking _ _ _ _ c.port-k.ensures (sym c.can_take-takes.ensures ∙ c.if-takes.true))
 
 pub returns-else-takes : goal.returns-else-takes
 returns-else-takes c =
-    let s = c in
-    c.can_give-gives.ensures ∙ sym (passes_giving _ _ _ _ s.port-k.ensures (sym s.can_take-takes.ensures ∙ c.if-takes.false))
+    c.can_give-gives.ensures ∙ sym (passes_giving _ _ _ _ c.port-k.ensures (sym c.can_take-takes.ensures ∙ c.if-takes.false))

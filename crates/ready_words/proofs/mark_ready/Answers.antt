@@ -16,20 +16,18 @@ loop-p-init c = (omega arith, sym (marked_none _ _))
 
 pub can_move-requires : goal.can_move-requires
 can_move-requires c =
-    let s = c in (s.requires.0, omega (arith, c.loop-p-test.true))
+    (c.requires.0, omega (arith, c.loop-p-test.true))
 
 pub overflow_cast-p : goal.overflow_cast-p
 overflow_cast-p c =
-    let s = c in
-    omega (arith, s.requires.0.processes, c.loop-p-test.true)
+    omega (arith, c.requires.0.processes, c.loop-p-test.true)
 
 pub mark-requires : goal.mark-requires
 mark-requires c =
     let l = c.loop-p in
-    let w = c in
-    let s = w in (
-      omega (arith, ap length l.invariant.1 ∙ marked_length _ _ _ ∙ w.clear.auto.words, s.requires.1),
-      omega (arith, s.requires.0.processes, c.loop-p-test.true),
+    (
+      omega (arith, ap length l.invariant.1 ∙ marked_length _ _ _ ∙ c.clear.auto.words, c.requires.1),
+      omega (arith, c.requires.0.processes, c.loop-p-test.true),
     )
 
 pub loop-p-preserved : goal.loop-p-preserved
@@ -47,14 +45,12 @@ loop-p-preserved c =
 pub shape_of-words : goal.shape_of-words
 shape_of-words c =
     let l = c.loop-p in
-    let w = c in
-    ap length l.invariant.1 ∙ marked_length _ _ _ ∙ w.clear.auto.words
+    ap length l.invariant.1 ∙ marked_length _ _ _ ∙ c.clear.auto.words
 
 pub returns : goal.returns
 returns c =
     let l = c.loop-p in
-    let w = c in
-    let a = w.args in
+    let a = c.args in
     let f = moves_by a.ports.now a.state.now a.z.streams in
     let e : l.p ≡ a.z.processes = omega (arith, c.loop-p-test.false, l.invariant.0) in
-    l.invariant.1 ∙ ap (λ (k : ℕ). marked_to f k w.clear.new.words) e ∙ ap (marked_to f a.z.processes) w.clear.ensures
+    l.invariant.1 ∙ ap (λ (k : ℕ). marked_to f k c.clear.new.words) e ∙ ap (marked_to f a.z.processes) c.clear.ensures

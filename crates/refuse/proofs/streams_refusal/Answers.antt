@@ -24,47 +24,42 @@ flow_at-f-requires c = omega (arith, c.loop-i-test.true, c.requires.0.sized.most
 pub stream_refusal-r-requires : goal.stream_refusal-r-requires
 stream_refusal-r-requires c =
     let l = c.loop-i in
-    let s = c in
-    let k = flow_is s.requires.1 l.i c.loop-i-test.true c.flow_at-f.ensures in (
-      charted (in_range_lem s.requires.0.nest (s.requires.0.streams l.i)) k,
-      subst (λ (n : Nest). GroundOf n s.args.v.ground) (sym k.nest_is) s.requires.1.ground,
-      subst (λ (n : Nest). Along n s.args.walk.now) (sym k.nest_is) s.requires.2,
+    let k = flow_is c.requires.1 l.i c.loop-i-test.true c.flow_at-f.ensures in (
+      charted (in_range_lem c.requires.0.nest (c.requires.0.streams l.i)) k,
+      subst (λ (n : Nest). GroundOf n c.args.v.ground) (sym k.nest_is) c.requires.1.ground,
+      subst (λ (n : Nest). Along n c.args.walk.now) (sym k.nest_is) c.requires.2,
     )
 
 -- what is answered of stream i, by its nest and itself and not by its flow
-answered : (c : goal.After-stream_refusal-r invariant_loop decreases_loop)
+answered : (c : goal.After-stream_refusal-r)
     → let s = c.args in
     let i = c.loop-i.i in
     c.stream_refusal-r.result
     ≡ refusal (stream_tests s.limits s.v.description.nest (written s.v.description i)
     (get_or s.v.description.streams i no_stream))
 answered c =
-    let w = c in
-    let s = w in
-    let i = w.loop-i.i in
-    let k = flow_is s.requires.1 i w.loop-i-test.true w.flow_at-f.ensures in
-    rw w.written.ensures at c.stream_refusal-r.ensures
+    let s = c in
+    let i = c.loop-i.i in
+    let k = flow_is s.requires.1 i c.loop-i-test.true c.flow_at-f.ensures in
+    rw c.written.ensures at c.stream_refusal-r.ensures
     ∙ ap₂ (λ (n : Nest) (r : Stream). refusal (stream_tests s.args.limits n (written s.args.v.description i) r)) k.nest_is
     k.stream_is
 
 pub returns-then-r-ne0 : goal.returns-then-r-ne0
 returns-then-r-ne0 c =
     let l = c.loop-i in
-    let s = c in
-    stream_refused s.args.limits s.args.v.description s.requires.1.in_use l.i
+    stream_refused c.args.limits c.args.v.description c.requires.1.in_use l.i
     c.loop-i-test.true refl (answered c) c.if-r-ne0.true
     ∙ l.invariant
 
 pub loop-i-preserved : goal.loop-i-preserved
 loop-i-preserved c =
     let l = c.loop-i in
-    let s = c in
-    stream_passed s.args.limits s.args.v.description s.requires.1.in_use l.i
+    stream_passed c.args.limits c.args.v.description c.requires.1.in_use l.i
     c.loop-i-test.true refl (answered c) c.if-r-ne0.false
     ∙ l.invariant
 
 pub returns : goal.returns
 returns c =
     let l = c.loop-i in
-    let s = c in
-    streams_end s.args.limits s.args.v.description s.requires.1.in_use l.i (omega (arith, c.loop-i-test.false)) ∙ l.invariant
+    streams_end c.args.limits c.args.v.description c.requires.1.in_use l.i (omega (arith, c.loop-i-test.false)) ∙ l.invariant

@@ -6,10 +6,10 @@ use borrow.Author.Rules.{rules}
 use Rattle.refuse.proofs.survey_of.Goals as goal
 
 pub survey_within-requires : goal.survey_within-requires
-survey_within-requires c = c.Limits-of.ensures.1
+survey_within-requires c = c.limits_of.ensures.1
 
 pub returns : goal.returns
 returns c =
     let s = c.args.s.now in
     let h = c.survey_within.ensures in
-    (h.0 ∙ ap (λ (l : Limits). refusal_of l s) c.Limits-of.ensures.0, h.1)
+    (h.0 ∙ ap (λ (l : Limits). refusal_of l s) c.limits_of.ensures.0, h.1)

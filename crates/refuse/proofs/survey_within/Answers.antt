@@ -15,29 +15,25 @@ use Rattle.refuse.proofs.survey_within.Goals as goal
 
 pub walked_refusal-refusal-requires : goal.walked_refusal-refusal-requires
 walked_refusal-refusal-requires c =
-    let v = c in
-    let s = v in
-    let l = s.args.limits in
-    let b = s.args.s.now in
+    let l = c.args.limits in
+    let b = c.args.s.now in
     let z = c.if-v-eq0.true in
-    let h = v.survey_within-v.ensures in
+    let h = c.survey_within-v.ensures in
     let k = h.1 z in
     let e = sym h.0 ∙ z in (
       subst Ranged (sym k.0.description_is) (walk_within l b e).0.ranged,
       k.0.surveyed,
-      walkable s.requires k.0 e,
+      walkable c.requires k.0 e,
       k.1,
       omega arith,
     )
 
 pub returns-then-v-eq0 : goal.returns-then-v-eq0
 returns-then-v-eq0 c =
-    let v = c in
-    let s = v in
-    let l = s.args.limits in
-    let b = s.args.s.now in
+    let l = c.args.limits in
+    let b = c.args.s.now in
     let z = c.if-v-eq0.true in
-    let h = v.survey_within-v.ensures in
+    let h = c.survey_within-v.ensures in
     let k = h.1 z in (
       walk_goes_on l b h.0 z
           (c.walked_refusal-refusal.ensures ∙ ap (λ (d : Description). refusal (tests_from l d 0 (streams_of d))) k.0.description_is),
@@ -52,6 +48,5 @@ returns-then-v-eq0 c =
 
 pub returns-else-v-eq0 : goal.returns-else-v-eq0
 returns-else-v-eq0 c =
-    let v = c in
-    let a = v.args in
-    (walk_stops a.limits a.s.now v.survey_within-v.ensures.0 c.if-v-eq0.false, λ z. absurd (c.if-v-eq0.false z))
+    let a = c.args in
+    (walk_stops a.limits a.s.now c.survey_within-v.ensures.0 c.if-v-eq0.false, λ z. absurd (c.if-v-eq0.false z))

@@ -13,47 +13,36 @@ use Rattle.refuse_nest.proofs.nest_refusal.Goals as goal
 
 pub returns-then-instances_refused : goal.returns-then-instances_refused
 returns-then-instances_refused c =
-    let s = c in
-    applies 6 _ (six s.requires.1 s.args.limits c.instances_refused.ensures) c.if-instances_refused.true
+    applies 6 _ (six c.requires.1 c.args.limits c.instances_refused.ensures) c.if-instances_refused.true
 
 pub returns-then-low_rank : goal.returns-then-low_rank
 returns-then-low_rank c =
-    let b = c in
-    let s = b in
-    skips 6 _ (six s.requires.1 s.args.limits b.instances_refused.ensures) b.if-instances_refused.false
-    (applies 7 _ (seven s.requires.1 c.low_rank.ensures) c.if-low_rank.true)
+    skips 6 _ (six c.requires.1 c.args.limits c.instances_refused.ensures) c.if-instances_refused.false
+    (applies 7 _ (seven c.requires.1 c.low_rank.ensures) c.if-low_rank.true)
 
 pub returns-then-still : goal.returns-then-still
 returns-then-still c =
-    let b = c in
-    let a = b in
-    let s = a in
-    skips 6 _ (six s.requires.1 s.args.limits a.instances_refused.ensures) a.if-instances_refused.false
-    (skips 7 _ (seven s.requires.1 b.low_rank.ensures) b.if-low_rank.false
-    (applies 8 _ (eight s.requires.1 c.still.ensures) c.if-still.true))
+    skips 6 _ (six c.requires.1 c.args.limits c.instances_refused.ensures) c.if-instances_refused.false
+    (skips 7 _ (seven c.requires.1 c.low_rank.ensures) c.if-low_rank.false
+    (applies 8 _ (eight c.requires.1 c.still.ensures) c.if-still.true))
 
 -- none of 6, 7 and 8 applies: 10 decides
 to_ten : {r : ℕ} (c : goal.After-processes_refused)
     → let s = c.args in
     r ≡ refusal ((10 if refused10 s.limits s.n) ∷ []) → r ≡ refusal (layout_tests s.limits s.n)
 to_ten c e =
-    let t = c in
-    let b = t in
-    let a = b in
-    let s = a in
-    skips 6 _ (six s.requires.1 s.args.limits a.instances_refused.ensures) a.if-instances_refused.false
-    (skips 7 _ (seven s.requires.1 b.low_rank.ensures) b.if-low_rank.false
-    (skips 8 _ (eight s.requires.1 t.still.ensures) t.if-still.false e))
+    let s = c in
+    skips 6 _ (six s.requires.1 s.args.limits c.instances_refused.ensures) c.if-instances_refused.false
+    (skips 7 _ (seven s.requires.1 c.low_rank.ensures) c.if-low_rank.false
+    (skips 8 _ (eight s.requires.1 c.still.ensures) c.if-still.false e))
 
 pub returns-then-processes_refused : goal.returns-then-processes_refused
 returns-then-processes_refused c =
-    let s = c in
-    to_ten c (applies 10 _ (ten s.requires.1 s.args.limits c.processes_refused.ensures) c.if-processes_refused.true)
+    to_ten c (applies 10 _ (ten c.requires.1 c.args.limits c.processes_refused.ensures) c.if-processes_refused.true)
 
 pub returns-else-processes_refused : goal.returns-else-processes_refused
 returns-else-processes_refused c =
-    let s = c in
-    to_ten c (skips 10 _ (ten s.requires.1 s.args.limits c.processes_refused.ensures) c.if-processes_refused.false accepts)
+    to_ten c (skips 10 _ (ten c.requires.1 c.args.limits c.processes_refused.ensures) c.if-processes_refused.false accepts)
 
 pub still-requires : goal.still-requires
-still-requires c = let s = c in (s.requires.0.step, s.requires.1.increment_small)
+still-requires c = (c.requires.0.step, c.requires.1.increment_small)

@@ -9,11 +9,9 @@ returns-then-loading_refused c = applies 16 _ c.loading_refused.ensures c.if-loa
 
 pub returns-then-elements_refused : goal.returns-then-elements_refused
 returns-then-elements_refused c =
-    let a = c in
-    skips 16 _ a.loading_refused.ensures a.if-loading_refused.false (applies 17 _ c.elements_refused.ensures c.if-elements_refused.true)
+    skips 16 _ c.loading_refused.ensures c.if-loading_refused.false (applies 17 _ c.elements_refused.ensures c.if-elements_refused.true)
 
 pub returns-else-elements_refused : goal.returns-else-elements_refused
 returns-else-elements_refused c =
-    let a = c in
-    skips 16 _ a.loading_refused.ensures a.if-loading_refused.false
+    skips 16 _ c.loading_refused.ensures c.if-loading_refused.false
     (skips 17 _ c.elements_refused.ensures c.if-elements_refused.false accepts)

@@ -9,12 +9,9 @@ returns-then-move_refused c = applies 13 _ c.move_refused.ensures c.if-move_refu
 
 pub returns-then-hop_refused : goal.returns-then-hop_refused
 returns-then-hop_refused c =
-    let b = c in
-    skips 13 _ b.move_refused.ensures b.if-move_refused.false (applies 14 _ c.hop_refused.ensures c.if-hop_refused.true)
+    skips 13 _ c.move_refused.ensures c.if-move_refused.false (applies 14 _ c.hop_refused.ensures c.if-hop_refused.true)
 
 pub returns-else-hop_refused : goal.returns-else-hop_refused
 returns-else-hop_refused c =
-    let b = c in
-    let a = b in
-    skips 13 _ a.move_refused.ensures a.if-move_refused.false
-    (skips 14 _ b.hop_refused.ensures b.if-hop_refused.false c.order_refusal.ensures)
+    skips 13 _ c.move_refused.ensures c.if-move_refused.false
+    (skips 14 _ c.hop_refused.ensures c.if-hop_refused.false c.order_refusal.ensures)

@@ -20,7 +20,6 @@ returns-then-size_refused c =
 
 pub returns-else-size_refused : goal.returns-else-size_refused
 returns-else-size_refused c =
-    let b = c in
-    let z = b.sizes-z.ensures in
-    passes 1 _ (le-ltb _ _ b.if-s-lt12.false)
+    let z = c.sizes-z.ensures in
+    passes 1 _ (le-ltb _ _ c.if-s-lt12.false)
     (passes 2 _ (rw z at (sym c.size_refused.ensures ∙ c.if-size_refused.false)) (rw z at c.refusal_of_length.ensures))

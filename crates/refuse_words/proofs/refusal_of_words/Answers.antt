@@ -11,12 +11,10 @@ returns-then-word_refused c = refuses 4 _ (sym c.word_refused.ensures ∙ c.if-w
 
 pub returns-then-bound_refused : goal.returns-then-bound_refused
 returns-then-bound_refused c =
-    let w = c in
-    passes 4 _ (sym w.word_refused.ensures ∙ w.if-word_refused.false)
+    passes 4 _ (sym c.word_refused.ensures ∙ c.if-word_refused.false)
     (refuses 5 _ (sym (c.bound_refused.ensures ∙ ap refused5 c.nest.ensures) ∙ c.if-bound_refused.true))
 
 pub returns-else-bound_refused : goal.returns-else-bound_refused
 returns-else-bound_refused c =
-    let w = c in
-    passes 4 _ (sym w.word_refused.ensures ∙ w.if-word_refused.false)
+    passes 4 _ (sym c.word_refused.ensures ∙ c.if-word_refused.false)
     (passes 5 _ (sym (c.bound_refused.ensures ∙ ap refused5 c.nest.ensures) ∙ c.if-bound_refused.false) accepts)

@@ -11,24 +11,21 @@ use Rattle.meaning.specs.Lists.{every, numbers_from}
 use Rattle.meaning.specs.Description.{words_of, in_range, refused4}
 use Rattle.lists.specs.Loops.{every_turn, every_stop, every_end}
 use borrow.Author.Rules.{rules}
+use Rattle.refuse_words.proofs.word_refused.Invariants.{test}
 use Rattle.refuse_words.proofs.word_refused.Goals as goal
 
 module _ (s : List ℕ) (z : Sizes) where
-  abbrev test : ℕ → Bool
-  test k = in_range z k (word_at s k)
-
   -- the answer, where n is the number of words
-  answer : {n : ℕ} {b : Bool} → n ≡ words_of z → b ≡ every test (numbers_from 3 (n - 3)) → not b ≡ refused4 s z
-  answer e h = ap not h ∙ ap (λ (m : ℕ). not (every test (numbers_from 3 (m - 3)))) e
+  answer : {n : ℕ} {b : Bool} → n ≡ words_of z → b ≡ every (test s z) (numbers_from 3 (n - 3)) → not b ≡ refused4 s z
+  answer e h = ap not h ∙ ap (λ (m : ℕ). not (every (test s z) (numbers_from 3 (m - 3)))) e
 
 pub loop-k-init : goal.loop-k-init
 loop-k-init c = refl
 
 pub returns-then-not-in_range : goal.returns-then-not-in_range
 returns-then-not-in_range c =
-    let b = c in
-    answer _ _ b.line_at-words.ensures.0
-    (sym (every_stop _ _ _ (omega arith) (sym c.in_range.ensures ∙ not-true _ c.if-not-in_range.true)) ∙ b.loop-k.invariant)
+    answer _ _ c.line_at-words.ensures.0
+    (sym (every_stop _ _ _ (omega arith) (sym c.in_range.ensures ∙ c.if-not-in_range.true)) ∙ c.loop-k.invariant)
 
 pub overflow_add-k : goal.overflow_add-k
 overflow_add-k c = omega arith
@@ -38,7 +35,7 @@ loop-k-smaller c = omega arith
 
 pub loop-k-preserved : goal.loop-k-preserved
 loop-k-preserved c =
-    sym (every_turn _ _ _ (omega arith) (sym c.in_range.ensures ∙ not-false _ c.if-not-in_range.false))
+    sym (every_turn _ _ _ (omega arith) (sym c.in_range.ensures ∙ c.if-not-in_range.false))
     ∙ c.loop-k.invariant
 
 pub returns : goal.returns

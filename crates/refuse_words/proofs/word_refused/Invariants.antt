@@ -13,6 +13,10 @@ use Rattle.lists.specs.Loops.{every_turn, every_stop, every_end}
 use borrow.Author.Rules.{rules}
 use Rattle.refuse_words.proofs.word_refused.Given as goal
 
+-- the test of the word k
+abbrev pub test : List ℕ → Sizes → ℕ → Bool
+test s z k = in_range z k (word_at s k)
+
 abbrev pub invariant-loop-k : goal.invariant-loop-k
 invariant-loop-k l = every (test l.s l.z) (numbers_from l.k (l.words - l.k)) ≡ every (test l.s l.z) (numbers_from 3 (l.words - 3))
 

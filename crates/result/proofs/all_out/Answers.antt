@@ -14,27 +14,23 @@ loop-q-init c = let a = c.args in let e : a.pipes - 0 ≡ a.pipes = omega arith 
 
 pub word-requires : goal.word-requires
 word-requires c =
-    let l = c in
-    rw c.end-e.ensures (l.requires.received l.loop-q.q c.loop-q-test.true)
+    rw c.end-e.ensures (c.requires.received c.loop-q.q c.loop-q-test.true)
 
 pub returns-then-word-e : goal.returns-then-word-e
 returns-then-word-e c =
-    let l = c in
-    let a = l.args in
-    let e = out_read a.ports.now a.state.now l.loop-q.q c.end-e.ensures
+    let a = c.args in
+    let e = out_read a.ports.now a.state.now c.loop-q.q c.end-e.ensures
     c.word.ensures.0 in
-    sym (every_stop _ a.pipes l.loop-q.q (omega arith) (e ∙ ne_eqb _ _ c.if-word-e.true)) ∙ l.loop-q.invariant.1
+    sym (every_stop _ a.pipes c.loop-q.q (omega arith) (e ∙ ne_eqb _ _ c.if-word-e.true)) ∙ c.loop-q.invariant.1
 
 pub loop-q-preserved : goal.loop-q-preserved
 loop-q-preserved c =
-    let l = c in
-    let a = l.args in
-    let e = out_read a.ports.now a.state.now l.loop-q.q c.end-e.ensures
+    let a = c.args in
+    let e = out_read a.ports.now a.state.now c.loop-q.q c.end-e.ensures
     c.word.ensures.0 in
-    (omega arith, sym (every_turn _ a.pipes l.loop-q.q (omega arith) (e ∙ eq-eqb _ _ c.if-word-e.false)) ∙ l.loop-q.invariant.1)
+    (omega arith, sym (every_turn _ a.pipes c.loop-q.q (omega arith) (e ∙ eq-eqb _ _ c.if-word-e.false)) ∙ c.loop-q.invariant.1)
 
 pub returns : goal.returns
 returns c =
-    let l = c in
-    let a = l.args in
-    sym (every_end (out_by a.ports.now a.state.now) a.pipes l.loop-q.q (omega arith)) ∙ l.loop-q.invariant.1
+    let a = c.args in
+    sym (every_end (out_by a.ports.now a.state.now) a.pipes c.loop-q.q (omega arith)) ∙ c.loop-q.invariant.1

@@ -10,13 +10,10 @@ fill_places-requires c = let p = c.requires in (p.0, p.1, p.4, p.5, p.6, omega a
 
 pub put_in_order-requires : goal.put_in_order-requires
 put_in_order-requires c =
-    let f = c in
-    let p = f.requires in
-    readable p.0 f.fill_places.ensures _ _ p.2 p.3 (omega (arith, f.fill_places.auto.places))
+    let p = c.requires in
+    readable p.0 c.fill_places.ensures _ _ p.2 p.3 (omega (arith, c.fill_places.auto.places))
 
 pub returns : goal.returns
 returns c =
-    let f = c in
-    let s = f in
-    ordered s.requires.0 f.fill_places.ensures s.args.received.now s.args.output.now s.requires.2 s.requires.3
+    ordered c.requires.0 c.fill_places.ensures c.args.received.now c.args.output.now c.requires.2 c.requires.3
     c.put_in_order.ensures

@@ -12,21 +12,17 @@ open_with_lanes-o-requires c = (refl, omega arith)
 
 pub result_opened-requires : goal.result_opened-requires
 result_opened-requires c =
-    let i = c in
-    let e = i.open_with_lanes-o.ensures in
-    let z = i.if-r-eq0.true in (drawable (e.0.opened z), e.0.survey z, e.0.spans z, omega arith, e.1 z)
+    let e = c.open_with_lanes-o.ensures in
+    let z = c.if-r-eq0.true in (drawable (e.0.opened z), e.0.survey z, e.0.spans z, omega arith, e.1 z)
 
 pub returns-then-r-eq0 : goal.returns-then-r-eq0
 returns-then-r-eq0 c =
-    let i = c in
-    let o = i in
-    let a = o.args in
+    let a = c.args in
     opened_call _ a.s.now a.output.now (memory_of a.waiting.now a.received.now a.state.now)
-    o.open_with_lanes-o.ensures.0.refused i.if-r-eq0.true c.result_opened.ensures
+    c.open_with_lanes-o.ensures.0.refused c.if-r-eq0.true c.result_opened.ensures
 
 pub returns-else-r-eq0 : goal.returns-else-r-eq0
 returns-else-r-eq0 c =
-    let o = c in
-    let a = o.args in
+    let a = c.args in
     refused_call _ a.s.now a.output.now (memory_of a.waiting.now a.received.now a.state.now)
-    o.open_with_lanes-o.ensures.0.refused c.if-r-eq0.false
+    c.open_with_lanes-o.ensures.0.refused c.if-r-eq0.false

@@ -10,23 +10,16 @@ all_out-out-requires c = asked c.requires.0.rows
 
 pub fill_output-requires : goal.fill_output-requires
 fill_output-requires c =
-    let r = c in
-    let s = r in
-    let v = s.requires.1 in
-    let f = fillable s.requires.0 s.args.output.now r.all_out-out.ensures r.of_result-r.ensures c.if-r-eq0.true
+    let v = c.requires.1 in
+    let f = fillable c.requires.0 c.args.output.now c.all_out-out.ensures c.of_result-r.ensures c.if-r-eq0.true
     v.description_is in
-    (f.0, v.surveyed, f.1, f.2, rw v.description_is s.requires.2, s.requires.3, rw v.description_is s.requires.4)
+    (f.0, v.surveyed, f.1, f.2, rw v.description_is c.requires.2, c.requires.3, rw v.description_is c.requires.4)
 
 pub returns-then-r-eq0 : goal.returns-then-r-eq0
 returns-then-r-eq0 c =
-    let i = c in
-    let r = i in
-    let s = r in
-    call_done s.requires.0 s.args.output.now r.all_out-out.ensures r.of_result-r.ensures i.if-r-eq0.true
-    s.requires.1.description_is c.fill_output.ensures
+    call_done c.requires.0 c.args.output.now c.all_out-out.ensures c.of_result-r.ensures c.if-r-eq0.true
+    c.requires.1.description_is c.fill_output.ensures
 
 pub returns-else-r-eq0 : goal.returns-else-r-eq0
 returns-else-r-eq0 c =
-    let r = c in
-    let s = r in
-    call_refused s.requires.0 s.args.output.now r.all_out-out.ensures r.of_result-r.ensures c.if-r-eq0.false
+    call_refused c.requires.0 c.args.output.now c.all_out-out.ensures c.of_result-r.ensures c.if-r-eq0.false

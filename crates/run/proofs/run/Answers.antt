@@ -7,15 +7,13 @@ use Rattle.run.proofs.run.Goals as goal
 
 pub run_opened-requires : goal.run_opened-requires
 run_opened-requires c =
-    let i = c in
-    let e = i.«open».ensures in
-    let z = i.if-r-eq0.true in (e.opened z, e.survey z, e.spans z, omega arith)
+    let e = c.«open».ensures in
+    let z = c.if-r-eq0.true in (e.opened z, e.survey z, e.spans z, omega arith)
 
 pub returns-then-r-eq0 : goal.returns-then-r-eq0
 returns-then-r-eq0 c =
-    let k = c in
-    let a = k.args in
-    opened_call _ a.s.now a.steps (memory_of a.waiting.now a.received.now a.state.now) k.«open».ensures.refused
+    let a = c.args in
+    opened_call _ a.s.now a.steps (memory_of a.waiting.now a.received.now a.state.now) c.«open».ensures.refused
     c.if-r-eq0.true
     c.run_opened.ensures
 

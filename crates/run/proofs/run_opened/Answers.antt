@@ -17,9 +17,8 @@ fill_flags-requires c =
 
 pub run_steps-done-requires : goal.run_steps-done-requires
 run_steps-done-requires c =
-    let k = c in
-    let p = k.program_of-g.ensures in
-    let h = k.requires in
+    let p = c.program_of-g.ensures in
+    let h = c.requires in
     starts h.0 h.1.description_is p.0 p.1 h.2 h.3
     c.fill_wakeups.ensures
     c.fill_flags.ensures

@@ -4,5 +4,4 @@ use Rattle.send_receive.proofs.can_send.Goals as goal
 
 pub returns : goal.returns
 returns c =
-    let x = c in
-    rw (c.below.ensures, x.word-x.ensures.0, x.fill-n.ensures)
+    rw (c.below.ensures, c.word-x.ensures.0, c.fill-n.ensures)

@@ -7,32 +7,24 @@ use Rattle.send_receive.proofs.receive.Goals as goal
 
 pub bounds-state-last : goal.bounds-state-last
 bounds-state-last c =
-    let s = c in
-    omega (arith, receive_facts s.args.state.now s.args.e s.requires.2)
+    omega (arith, receive_facts c.args.state.now c.args.e c.requires.2)
 
 pub bounds-out-offset : goal.bounds-out-offset
 bounds-out-offset c =
-    let s = c in
-    omega (arith, receive_facts s.args.state.now s.args.e s.requires.2)
+    omega (arith, receive_facts c.args.state.now c.args.e c.requires.2)
 
 pub overflow_sub-n : goal.overflow_sub-n
 overflow_sub-n c =
-    let s = c in
-    omega (arith, receive_facts s.args.state.now s.args.e s.requires.2)
+    omega (arith, receive_facts c.args.state.now c.args.e c.requires.2)
 
 pub move_down-requires : goal.move_down-requires
 move_down-requires c =
-    let s = c in
-    omega (arith, receive_facts s.args.state.now s.args.e s.requires.2)
+    omega (arith, receive_facts c.args.state.now c.args.e c.requires.2)
 
 pub overflow_cast-state : goal.overflow_cast-state
 overflow_cast-state c =
-    let s = c in
-    omega (arith, receive_facts s.args.state.now s.args.e s.requires.2)
+    omega (arith, receive_facts c.args.state.now c.args.e c.requires.2)
 
 pub returns : goal.returns
 returns c =
-    let m = c in
-    let x = m in
-    let n = x in
-    (rw (m.move_down.ensures, x.word-x.ensures.0, n.fill-n.ensures), rw x.word-x.ensures.0)
+    (rw (c.move_down.ensures, c.word-x.ensures.0, c.fill-n.ensures), rw c.word-x.ensures.0)

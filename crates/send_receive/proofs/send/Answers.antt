@@ -7,20 +7,16 @@ use Rattle.send_receive.proofs.send.Goals as goal
 
 pub bounds-waiting-offset : goal.bounds-waiting-offset
 bounds-waiting-offset c =
-    let s = c in
-    omega (arith, send_facts s.args.state.now s.args.e s.requires.2)
+    omega (arith, send_facts c.args.state.now c.args.e c.requires.2)
 
 pub bounds-state-room : goal.bounds-state-room
 bounds-state-room c =
-    let s = c in
-    omega (arith, send_facts s.args.state.now s.args.e s.requires.2)
+    omega (arith, send_facts c.args.state.now c.args.e c.requires.2)
 
 pub overflow_cast-state : goal.overflow_cast-state
 overflow_cast-state c =
-    let s = c in
-    omega (arith, send_facts s.args.state.now s.args.e s.requires.2)
+    omega (arith, send_facts c.args.state.now c.args.e c.requires.2)
 
 pub returns : goal.returns
 returns c =
-    let x = c in
-    rw (x.word-x.ensures.0, x.fill-n.ensures)
+    rw (c.word-x.ensures.0, c.fill-n.ensures)

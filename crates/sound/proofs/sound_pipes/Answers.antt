@@ -14,33 +14,25 @@ loop-q-init c = (omega arith, every_start _ _)
 
 pub sound_end-requires : goal.sound_end-requires
 sound_end-requires c =
-    let q = c in
-    let a = q in
-    rw c.end.ensures (a.requires.ends q.loop-q.q (omega (arith, c.loop-q-test.true)))
+    rw c.end.ensures (c.requires.ends c.loop-q.q (omega (arith, c.loop-q-test.true)))
 
 pub loop-q-preserved : goal.loop-q-preserved
 loop-q-preserved c =
-    let q = c in
-    let a = q in
-    let f = pipe_sound a.args.ports.now a.args.state.now in
-    let l : q.loop-q.q < a.args.z.pipes = omega (arith, c.loop-q-test.true) in
-    let e = ap (end_sound a.args.state.now) c.end.ensures in (
+    let f = pipe_sound c.args.ports.now c.args.state.now in
+    let l : c.loop-q.q < c.args.z.pipes = omega (arith, c.loop-q-test.true) in
+    let e = ap (end_sound c.args.state.now) c.end.ensures in (
       omega arith,
-      q.loop-q.invariant.1 ∙ every_turn f a.args.z.pipes q.loop-q.q l (sym (c.sound_end.ensures ∙ e) ∙ c.if-sound_end.true),
+      c.loop-q.invariant.1 ∙ every_turn f c.args.z.pipes c.loop-q.q l (sym (c.sound_end.ensures ∙ e) ∙ c.if-sound_end.true),
     )
 
 pub returns-else-sound_end : goal.returns-else-sound_end
 returns-else-sound_end c =
-    let q = c in
-    let a = q in
-    let f = pipe_sound a.args.ports.now a.args.state.now in
-    let l : q.loop-q.q < a.args.z.pipes = omega (arith, c.loop-q-test.true) in
-    let e = ap (end_sound a.args.state.now) c.end.ensures in
-    sym (q.loop-q.invariant.1 ∙ every_stop f a.args.z.pipes q.loop-q.q l (sym (c.sound_end.ensures ∙ e) ∙ c.if-sound_end.false))
+    let f = pipe_sound c.args.ports.now c.args.state.now in
+    let l : c.loop-q.q < c.args.z.pipes = omega (arith, c.loop-q-test.true) in
+    let e = ap (end_sound c.args.state.now) c.end.ensures in
+    sym (c.loop-q.invariant.1 ∙ every_stop f c.args.z.pipes c.loop-q.q l (sym (c.sound_end.ensures ∙ e) ∙ c.if-sound_end.false))
 
 pub returns : goal.returns
 returns c =
-    let q = c in
-    let a = q in
-    let l : a.args.z.pipes ≤ q.loop-q.q = omega (arith, c.loop-q-test.false) in
-    sym (q.loop-q.invariant.1 ∙ every_end (pipe_sound a.args.ports.now a.args.state.now) a.args.z.pipes q.loop-q.q l)
+    let l : c.args.z.pipes ≤ c.loop-q.q = omega (arith, c.loop-q-test.false) in
+    sym (c.loop-q.invariant.1 ∙ every_end (pipe_sound c.args.ports.now c.args.state.now) c.args.z.pipes c.loop-q.q l)

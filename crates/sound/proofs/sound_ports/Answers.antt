@@ -20,33 +20,25 @@ loop-i-init c = (omega arith, every_start _ _)
 
 pub sound_port-requires : goal.sound_port-requires
 sound_port-requires c =
-    let q = c in
-    let a = q in
-    rw c.port.ensures (a.requires.0.ports a.args.p q.loop-i.i a.requires.1 c.loop-i-test.true)
+    rw c.port.ensures (c.requires.0.ports c.args.p c.loop-i.i c.requires.1 c.loop-i-test.true)
 
 pub loop-i-preserved : goal.loop-i-preserved
 loop-i-preserved c =
-    let q = c in
-    let a = q in
-    let f = one a.args.ports.now a.args.state.now a.args.p in
+    let f = one c.args.ports.now c.args.state.now c.args.p in
     let l = c.loop-i-test.true in
-    let e = ap (port_sound a.args.state.now) c.port.ensures in (
+    let e = ap (port_sound c.args.state.now) c.port.ensures in (
       omega arith,
-      q.loop-i.invariant.1 ∙ every_turn f a.args.z.streams q.loop-i.i l (sym (c.sound_port.ensures ∙ e) ∙ c.if-sound_port.true),
+      c.loop-i.invariant.1 ∙ every_turn f c.args.z.streams c.loop-i.i l (sym (c.sound_port.ensures ∙ e) ∙ c.if-sound_port.true),
     )
 
 pub returns-else-sound_port : goal.returns-else-sound_port
 returns-else-sound_port c =
-    let q = c in
-    let a = q in
-    let f = one a.args.ports.now a.args.state.now a.args.p in
+    let f = one c.args.ports.now c.args.state.now c.args.p in
     let l = c.loop-i-test.true in
-    let e = ap (port_sound a.args.state.now) c.port.ensures in
-    sym (q.loop-i.invariant.1 ∙ every_stop f a.args.z.streams q.loop-i.i l (sym (c.sound_port.ensures ∙ e) ∙ c.if-sound_port.false))
+    let e = ap (port_sound c.args.state.now) c.port.ensures in
+    sym (c.loop-i.invariant.1 ∙ every_stop f c.args.z.streams c.loop-i.i l (sym (c.sound_port.ensures ∙ e) ∙ c.if-sound_port.false))
 
 pub returns : goal.returns
 returns c =
-    let q = c in
-    let a = q in
-    let f = one a.args.ports.now a.args.state.now a.args.p in
-    sym (q.loop-i.invariant.1 ∙ every_end f a.args.z.streams q.loop-i.i c.loop-i-test.false)
+    let f = one c.args.ports.now c.args.state.now c.args.p in
+    sym (c.loop-i.invariant.1 ∙ every_end f c.args.z.streams c.loop-i.i c.loop-i-test.false)

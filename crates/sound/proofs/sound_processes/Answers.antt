@@ -16,23 +16,17 @@ sound_process-requires c = (c.requires, c.loop-p-test.true)
 
 pub loop-p-preserved : goal.loop-p-preserved
 loop-p-preserved c =
-    let q = c in
-    let a = q in
-    let f = process_sound a.args.ports.now a.args.state.now a.args.z.streams in
-    let turn = every_turn f a.args.z.processes q.loop-p.p c.loop-p-test.true in
-    (omega arith, q.loop-p.invariant.1 ∙ turn (rw (← c.sound_process.ensures) c.if-sound_process.true))
+    let f = process_sound c.args.ports.now c.args.state.now c.args.z.streams in
+    let turn = every_turn f c.args.z.processes c.loop-p.p c.loop-p-test.true in
+    (omega arith, c.loop-p.invariant.1 ∙ turn (rw (← c.sound_process.ensures) c.if-sound_process.true))
 
 pub returns-else-sound_process : goal.returns-else-sound_process
 returns-else-sound_process c =
-    let q = c in
-    let a = q in
-    let f = process_sound a.args.ports.now a.args.state.now a.args.z.streams in
-    let stop = every_stop f a.args.z.processes q.loop-p.p c.loop-p-test.true in
-    sym (q.loop-p.invariant.1 ∙ stop (rw (← c.sound_process.ensures) c.if-sound_process.false))
+    let f = process_sound c.args.ports.now c.args.state.now c.args.z.streams in
+    let stop = every_stop f c.args.z.processes c.loop-p.p c.loop-p-test.true in
+    sym (c.loop-p.invariant.1 ∙ stop (rw (← c.sound_process.ensures) c.if-sound_process.false))
 
 pub returns : goal.returns
 returns c =
-    let q = c in
-    let a = q in
-    let f = process_sound a.args.ports.now a.args.state.now a.args.z.streams in
-    sym (q.loop-p.invariant.1 ∙ every_end f a.args.z.processes q.loop-p.p c.loop-p-test.false)
+    let f = process_sound c.args.ports.now c.args.state.now c.args.z.streams in
+    sym (c.loop-p.invariant.1 ∙ every_end f c.args.z.processes c.loop-p.p c.loop-p-test.false)

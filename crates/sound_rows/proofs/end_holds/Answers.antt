@@ -7,8 +7,7 @@ use Rattle.sound_rows.proofs.end_holds.Goals as goal
 pub returns-then-y-e : goal.returns-then-y-e
 unfolding end_holds
 returns-then-y-e c =
-    let b = c in
-    rw (le-leb _ _ b.if-x-e.true, le-leb _ _ b.if-y-e.true, c.link_holds.ensures)
+    rw (le-leb _ _ c.if-x-e.true, le-leb _ _ c.if-y-e.true, c.link_holds.ensures)
 
 pub returns-else-y-e : goal.returns-else-y-e
 unfolding end_holds

@@ -15,14 +15,12 @@ returns-then-y-n c = rw (c.if-keeps.true, ne_eqb _ _ c.if-x-eq0.false, eq-eqb _ 
 pub returns-then-x-y : goal.returns-then-x-y
 unfolding hand_holds
 returns-then-x-y c =
-    let b = c in
-    rw (b.if-keeps.true, ne_eqb _ _ b.if-x-eq0.false, ne_eqb _ _ c.if-y-n.false, eq-eqb _ _ c.if-x-y.true)
+    rw (c.if-keeps.true, ne_eqb _ _ c.if-x-eq0.false, ne_eqb _ _ c.if-y-n.false, eq-eqb _ _ c.if-x-y.true)
 
 pub returns-else-x-y : goal.returns-else-x-y
 unfolding hand_holds
 returns-else-x-y c =
-    let b = c in
-    rw (b.if-keeps.true, ne_eqb _ _ b.if-x-eq0.false, ne_eqb _ _ c.if-y-n.false, ne_eqb _ _ c.if-x-y.false)
+    rw (c.if-keeps.true, ne_eqb _ _ c.if-x-eq0.false, ne_eqb _ _ c.if-y-n.false, ne_eqb _ _ c.if-x-y.false)
 
 pub returns-then-x-y-2 : goal.returns-then-x-y-2
 unfolding hand_holds

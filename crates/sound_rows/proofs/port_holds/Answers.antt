@@ -7,12 +7,10 @@ use Rattle.sound_rows.proofs.port_holds.Goals as goal
 pub returns-then-hand_holds : goal.returns-then-hand_holds
 unfolding port_holds
 returns-then-hand_holds c =
-    let h = c in
-    let b = h in
     rw (
-      le-leb _ _ b.if-x-k.true,
-      le-leb _ _ b.if-y-k.true,
-      ← h.hand_holds.ensures,
+      le-leb _ _ c.if-x-k.true,
+      le-leb _ _ c.if-y-k.true,
+      ← c.hand_holds.ensures,
       c.if-hand_holds.true,
       c.link_holds.ensures,
     )
@@ -20,9 +18,7 @@ returns-then-hand_holds c =
 pub returns-else-hand_holds : goal.returns-else-hand_holds
 unfolding port_holds
 returns-else-hand_holds c =
-    let h = c in
-    let b = h in
-    rw (le-leb _ _ b.if-x-k.true, le-leb _ _ b.if-y-k.true, ← h.hand_holds.ensures, c.if-hand_holds.false)
+    rw (le-leb _ _ c.if-x-k.true, le-leb _ _ c.if-y-k.true, ← c.hand_holds.ensures, c.if-hand_holds.false)
 
 pub returns-else-y-k : goal.returns-else-y-k
 unfolding port_holds

@@ -4,6 +4,4 @@ use Rattle.sound_rows.proofs.sound_end.Goals as goal
 
 pub returns : goal.returns
 returns c =
-    let y = c in
-    let x = y in
-    rw (c.end_holds.ensures, y.word-y.ensures.0, x.word-x.ensures.0, x.word-put.ensures.0)
+    rw (c.end_holds.ensures, c.word-y.ensures.0, c.word-x.ensures.0, c.word-put.ensures.0)

@@ -4,6 +4,4 @@ use Rattle.sound_rows.proofs.sound_port.Goals as goal
 
 pub returns : goal.returns
 returns c =
-    let y = c in
-    let x = y in
-    rw (c.port_holds.ensures, y.word-y.ensures.0, x.word-x.ensures.0, x.word-put.ensures.0)
+    rw (c.port_holds.ensures, c.word-y.ensures.0, c.word-x.ensures.0, c.word-put.ensures.0)

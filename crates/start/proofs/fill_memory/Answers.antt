@@ -11,14 +11,12 @@ fill_places-requires c = let p = c.requires in
 
 pub put_values-requires : goal.put_values-requires
 put_values-requires c =
-    let f = c in
-    putting f.requires.0 f.fill_places.ensures
-    (omega (arith, f.fill_places.auto.places))
+    putting c.requires.0 c.fill_places.ensures
+    (omega (arith, c.fill_places.auto.places))
 
 pub clear-requires : goal.clear-requires
 clear-requires c =
-    let f = c in
-    let p = f.requires.0 in
+    let p = c.requires.0 in
     omega (arith, elements_is p, p.received)
 
 pub clear-requires-2 : goal.clear-requires-2
@@ -26,7 +24,6 @@ clear-requires-2 c = let p = c.requires.0 in omega (arith, words_is p, p.state)
 
 pub returns : goal.returns
 returns c =
-    let f = c in
-    memory_filled f.requires.0
-    f.fill_places.ensures c.put_values.ensures
+    memory_filled c.requires.0
+    c.fill_places.ensures c.put_values.ensures
     c.clear.ensures c.clear-2.ensures

@@ -11,9 +11,8 @@ use Rattle.start.proofs.start.Goals as goal
 
 pub start_accepted-requires : goal.start_accepted-requires
 start_accepted-requires c =
-    let i = c in
-    let z = i.if-v-eq0.true in
-    let r = i.survey_of-v.ensures in
+    let z = c.if-v-eq0.true in
+    let r = c.survey_of-v.ensures in
     let u = r.1 z in (
       subst Placeable (sym u.0.description_is) (placeable _ (by_board _ _ (sym r.0 ∙ z))),
       u.0.surveyed,
@@ -23,17 +22,14 @@ start_accepted-requires c =
 
 pub returns-then-v-eq0 : goal.returns-then-v-eq0
 returns-then-v-eq0 c =
-    let i = c in
-    let r = i in
-    let a = r.args in
-    let z = i.if-v-eq0.true in
+    let a = c.args in
+    let z = c.if-v-eq0.true in
     accepted_call _ a.s.now a.values.now (memory_of a.waiting.now a.received.now a.state.now)
-    r.survey_of-v.ensures.0 z (r.survey_of-v.ensures.1 z).0.description_is
+    c.survey_of-v.ensures.0 z (c.survey_of-v.ensures.1 z).0.description_is
     c.start_accepted.ensures
 
 pub returns-else-v-eq0 : goal.returns-else-v-eq0
 returns-else-v-eq0 c =
-    let r = c in
-    let a = r.args in
+    let a = c.args in
     refused_call _ a.s.now a.values.now (memory_of a.waiting.now a.received.now a.state.now)
-    r.survey_of-v.ensures.0 c.if-v-eq0.false
+    c.survey_of-v.ensures.0 c.if-v-eq0.false

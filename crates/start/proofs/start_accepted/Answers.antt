@@ -11,23 +11,20 @@ figures_of-f-requires c = let p = c.requires in (p.0.described, p.1, p.2, p.3, r
 
 pub fill_memory-requires : goal.fill_memory-requires
 fill_memory-requires c =
-    let f = c in
-    let s = f in
-    let a = s.args in (
-      fitting a.v.description f.figures_of-f.ensures.0 a.values.now
+    let a = c.args in (
+      fitting a.v.description c.figures_of-f.ensures.0 a.values.now
           (memory_of a.waiting.now a.received.now a.state.now)
-          c.of_start-r.ensures s.requires.0 c.if-r-eq0.true,
-      s.requires.1,
-      s.requires.2,
-      s.requires.3,
-      f.figures_of-f.ensures.1,
+          c.of_start-r.ensures c.requires.0 c.if-r-eq0.true,
+      c.requires.1,
+      c.requires.2,
+      c.requires.3,
+      c.figures_of-f.ensures.1,
     )
 
 pub returns-then-r-eq0 : goal.returns-then-r-eq0
 returns-then-r-eq0 c =
-    let f = c in
-    let a = f.args in
-    call_done a.v.description f.figures_of-f.ensures.0 a.values.now
+    let a = c.args in
+    call_done a.v.description c.figures_of-f.ensures.0 a.values.now
     (memory_of a.waiting.now a.received.now a.state.now)
     c.of_start-r.ensures
     c.if-r-eq0.true

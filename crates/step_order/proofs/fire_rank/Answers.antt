@@ -6,14 +6,13 @@ use Rattle.step_order.specs.Ranks.{steps_most, steps_inside}
 use Rattle.step_order.proofs.fire_rank.Goals as goal
 
 pub overflow_mul-result-2 : goal.overflow_mul-result-2
-overflow_mul-result-2 c = let s = c in record { fits = omega (arith, steps_most s.requires.0, steps_inside s.args.z s.requires.1) }
+overflow_mul-result-2 c = record { fits = omega (arith, steps_most c.requires.0, steps_inside c.args.z c.requires.1) }
 
 pub overflow_add-result-2 : goal.overflow_add-result-2
-overflow_add-result-2 c = let s = c in record { fits = omega (arith, steps_most s.requires.0, steps_inside s.args.z s.requires.1) }
+overflow_add-result-2 c = record { fits = omega (arith, steps_most c.requires.0, steps_inside c.args.z c.requires.1) }
 
 pub overflow_add-result-3 : goal.overflow_add-result-3
-overflow_add-result-3 c = let s = c in
-    record { fits = omega (arith, steps_most s.requires.0, steps_inside s.args.z s.requires.1) }
+overflow_add-result-3 c = record { fits = omega (arith, steps_most c.requires.0, steps_inside c.args.z c.requires.1) }
 
 pub returns : goal.returns
-returns c = let s = c in (refl, omega (arith, steps_most s.requires.0, steps_inside s.args.z s.requires.1))
+returns c = (refl, omega (arith, steps_most c.requires.0, steps_inside c.args.z c.requires.1))

@@ -68,11 +68,10 @@ end-requires-in_default c =
 pub receive-requires : goal.receive-requires
 unfolding can_by
 receive-requires c =
-    let s = c in
-    let p = s.requires in
-    let k : 3 < s.args.kind = omega (arith, c.in_default.rest) in
+    let p = c.requires in
+    let k : 3 < c.args.kind = omega (arith, c.in_default.rest) in
     let h = p.2.pipe (inr k) in
-    rw c.end-in_default.ensures (p.0.ends _ h, p.4 _ h, sym (by_last s.args.kind k _ _ _ _ _) ∙ p.5)
+    rw c.end-in_default.ensures (p.0.ends _ h, p.4 _ h, sym (by_last c.args.kind k _ _ _ _ _) ∙ p.5)
 
 pub returns-in-0 : goal.returns-in-0
 unfolding act_by

@@ -76,5 +76,4 @@ returns-in-3 c = rw c.in-3.is (c.can_give.ensures ∙ rw c.port-in-3.ensures ref
 pub returns-in_default : goal.returns-in_default
 unfolding can_by
 returns-in_default c =
-    let s = c in
-    rw (by_last s.args.kind (omega arith)) (c.can_receive.ensures ∙ rw c.end-in_default.ensures refl)
+    rw (by_last c.args.kind (omega arith)) (c.can_receive.ensures ∙ rw c.end-in_default.ensures refl)

@@ -24,11 +24,10 @@ can_use-requires c =
 
 pub loop-i-preserved : goal.loop-i-preserved
 loop-i-preserved c =
-    let s = c in
-    let a = s.args in
+    let a = c.args in
     let q = c.loop-i in
     let t = c.loop-i-test.true in
-    let m = s.requires.0.streams in
+    let m = c.requires.0.streams in
     let f = can_use a.state.now in
     let e = ap f (ports_at_lem a.ports.now a.p q.i (omega (arith, m, t)) ∙ sym c.port.ensures) in (
       omega arith,
@@ -38,11 +37,10 @@ loop-i-preserved c =
 
 pub returns-else-can_use : goal.returns-else-can_use
 returns-else-can_use c =
-    let s = c in
-    let a = s.args in
+    let a = c.args in
     let q = c.loop-i in
     let t = c.loop-i-test.true in
-    let m = s.requires.0.streams in
+    let m = c.requires.0.streams in
     let f = can_use a.state.now in
     let e = ap f (ports_at_lem a.ports.now a.p q.i (omega (arith, m, t)) ∙ sym c.port.ensures) in
     sym (every_stop f (ports_at a.ports.now a.p) q.i a.z.streams t m (e ∙ sym c.can_use.ensures ∙ c.if-can_use.false))

@@ -12,10 +12,9 @@ word-f-requires c =
 
 pub instance_of-x-requires : goal.instance_of-x-requires
 instance_of-x-requires c =
-    let s = c in
-    let p = s.requires in
+    let p = c.requires in
     rw (c.word-f.ensures.0, c.ports_of-own.ensures)
-    (next_runs s.args.state.now s.args.p p.0 p.1 p.2 p.3)
+    (next_runs c.args.state.now c.args.p p.0 p.1 p.2 p.3)
 
 pub fire-requires : goal.fire-requires
 fire-requires c =

@@ -9,10 +9,8 @@ returns-then-instances_refused c = applies 6 _ c.instances_refused.ensures c.if-
 
 pub returns-then-low_rank : goal.returns-then-low_rank
 returns-then-low_rank c =
-    let a = c in
-    skips 6 _ a.instances_refused.ensures a.if-instances_refused.false (applies 7 _ c.low_rank.ensures c.if-low_rank.true)
+    skips 6 _ c.instances_refused.ensures c.if-instances_refused.false (applies 7 _ c.low_rank.ensures c.if-low_rank.true)
 
 pub returns-else-low_rank : goal.returns-else-low_rank
 returns-else-low_rank c =
-    let a = c in
-    skips 6 _ a.instances_refused.ensures a.if-instances_refused.false (skips 7 _ c.low_rank.ensures c.if-low_rank.false accepts)
+    skips 6 _ c.instances_refused.ensures c.if-instances_refused.false (skips 7 _ c.low_rank.ensures c.if-low_rank.false accepts)

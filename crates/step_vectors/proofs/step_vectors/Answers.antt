@@ -13,8 +13,7 @@ use Rattle.step_vectors.proofs.step_vectors.Goals as goal
 
 -- a call that is not declined
 module _ (c : goal.Then-refusal-eq0) where
-  none : let l = c in
-      let a = l.args in refusal (vector_tests l.Limits-of.result a.s.now a.k) ≡ 0
+  none : let a = c.args in refusal (vector_tests c.limits_of-limits.result a.s.now a.k) ≡ 0
   none = sym c.survey_of-v.ensures.refusal_is ∙ c.if-refusal-eq0.true
 
   own : Own (description_of c.args.s.now) c.survey_of-v.result
@@ -22,41 +21,35 @@ module _ (c : goal.Then-refusal-eq0) where
 
 pub prospect_of-p-requires : goal.prospect_of-p-requires
 prospect_of-p-requires c =
-    let l = c in
-    let a = l.args in
-    let u = l.Limits-of.ensures.1 in
-    (laid l.Limits-of.result a.s.now a.k a.counts.now (none c) u (own c), u)
+    let a = c.args in
+    let u = c.limits_of-limits.ensures.1 in
+    (laid c.limits_of-limits.result a.s.now a.k a.counts.now (none c) u (own c), u)
 
 pub tally-requires : goal.tally-requires
 tally-requires c =
-    let t = c in
-    let l = t in
-    let a = l.args in
-    subst (Tallying c.prospect_of-p.result a.k) (sym (loops_are a.s.now (own t)))
-    (tallying l.Limits-of.result a.s.now a.k a.counts.now (none t) (own t) c.prospect_of-p.ensures)
+    let a = c.args in
+    subst (Tallying c.prospect_of-p.result a.k) (sym (loops_are a.s.now (own c)))
+    (tallying c.limits_of-limits.result a.s.now a.k a.counts.now (none c) (own c) c.prospect_of-p.ensures)
 
 pub returns-then-refusal-eq0 : goal.returns-then-refusal-eq0
 returns-then-refusal-eq0 c =
-    let p = c in
-    let t = p in
-    let l = t in
+    let l = c in
     let a = l.args in
     let s = a.s.now in
     let lent = a.counts.now in
     subst (λ (l : Limits). (Done ≡ (step_vectors l s a.k lent).answer) × (c.tally.result ≡ (step_vectors l s a.k lent).counts))
-    l.Limits-of.ensures.0
-    (counted_call l.Limits-of.result s a.k lent (none t) (own t) p.prospect_of-p.ensures
-    (c.tally.ensures ∙ ap (tally_of p.prospect_of-p.result a.k) (loops_are a.s.now (own t))))
+    l.limits_of-limits.ensures.0
+    (counted_call l.limits_of-limits.result s a.k lent (none c) (own c) c.prospect_of-p.ensures
+    (c.tally.ensures ∙ ap (tally_of c.prospect_of-p.result a.k) (loops_are a.s.now (own c))))
 
 pub returns-else-refusal-eq0 : goal.returns-else-refusal-eq0
 returns-else-refusal-eq0 c =
-    let v = c in
-    let l = v in
+    let l = c in
     let a = l.args in
     let s = a.s.now in
     let lent = a.counts.now in
     subst
-    (λ (l : Limits). (Refused v.survey_of-v.result.refusal ≡ (step_vectors l s a.k lent).answer)
+    (λ (l : Limits). (Refused c.survey_of-v.result.refusal ≡ (step_vectors l s a.k lent).answer)
     × (lent ≡ (step_vectors l s a.k lent).counts))
-    l.Limits-of.ensures.0
-    (declined_call l.Limits-of.result s a.k lent v.survey_of-v.ensures.refusal_is c.if-refusal-eq0.false)
+    l.limits_of-limits.ensures.0
+    (declined_call l.limits_of-limits.result s a.k lent c.survey_of-v.ensures.refusal_is c.if-refusal-eq0.false)

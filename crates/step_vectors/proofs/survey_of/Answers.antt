@@ -14,13 +14,11 @@ use Rattle.step_vectors.proofs.survey_of.Goals as goal
 early_is : (c : goal.After-early_refusal-early)
     → let a = c.args in c.early_refusal-early.result ≡ refusal (early_tests a.limits a.s.now a.k)
 early_is c =
-    let s = c in
-    c.early_refusal-early.ensures ∙ ap (λ (l : Limits). refusal (early_tests l s.args.s.now s.args.k)) (sym s.requires)
+    c.early_refusal-early.ensures ∙ ap (λ (l : Limits). refusal (early_tests l c.args.s.now c.args.k)) (sym c.requires)
 
 may_decode : (c : goal.Then-early-eq0) → Decoded c.args.s.now
 may_decode c =
-    let e = c in
-    let a = e.args in early_decoded a.limits a.s.now a.k (sym (early_is e) ∙ c.if-early-eq0.true)
+    let a = c.args in early_decoded a.limits a.s.now a.k (sym (early_is c) ∙ c.if-early-eq0.true)
 
 pub description-requires : goal.description-requires
 description-requires c = (may_decode c).sized
@@ -30,13 +28,11 @@ own_survey-v-requires c = may_survey (may_decode c) c.description.ensures
 
 pub returns-then-early-eq0 : goal.returns-then-early-eq0
 returns-then-early-eq0 c =
-    let o = c in
-    let d = o in
-    let e = d in
-    let a = e.args in
-    let h = subst (λ (d : Description). Own d o.own_survey-v.result) d.description.ensures o.own_survey-v.ensures in
+    let d = c in
+    let a = c.args in
+    let h = subst (λ (d : Description). Own d c.own_survey-v.result) d.description.ensures c.own_survey-v.ensures in
     record {
-      refusal_is = early_goes_on a.limits a.s.now a.k (early_is e) d.if-early-eq0.true h c.ground_refusal.ensures;
+      refusal_is = early_goes_on a.limits a.s.now a.k (early_is c) d.if-early-eq0.true h c.ground_refusal.ensures;
       own = λ _.
           record {
             same = h.same;
@@ -49,9 +45,8 @@ returns-then-early-eq0 c =
 
 pub returns-else-early-eq0 : goal.returns-else-early-eq0
 returns-else-early-eq0 c =
-    let e = c in
-    let a = e.args in
+    let a = c.args in
     record {
-      refusal_is = c.refused.ensures ∙ early_stops a.limits a.s.now a.k (early_is e) c.if-early-eq0.false;
+      refusal_is = c.refused.ensures ∙ early_stops a.limits a.s.now a.k (early_is c) c.if-early-eq0.false;
       own = λ z. absurd (c.if-early-eq0.false (sym c.refused.ensures ∙ z));
     }

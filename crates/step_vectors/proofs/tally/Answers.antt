@@ -29,7 +29,7 @@ answer_to-a-requires c =
     c.requires.answering c.vector_at.result c.vector_at.ensures.1
 
 -- the answer of vector j, one that is counted
-module _ (c : goal.After-answer_to-a invariant_loop decreases_loop) where
+module _ (c : goal.After-answer_to-a) where
   here_is : let a = c.args in
       c.answer_to-a.result ≡ get_or (answers_by a.p a.k a.loops) c.loop-j.j 0
   here_is =

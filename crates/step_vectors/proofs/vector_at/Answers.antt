@@ -17,29 +17,29 @@ use Rattle.step_vectors.proofs.vector_at.Goals as goal
 
 -- the place, with two entries and with three
 two : (c : goal.Then-loops-eq2) → c.args.j < length (vectors c.args.k 2)
-two c = let s = c in subst (λ (r : ℕ). s.args.j < length (vectors s.args.k r)) c.if-loops-eq2.true s.requires.place
+two c = subst (λ (r : ℕ). c.args.j < length (vectors c.args.k r)) c.if-loops-eq2.true c.requires.place
 
 three_loops : (c : goal.Else-loops-eq2) → c.args.loops ≡ 3
 three_loops c = let p = c.requires in omega (arith, p.least, p.most, c.if-loops-eq2.false)
 
 three : (c : goal.Else-loops-eq2) → c.args.j < length (vectors c.args.k 3)
-three c = let s = c in subst (λ (r : ℕ). s.args.j < length (vectors s.args.k r)) (three_loops c) s.requires.place
+three c = subst (λ (r : ℕ). c.args.j < length (vectors c.args.k r)) (three_loops c) c.requires.place
 
 pub entry-requires : goal.entry-requires
-entry-requires c = let s = c in (s.requires.few, (two_digits s.args.k s.args.j (two c)).0)
+entry-requires c = (c.requires.few, (two_digits c.args.k c.args.j (two c)).0)
 
 pub entry-requires-then-loops-eq2 : goal.entry-requires-then-loops-eq2
-entry-requires-then-loops-eq2 c = let s = c in (s.requires.few, (two_digits s.args.k s.args.j (two c)).1)
+entry-requires-then-loops-eq2 c = (c.requires.few, (two_digits c.args.k c.args.j (two c)).1)
 
 pub entry-requires-else-loops-eq2 : goal.entry-requires-else-loops-eq2
-entry-requires-else-loops-eq2 c = let s = c in (s.requires.few, (three_digits s.args.k s.args.j (three c)).0)
+entry-requires-else-loops-eq2 c = (c.requires.few, (three_digits c.args.k c.args.j (three c)).0)
 
 pub entry-requires-else-loops-eq2-2 : goal.entry-requires-else-loops-eq2-2
-entry-requires-else-loops-eq2-2 c = let s = c in (s.requires.few, (three_digits s.args.k s.args.j (three c)).1)
+entry-requires-else-loops-eq2-2 c = (c.requires.few, (three_digits c.args.k c.args.j (three c)).1)
 
 pub entry-requires-else-loops-eq2-3 : goal.entry-requires-else-loops-eq2-3
 entry-requires-else-loops-eq2-3 c =
-    let s = c in (s.requires.few, (three_digits s.args.k s.args.j (three c)).2)
+    (c.requires.few, (three_digits c.args.k c.args.j (three c)).2)
 
 -- an entry is small, however it is written
 small : {z : ℤ} {k i : ℕ} → k ≤ 3 → i < 2 * k + 1 → z ≡ pos i -ℤ pos k → Abs z 8
@@ -47,25 +47,21 @@ small {k = k} {i = i} h l e = subst (λ (z : ℤ). Abs z 8) (sym e) (Abs-wider t
 
 pub returns-then-loops-eq2 : goal.returns-then-loops-eq2
 returns-then-loops-eq2 c =
-    let t = c in
-    let s = t in
-    let k = s.args.k in
-    let d = two_digits k s.args.j (two t) in
+    let k = c.args.k in
+    let d = two_digits k c.args.j (two c) in
     let x = held c.entry.type_inv c.entry.ensures in
     let y = held c.entry-then-loops-eq2.type_inv c.entry-then-loops-eq2.ensures in (
-      same3 x y refl ∙ sym (ap (λ (r : ℕ). step_vector (get_or (vectors k r) s.args.j [])) t.if-loops-eq2.true ∙ d.2),
-      record { xs = small s.requires.few d.0 x; ys = small s.requires.few d.1 y; zs = record { abs = omega arith } },
+      same3 x y refl ∙ sym (ap (λ (r : ℕ). step_vector (get_or (vectors k r) c.args.j [])) c.if-loops-eq2.true ∙ d.2),
+      record { xs = small c.requires.few d.0 x; ys = small c.requires.few d.1 y; zs = record { abs = omega arith } },
     )
 
 pub returns-else-loops-eq2 : goal.returns-else-loops-eq2
 returns-else-loops-eq2 c =
-    let t = c in
-    let s = t in
-    let k = s.args.k in
-    let d = three_digits k s.args.j (three t) in
+    let k = c.args.k in
+    let d = three_digits k c.args.j (three c) in
     let x = held c.entry-else-loops-eq2.type_inv c.entry-else-loops-eq2.ensures in
     let y = held c.entry-else-loops-eq2-2.type_inv c.entry-else-loops-eq2-2.ensures in
     let z = held c.entry-else-loops-eq2-3.type_inv c.entry-else-loops-eq2-3.ensures in (
-      same3 x y z ∙ sym (ap (λ (r : ℕ). step_vector (get_or (vectors k r) s.args.j [])) (three_loops t) ∙ d.3),
-      record { xs = small s.requires.few d.0 x; ys = small s.requires.few d.1 y; zs = small s.requires.few d.2 z },
+      same3 x y z ∙ sym (ap (λ (r : ℕ). step_vector (get_or (vectors k r) c.args.j [])) (three_loops c) ∙ d.3),
+      record { xs = small c.requires.few d.0 x; ys = small c.requires.few d.1 y; zs = small c.requires.few d.2 z },
     )

@@ -27,19 +27,17 @@ overflow_mul-result-else-loops-eq2-2 c = let p = c.requires in record { fits = o
 
 pub returns-then-loops-eq2 : goal.returns-then-loops-eq2
 returns-then-loops-eq2 c =
-    let s = c in
-    let k = s.args.k in
+    let k = c.args.k in
     let w : ℕ = 2 * k + 1 in (
       sym (ap (λ (r : ℕ). length (vectors k r)) c.if-loops-eq2.true ∙ two_long k),
-      omega (arith, squared w (omega (arith, s.requires.0))),
+      omega (arith, squared w (omega (arith, c.requires.0))),
     )
 
 pub returns-else-loops-eq2 : goal.returns-else-loops-eq2
 returns-else-loops-eq2 c =
-    let s = c in
-    let k = s.args.k in
+    let k = c.args.k in
     let w : ℕ = 2 * k + 1 in
-    let e : s.args.loops ≡ 3 = omega (arith, s.requires.1, s.requires.2, c.if-loops-eq2.false) in (
+    let e : c.args.loops ≡ 3 = omega (arith, c.requires.1, c.requires.2, c.if-loops-eq2.false) in (
       sym (ap (λ (r : ℕ). length (vectors k r)) e ∙ three_long k ∙ mul_comm w (w * w)),
-      cubed w (omega (arith, s.requires.0)),
+      cubed w (omega (arith, c.requires.0)),
     )

@@ -7,9 +7,8 @@ use Rattle.stream_tests.proofs.hop_refused.Goals as goal
 
 pub returns-then-f : goal.returns-then-f
 returns-then-f c =
-    let s = c in
-    and_goes s.requires.flow.moving_is c.if-f.true
-    (ap (λ (h : ℕ). ltb s.args.limits.hop h) s.requires.flow.hop_is)
+    and_goes c.requires.flow.moving_is c.if-f.true
+    (ap (λ (h : ℕ). ltb c.args.limits.hop h) c.requires.flow.hop_is)
 
 pub returns-else-f : goal.returns-else-f
 returns-else-f c = and_stops _ c.requires.flow.moving_is c.if-f.false

@@ -11,5 +11,4 @@ still-requires c = let p = c.requires in (p.in_range_lem.nest.step, p.flow.line_
 
 pub returns : goal.returns
 returns c =
-    let s = c in
-    c.still.ensures ∙ ap (λ (v : V3). eq_z (step_of s.args.f.nest v) (pos 0)) s.requires.flow.line_is
+    c.still.ensures ∙ ap (λ (v : V3). eq_z (step_of c.args.f.nest v) (pos 0)) c.requires.flow.line_is

@@ -17,12 +17,10 @@ zero2-requires-else-f c =
 
 pub returns-then-f : goal.returns-then-f
 returns-then-f c =
-    let s = c in
-    let f = s.args.f in
-    rw (not-true (stationary f.nest f.stream) (sym s.requires.flow.moving_is ∙ c.if-f.true)) (ap not c.zero2.ensures)
+    let f = c.args.f in
+    rw (not-true (stationary f.nest f.stream) (sym c.requires.flow.moving_is ∙ c.if-f.true)) (ap not c.zero2.ensures)
 
 pub returns-else-f : goal.returns-else-f
 returns-else-f c =
-    let s = c in
-    let f = s.args.f in
-    rw (not-false (stationary f.nest f.stream) (sym s.requires.flow.moving_is ∙ c.if-f.false)) c.zero2-else-f.ensures
+    let f = c.args.f in
+    rw (not-false (stationary f.nest f.stream) (sym c.requires.flow.moving_is ∙ c.if-f.false)) c.zero2-else-f.ensures

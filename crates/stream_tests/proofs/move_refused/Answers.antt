@@ -11,6 +11,5 @@ small2-requires c = c.requires.flow.way_small
 
 pub returns : goal.returns
 returns c =
-    let s = c in
-    ap not c.small2.ensures ∙ ap (λ (p : V2). not (small p.a && small p.b)) s.requires.flow.way_is
-    ∙ move_tested s.args.f.nest s.args.f.stream s.requires.in_range_lem
+    ap not c.small2.ensures ∙ ap (λ (p : V2). not (small p.a && small p.b)) c.requires.flow.way_is
+    ∙ move_tested c.args.f.nest c.args.f.stream c.requires.in_range_lem

@@ -12,9 +12,7 @@ against-requires c =
 
 pub returns-then-written : goal.returns-then-written
 returns-then-written c =
-    let b = c in
-    let s = b in
-    and_goes refl b.if-written.true (c.against.ensures ∙ ap (against s.args.f.nest.direction) s.requires.flow.line_is)
+    and_goes refl c.if-written.true (c.against.ensures ∙ ap (against c.args.f.nest.direction) c.requires.flow.line_is)
 
 pub returns-else-written : goal.returns-else-written
 returns-else-written c = and_stops _ refl c.if-written.false

@@ -10,12 +10,10 @@ use Rattle.survey.proofs.backward.Goals as goal
 
 pub returns-then-v-eq0 : goal.returns-then-v-eq0
 returns-then-v-eq0 c =
-    let s = c in
-    ap (λ (z : ℤ). lt_z z (pos 0)) (at tt s.requires.second).eq
-    ∙ back_level s.args.v (sym (zero_bits tt s.requires.first) ∙ eq-eqb _ _ c.if-v-eq0.true)
+    ap (λ (z : ℤ). lt_z z (pos 0)) (at tt c.requires.second).eq
+    ∙ back_level c.args.v (sym (zero_bits tt c.requires.first) ∙ eq-eqb _ _ c.if-v-eq0.true)
 
 pub returns-else-v-eq0 : goal.returns-else-v-eq0
 returns-else-v-eq0 c =
-    let s = c in
-    ap (λ (z : ℤ). lt_z z (pos 0)) (at tt s.requires.first).eq
-    ∙ back_steep s.args.v (sym (zero_bits tt s.requires.first) ∙ ne_eqb _ _ c.if-v-eq0.false)
+    ap (λ (z : ℤ). lt_z z (pos 0)) (at tt c.requires.first).eq
+    ∙ back_steep c.args.v (sym (zero_bits tt c.requires.first) ∙ ne_eqb _ _ c.if-v-eq0.false)

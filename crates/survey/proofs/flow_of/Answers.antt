@@ -20,8 +20,7 @@ use Rattle.survey.proofs.flow_of.Goals as goal
 
 pub image_of-across-requires : goal.image_of-across-requires
 image_of-across-requires c =
-    let l = c in
-    (rows_wider tt l.requires.0.nest.place, l.line_of-short.ensures.1)
+    (rows_wider tt c.requires.0.nest.place, c.line_of-short.ensures.1)
 
 pub image_of-pass-requires : goal.image_of-pass-requires
 image_of-pass-requires c =
@@ -30,51 +29,40 @@ image_of-pass-requires c =
 
 pub stride_of-requires : goal.stride_of-requires
 stride_of-requires c =
-    let w = c in
-    let p = w.requires in (
+    let p = c.requires in (
       subst Spanning (sym p.1.space_is) (box_spanning p.0.nest p.0.nest.place),
-      w.Way-of.ensures.1,
+      c.way_of-way.ensures.1,
     )
 
 pub returns : goal.returns
 returns c =
-    let t = c in
-    let g = t in
-    let b = g in
-    let e = b in
-    let h = e in
-    let i = h in
-    let w = i in
-    let z = w in
-    let a = z in
-    let l = a in
-    let s = l in
-    let n = s.args.n in
-    let r = s.args.s in
-    let on = l.line_of-short.ensures.0 in
-    let across = a.image_of-across.ensures.0 ∙ ap (image n.place) on in
-    let still = z.zero2-stationary.ensures ∙ ap (λ (v : V2). eq2 v zero2) across in
-    let way = w.Way-of.ensures.0 ∙ ap₂ (λ (b : Bool) (v : V2). cond b r.loading v) still across in
-    let pass = i.image_of-pass.ensures.0 ∙ ap (image r.map) s.requires.1.increment_is in
-    let weighs = ap₂ (λ (k : Box) (v : V2). weigh k v.a v.b) s.requires.1.space_is way in
+    let b = c in
+    let n = c.args.n in
+    let r = c.args.s in
+    let on = c.line_of-short.ensures.0 in
+    let across = c.image_of-across.ensures.0 ∙ ap (image n.place) on in
+    let still = c.zero2-stationary.ensures ∙ ap (λ (v : V2). eq2 v zero2) across in
+    let way = c.way_of-way.ensures.0 ∙ ap₂ (λ (b : Bool) (v : V2). cond b r.loading v) still across in
+    let pass = c.image_of-pass.ensures.0 ∙ ap (image r.map) c.requires.1.increment_is in
+    let weighs = ap₂ (λ (k : Box) (v : V2). weigh k v.a v.b) c.requires.1.space_is way in
     record {
       nest_is = refl;
       stream_is = refl;
       line_is = on;
-      line_small = l.line_of-short.ensures.1;
-      divisor_is = l.line_of-short.ensures.2;
-      hop_is = h.hop_of.ensures ∙ ap₂ (λ (b : Bool) (v : V3). cond b 1 (nat_abs (step_of n v))) still on
+      line_small = c.line_of-short.ensures.1;
+      divisor_is = c.line_of-short.ensures.2;
+      hop_is = c.hop_of.ensures ∙ ap₂ (λ (b : Bool) (v : V3). cond b 1 (nat_abs (step_of n v))) still on
           ∙ ap (cond (stationary n r) 1) (step_up n r.map);
-      space_is = s.requires.1.space_is;
-      elements_is = e.extent_of.ensures.0;
+      space_is = c.requires.1.space_is;
+      elements_is = c.extent_of.ensures.0;
       way_is = way;
-      way_small = w.Way-of.ensures.1;
+      way_small = c.way_of-way.ensures.1;
       back_is = b.opposite.ensures.0 ∙ ap neg2 way;
       pass_is = pass;
-      pass_small = i.image_of-pass.ensures.1;
-      against_is = g.opposite-2.ensures.0 ∙ ap neg2 pass;
-      against_small = g.opposite-2.ensures.1;
-      step_is = held t.stride_of.type_inv (t.stride_of.ensures ∙ weighs);
+      pass_small = c.image_of-pass.ensures.1;
+      against_is = c.opposite-2.ensures.0 ∙ ap neg2 pass;
+      against_small = c.opposite-2.ensures.1;
+      step_is = held c.stride_of.type_inv (c.stride_of.ensures ∙ weighs);
       moving_is = ap not still;
       turned_is = c.backward.ensures ∙ ap backward way;
     }

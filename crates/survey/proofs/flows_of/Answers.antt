@@ -22,10 +22,9 @@ flow_of-requires c =
     (in_range_lem p.0.nest (rw (← c.stream.ensures) at (p.0.streams i)), p.1)
 
 -- stream i is one of six
-stream_lt : (c : goal.After-flow_of invariant_loop decreases_loop) → c.loop-i.i < 6
+stream_lt : (c : goal.After-flow_of) → c.loop-i.i < 6
 stream_lt c =
-    let s = c in
-    omega (arith, c.loop-i-test.true, s.requires.0.sized.most_streams)
+    omega (arith, c.loop-i-test.true, c.requires.0.sized.most_streams)
 
 pub offset_bounds-out-i : goal.offset_bounds-out-i
 offset_bounds-out-i c = record { fits = omega (arith, stream_lt c) }
@@ -40,12 +39,11 @@ pub loop-i-preserved : goal.loop-i-preserved
 loop-i-preserved c =
     let l = c.loop-i in
     let t = c.loop-i-test.true in
-    let s = c in
-    let d = s.args.d in (
+    let d = c.args.d in (
       omega (arith, t),
       simp length-set l.invariant.1,
       known_next (λ (k : ℕ) (f : Flow). FlowOf d.nest (get_or d.streams k no_stream) f) no_flow l.out
-          (omega (arith, t, l.invariant.1, s.requires.0.sized.most_streams)) l.invariant.2
+          (omega (arith, t, l.invariant.1, c.requires.0.sized.most_streams)) l.invariant.2
           (subst (λ (r : Stream). FlowOf d.nest r c.flow_of.result) c.stream.ensures c.flow_of.ensures),
     )
 

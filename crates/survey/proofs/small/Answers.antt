@@ -10,5 +10,4 @@ use Rattle.survey.proofs.small.Goals as goal
 
 pub returns : goal.returns
 returns c =
-    let a = c in
-    ap (λ (n : ℕ). leb n 1) (c.magnitude.ensures ∙ ap nat_abs (tower a.args.c a.ranges.c.sfits)) ∙ small_is a.args.c
+    ap (λ (n : ℕ). leb n 1) (c.magnitude.ensures ∙ ap nat_abs (tower c.args.c c.ranges.c.sfits)) ∙ small_is c.args.c

@@ -9,11 +9,9 @@ use Rattle.survey.proofs.small2.Goals as goal
 
 pub returns-then-small : goal.returns-then-small
 returns-then-small c =
-    let b = c in
-    let a = b in
-    and_goes (b.small.ensures ∙ ap small (at tt a.requires.first).eq) c.if-small.true
-    (c.small-then-small.ensures ∙ ap small (at tt a.requires.second).eq)
+    and_goes (c.small.ensures ∙ ap small (at tt c.requires.first).eq) c.if-small.true
+    (c.small-then-small.ensures ∙ ap small (at tt c.requires.second).eq)
 
 pub returns-else-small : goal.returns-else-small
 returns-else-small c =
-    let a = c in and_stops _ (c.small.ensures ∙ ap small (at tt a.requires.first).eq) c.if-small.false
+    and_stops _ (c.small.ensures ∙ ap small (at tt c.requires.first).eq) c.if-small.false

@@ -13,11 +13,10 @@ clear-requires c = omega (arith, c.requires.words)
 
 pub loop-k-init : goal.loop-k-init
 loop-k-init c =
-    let s = c in
-    let w = s.requires in (
+    let w = c.requires in (
       omega arith,
       refl,
-      subst (Most 0 s.args.points) (sym c.clear.ensures) (most_zero _ _ w.few w.words),
+      subst (Most 0 c.args.points) (sym c.clear.ensures) (most_zero _ _ w.few w.words),
       refl,
     )
 
@@ -27,12 +26,10 @@ point_of-p-requires c = (c.requires.table, omega arith)
 pub meet-requires : goal.meet-requires
 meet-requires c =
     let l = c.loop-k in
-    let w = c in
-    let s = w in
     let p = c.point_of-p in
     record {
-      point = omega (arith, p.ensures.1, s.requires.few);
-      words = l.invariant.1 ∙ w.clear.auto.out ∙ s.requires.words;
+      point = omega (arith, p.ensures.1, c.requires.few);
+      words = l.invariant.1 ∙ c.clear.auto.out ∙ c.requires.words;
       number = omega arith;
       before = l.invariant.2.at p.result p.ensures.1;
     }
@@ -42,21 +39,17 @@ loop-k-preserved c =
     let e = c.meet.ensures in
     let p = c.point_of-p in
     let l = c.loop-k in
-    let w = c in
-    let s = w in
-    let h = taken_length s.requires.table in (
+    let h = taken_length c.requires.table in (
       omega arith,
-      ap length e ∙ turn_length s.args.back l.k p.result l.spans ∙ l.invariant.1,
-      rw e (most_turn s.args.back p.result s.requires.few p.ensures.1 (l.invariant.1 ∙ w.clear.auto.out ∙ s.requires.words) l.invariant.2),
-      rw (e, p.ensures.0) (sweep_step (turn s.args.back) _ _ _ (omega arith)) ∙ l.invariant.3,
+      ap length e ∙ turn_length c.args.back l.k p.result l.spans ∙ l.invariant.1,
+      rw e (most_turn c.args.back p.result c.requires.few p.ensures.1 (l.invariant.1 ∙ c.clear.auto.out ∙ c.requires.words) l.invariant.2),
+      rw (e, p.ensures.0) (sweep_step (turn c.args.back) _ _ _ (omega arith)) ∙ l.invariant.3,
     )
 
 pub returns : goal.returns
 returns c =
-    let w = c in
-    let s = w in
-    let a = s.args in
-    let h = taken_length s.requires.table in
-    swept a.back s.requires
+    let a = c.args in
+    let h = taken_length c.requires.table in
+    swept a.back c.requires
     (sym (sweep_done (turn a.back) _ _ _ (omega arith)) ∙ c.loop-k.invariant.3
-    ∙ ap (sweep (turn a.back) 0 (take a.instances a.numbers.now)) w.clear.ensures)
+    ∙ ap (sweep (turn a.back) 0 (take a.instances a.numbers.now)) c.clear.ensures)

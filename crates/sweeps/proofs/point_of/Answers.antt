@@ -10,5 +10,4 @@ overflow_cast-result-2 c = record { fits = omega (arith, c.shared_slice_known-1.
 
 pub returns : goal.returns
 returns c =
-    let s = c in
-    let k = s.args.k in (sym (get_or-take s.args.instances s.args.numbers.now k 0 s.requires.1), s.requires.0.below k s.requires.1)
+    let k = c.args.k in (sym (get_or-take c.args.instances c.args.numbers.now k 0 c.requires.1), c.requires.0.below k c.requires.1)

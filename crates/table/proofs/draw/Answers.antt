@@ -12,29 +12,25 @@ use Rattle.table.proofs.draw.Goals as goal
 
 pub copy_spans-requires : goal.copy_spans-requires
 copy_spans-requires c =
-    let f = c in
-    let s = f in (s.requires.3, omega (arith, f.fill_streams.auto.words, zeros_length s.requires.4))
+    (c.requires.3, omega (arith, c.fill_streams.auto.words, zeros_length c.requires.4))
 
 pub returns : goal.returns
 returns c =
-    let k = c in
-    let f = k in
-    let s = f in
-    let d = s.args.v.description in
-    let g = s.requires.0 in
-    let es = s.args.spans.now in
-    let w = f.fill_streams.new.words in
-    let l : 3072 ≤ length w = omega (arith, f.fill_streams.auto.words, zeros_length s.requires.4) in (
+    let d = c.args.v.description in
+    let g = c.requires.0 in
+    let es = c.args.spans.now in
+    let w = c.fill_streams.new.words in
+    let l : 3072 ≤ length w = omega (arith, c.fill_streams.auto.words, zeros_length c.requires.4) in (
       c.shape_of.ensures.refusal,
       record {
         shaped = c.shape_of.ensures;
         bounded = g.bounded;
         few = g.processes;
-        most = omega (arith, s.requires.1.in_use, g.most);
+        most = omega (arith, c.requires.1.in_use, g.most);
         front = es;
-        spans = s.requires.2;
-        copied = subst (λ (v : List ℕ). (j : ℕ) → j < 3072 → get_or v j 0 ≡ get_or es j 0) (sym k.copy_spans.ensures) (front_copied es w l);
-        streams = subst (Streamed d.nest (streams_of d) _) (sym k.copy_spans.ensures)
-            (streamed_copied es w l f.fill_streams.ensures);
+        spans = c.requires.2;
+        copied = subst (λ (v : List ℕ). (j : ℕ) → j < 3072 → get_or v j 0 ≡ get_or es j 0) (sym c.copy_spans.ensures) (front_copied es w l);
+        streams = subst (Streamed d.nest (streams_of d) _) (sym c.copy_spans.ensures)
+            (streamed_copied es w l c.fill_streams.ensures);
       },
     )

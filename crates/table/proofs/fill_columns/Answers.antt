@@ -10,36 +10,30 @@ use borrow.Author.Rules.{rules}
 use Rattle.table.proofs.fill_columns.Goals as goal
 
 pub survey_for-v-requires : goal.survey_for-v-requires
-survey_for-v-requires c = c.Limits-of.ensures.1
+survey_for-v-requires c = c.limits_of.ensures.1
 
 pub draw-requires : goal.draw-requires
 draw-requires c =
-    let t = c in
-    let r = t in
-    let l = r in
-    let h = r.survey_for-v.ensures in
-    let k = h.1 t.if-v-eq0.true in (
-      drawable k.0 (by_gauge l.Limits-of.ensures.1 _ (none_refused _ _ _ (sym h.0 ∙ t.if-v-eq0.true)).0),
+    let h = c.survey_for-v.ensures in
+    let k = h.1 c.if-v-eq0.true in (
+      drawable k.0 (by_gauge c.limits_of.ensures.1 _ (none_refused _ _ _ (sym h.0 ∙ c.if-v-eq0.true)).0),
       k.0.surveyed,
       k.1,
       omega arith,
-      l.requires,
+      c.requires,
     )
 
 pub returns-then-v-eq0 : goal.returns-then-v-eq0
 returns-then-v-eq0 c =
-    let t = c in
-    let r = t in
-    let l = r in
+    let l = c in
     let a = l.args in
-    let h = r.survey_for-v.ensures in
-    columns_drawn (h.0 ∙ ap (λ (l : Limits). refused_for l a.s.now a.room) l.Limits-of.ensures.0) t.if-v-eq0.true
-    (h.1 t.if-v-eq0.true).0.description_is c.draw.ensures
+    let h = c.survey_for-v.ensures in
+    columns_drawn (h.0 ∙ ap (λ (l : Limits). refused_for l a.s.now a.room) l.limits_of.ensures.0) c.if-v-eq0.true
+    (h.1 c.if-v-eq0.true).0.description_is c.draw.ensures
 
 pub returns-else-v-eq0 : goal.returns-else-v-eq0
 returns-else-v-eq0 c =
-    let r = c in
-    let l = r in
+    let l = c in
     let a = l.args in
-    columns_declined (r.survey_for-v.ensures.0 ∙ ap (λ (l : Limits). refused_for l a.s.now a.room) l.Limits-of.ensures.0)
+    columns_declined (c.survey_for-v.ensures.0 ∙ ap (λ (l : Limits). refused_for l a.s.now a.room) l.limits_of.ensures.0)
     c.if-v-eq0.false c.declined.ensures

@@ -18,28 +18,24 @@ loop-i-init c =
 pub fill_stream-requires : goal.fill_stream-requires
 fill_stream-requires c =
     let l = c.loop-i in
-    let s = c in
     let a = 3072 + 2048 * l.i in (
-      flow_drawable s.requires.0 s.requires.1 l.i (omega arith) c.flow_at-f.ensures s.requires.2 s.requires.3,
-      omega (arith, mid_len a (a + 2048) l.words (omega (arith, l.invariant.1, s.requires.0.most))),
+      flow_drawable c.requires.0 c.requires.1 l.i (omega arith) c.flow_at-f.ensures c.requires.2 c.requires.3,
+      omega (arith, mid_len a (a + 2048) l.words (omega (arith, l.invariant.1, c.requires.0.most))),
     )
 
 pub loop-i-preserved : goal.loop-i-preserved
 loop-i-preserved c =
-    let f = c in
-    let t = f in
-    let l = t.loop-i in
-    let s = t in
-    let g = s.requires.0 in
+    let l = c.loop-i in
+    let g = c.requires.0 in
     let a = 3072 + 2048 * l.i in
     let k = a + 2048 - a in
-    let ys = f.fill_stream.new.block in
-    let n = f.fill_stream.auto.block in (
+    let ys = c.fill_stream.new.block in
+    let n = c.fill_stream.auto.block in (
       omega arith,
       same_len_mid a k l.words ys n ∙ l.invariant.1,
       streamed_next a k ys g.processes (omega arith) (omega arith) (omega (arith, l.invariant.1, g.most))
           (n ∙ mid_len a (a + 2048) l.words (omega (arith, l.invariant.1, g.most))) l.invariant.2
-          (flow_passed g s.requires.1 l.i (omega arith) t.flow_at-f.ensures f.fill_stream.ensures),
+          (flow_passed g c.requires.1 l.i (omega arith) c.flow_at-f.ensures c.fill_stream.ensures),
     )
 
 pub shape_of-words : goal.shape_of-words
@@ -47,8 +43,7 @@ shape_of-words c = c.loop-i.invariant.1 ∙ sym (zeros_length c.requires.4)
 
 pub returns : goal.returns
 returns c =
-    let s = c in
     let l = c.loop-i in
-    let d = s.args.v.description in
-    let e : l.i ≡ length (streams_of d) = omega (arith, s.requires.1.in_use) in
+    let d = c.args.v.description in
+    let e : l.i ≡ length (streams_of d) = omega (arith, c.requires.1.in_use) in
     subst (λ (i : ℕ). Streamed d.nest (streams_of d) i l.words) e l.invariant.2

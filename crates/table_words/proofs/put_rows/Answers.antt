@@ -27,15 +27,13 @@ store-requires c =
 
 pub loop-p-preserved : goal.loop-p-preserved
 loop-p-preserved c =
-    let f = c in
-    let w = f in
-    let l = w.loop-p in
-    let a = w.args in (
+    let l = c.loop-p in
+    let a = c.args in (
       omega arith,
-      f.store.auto.list ∙ l.invariant.1,
+      c.store.auto.list ∙ l.invariant.1,
       rows_next (row_from a.shape a.columns.now) l.p a.words.now l.invariant.2
-          (w.row_words-row.ensures ∙ ap row_words w.row_at.ensures)
-          (f.store.ensures ∙ stored_paste _ _ _ _ (omega arith) (omega arith)),
+          (c.row_words-row.ensures ∙ ap row_words c.row_at.ensures)
+          (c.store.ensures ∙ stored_paste _ _ _ _ (omega arith) (omega arith)),
     )
 
 pub returns : goal.returns

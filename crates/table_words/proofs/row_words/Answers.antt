@@ -6,9 +6,7 @@ use Rattle.table_words.proofs.row_words.Goals as goal
 
 pub returns : goal.returns
 returns c =
-    let a = c in
-    let s = a in
-    let r = s.args.r in
-    row_made r (bits_held r.point.a a.struct_told-1.given.0.1 a.bits_of.ensures)
-    (bits_held r.point.b c.struct_told-2-1.given.1.0.1 c.bits_of-2.ensures) s.vector_words-first.ensures
-    s.vector_words-last.ensures
+    let r = c.args.r in
+    row_made r (bits_held r.point.a c.struct_told-1.given.0.1 c.bits_of.ensures)
+    (bits_held r.point.b c.struct_told-2-1.given.1.0.1 c.bits_of-2.ensures) c.vector_words-first.ensures
+    c.vector_words-last.ensures

@@ -8,14 +8,12 @@ use Rattle.table_words.proofs.table_words.Goals as goal
 
 pub put_rows-requires : goal.put_rows-requires
 put_rows-requires c =
-    let f = c in
-    let n = length f.args.words.now in
-    (columns_fit n f.fill_columns-shape.ensures, columns_ready f.fill_columns-shape.ensures)
+    let n = length c.args.words.now in
+    (columns_fit n c.fill_columns-shape.ensures, columns_ready c.fill_columns-shape.ensures)
 
 pub returns : goal.returns
 returns c =
-    let f = c in
-    let words = f.args.words.now in (
-      columns_number (length words) f.fill_columns-shape.ensures,
-      columns_left (length words) f.fill_columns-shape.ensures words c.put_rows.ensures,
+    let words = c.args.words.now in (
+      columns_number (length words) c.fill_columns-shape.ensures,
+      columns_left (length words) c.fill_columns-shape.ensures words c.put_rows.ensures,
     )

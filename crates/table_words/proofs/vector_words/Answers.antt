@@ -9,9 +9,7 @@ use Rattle.table_words.proofs.vector_words.Goals as goal
 
 pub returns : goal.returns
 returns c =
-    let y = c in
-    let x = y in
-    let v = x.args.v in
-    ap₂ ◌∷◌ (bits_held v.x x.struct_told-1.given.0.1 x.bits_of.ensures)
-    (ap₂ ◌∷◌ (bits_held v.y y.struct_told-2-1.given.1.0.1 y.bits_of-2.ensures)
+    let v = c.args.v in
+    ap₂ ◌∷◌ (bits_held v.x c.struct_told-1.given.0.1 c.bits_of.ensures)
+    (ap₂ ◌∷◌ (bits_held v.y c.struct_told-2-1.given.1.0.1 c.bits_of-2.ensures)
     (ap (λ (k : ℕ). k ∷ []) (bits_held v.z c.struct_told-3-1.given.1.1.0.1 c.bits_of-3.ensures)))

@@ -4,7 +4,4 @@ use Rattle.take_give.proofs.can_give.Goals as goal
 
 pub returns : goal.returns
 returns c =
-    let f = c in
-    let y = f in
-    let x = y in
-    rw (c.gives.ensures, f.word-f.ensures.0, y.word-y.ensures.0, x.word-x.ensures.0, x.fill-n.ensures)
+    rw (c.gives.ensures, c.word-f.ensures.0, c.word-y.ensures.0, c.word-x.ensures.0, c.fill-n.ensures)

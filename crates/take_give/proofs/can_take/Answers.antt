@@ -4,6 +4,4 @@ use Rattle.take_give.proofs.can_take.Goals as goal
 
 pub returns : goal.returns
 returns c =
-    let y = c in
-    let x = y in
-    rw (c.takes.ensures, y.word-y.ensures.0, x.word-x.ensures.0, x.fill-n.ensures)
+    rw (c.takes.ensures, c.word-y.ensures.0, c.word-x.ensures.0, c.fill-n.ensures)

@@ -8,24 +8,18 @@ use Rattle.take_give.proofs.give.Goals as goal
 
 pub bounds-state-room : goal.bounds-state-room
 bounds-state-room c =
-    let s = c in
-    omega (arith, give_facts s.args.state.now s.args.k s.requires.1)
+    omega (arith, give_facts c.args.state.now c.args.k c.requires.1)
 
 pub bounds-state-from-2 : goal.bounds-state-from-2
 bounds-state-from-2 c = simp length-set (omega arith)
 
 pub overflow_cast-state : goal.overflow_cast-state
 overflow_cast-state c =
-    let s = c in
-    omega (arith, give_facts s.args.state.now s.args.k s.requires.1)
+    omega (arith, give_facts c.args.state.now c.args.k c.requires.1)
 
 pub bounds-state-at : goal.bounds-state-at
 bounds-state-at c = simp length-set (omega arith)
 
 pub returns : goal.returns
 returns c =
-    let h = c in
-    let y = h in
-    let x = y in
-    let n = x in
-    rw (h.gives_from.ensures.0, y.word-y.ensures.0, x.word-x.ensures.0, n.fill-n.ensures)
+    rw (c.gives_from.ensures.0, c.word-y.ensures.0, c.word-x.ensures.0, c.fill-n.ensures)

@@ -8,7 +8,7 @@ use Rattle.untouched.proofs.number_at.Goals as goal
 
 pub number_by-requires : goal.number_by-requires
 number_by-requires c =
-    let s = c in subst (Numbers s.args.f) (sym c.instance_at.ensures) s.requires.numbers
+    subst (Numbers c.args.f) (sym c.instance_at.ensures) c.requires.numbers
 
 pub returns : goal.returns
 returns c =

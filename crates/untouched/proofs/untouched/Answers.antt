@@ -39,23 +39,21 @@ pub loop-marks-preserved : goal.loop-marks-preserved
 loop-marks-preserved c =
     let l = c.loop-marks in
     let e = c.elements in
-    let s = c in
-    let a = s.args in
+    let a = c.args in
     let f = number_on a.f a.walk.now in
-    let b = s.requires.below l.k (omega (arith, l.invariant.1, c.if-k-instances.false)) in (
+    let b = c.requires.below l.k (omega (arith, l.invariant.1, c.if-k-instances.false)) in (
       l.invariant.0,
       omega (arith, l.invariant.1, c.if-k-instances.false),
       length-set l.marks c.number_at.result true ∙ l.invariant.2,
       subst (λ (r : ℕ). Marked f (l.k + 1) a.elements (set l.marks r true)) (sym c.number_at.ensures)
-          (marked_on f l.invariant.3 (omega (arith, b, s.requires.few, l.invariant.2, e.invariant.2))),
+          (marked_on f l.invariant.3 (omega (arith, b, c.requires.few, l.invariant.2, e.invariant.2))),
     )
 
 pub elements-preserved : goal.elements-preserved
 elements-preserved c =
     let l = c.loop-marks in
     let v = c.elements.invariant in
-    let s = c in
-    let a = s.args in
+    let a = c.args in
     let f = number_on a.f a.walk.now in
     let q = c.elements.q in
     let h : q < a.elements = omega arith in (

@@ -24,27 +24,24 @@ overflow_mul-result-else-v-eq0 c =
 
 pub returns-then-v-eq0-2 : goal.returns-then-v-eq0-2
 returns-then-v-eq0-2 c =
-    let b = c in
-    let p = b.requires in
+    let p = c.requires in
     rw (
-      sym (zero_bits tt p.1.xs) ∙ eq-eqb _ _ b.if-v-eq0.true,
-      sym (zero_bits tt p.1.ys) ∙ eq-eqb _ _ b.if-v-eq0-2.true,
+      sym (zero_bits tt p.1.xs) ∙ eq-eqb _ _ c.if-v-eq0.true,
+      sym (zero_bits tt p.1.ys) ∙ eq-eqb _ _ c.if-v-eq0-2.true,
     )
     (ap (λ (z : ℤ). lt_z z (pos 0)) (box tt (mul (at tt p.0.zs) (at tt p.1.zs))).eq)
 
 pub returns-else-v-eq0-2 : goal.returns-else-v-eq0-2
 returns-else-v-eq0-2 c =
-    let b = c in
-    let p = b.requires in
+    let p = c.requires in
     rw (
-      sym (zero_bits tt p.1.xs) ∙ eq-eqb _ _ b.if-v-eq0.true,
-      sym (zero_bits tt p.1.ys) ∙ ne_eqb _ _ b.if-v-eq0-2.false,
+      sym (zero_bits tt p.1.xs) ∙ eq-eqb _ _ c.if-v-eq0.true,
+      sym (zero_bits tt p.1.ys) ∙ ne_eqb _ _ c.if-v-eq0-2.false,
     )
     (ap (λ (z : ℤ). lt_z z (pos 0)) (box tt (mul (at tt p.0.ys) (at tt p.1.ys))).eq)
 
 pub returns-else-v-eq0 : goal.returns-else-v-eq0
 returns-else-v-eq0 c =
-    let b = c in
-    let p = b.requires in
-    rw (sym (zero_bits tt p.1.xs) ∙ ne_eqb _ _ b.if-v-eq0.false)
+    let p = c.requires in
+    rw (sym (zero_bits tt p.1.xs) ∙ ne_eqb _ _ c.if-v-eq0.false)
     (ap (λ (z : ℤ). lt_z z (pos 0)) (box tt (mul (at tt p.0.xs) (at tt p.1.xs))).eq)

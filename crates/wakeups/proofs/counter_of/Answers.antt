@@ -4,7 +4,7 @@ use Rattle.wakeups.proofs.counter_of.Goals as goal
 
 pub counter_named-requires : goal.counter_named-requires
 counter_named-requires c =
-    let s = c in rw s.requires.2 (s.requires.0, name_inside s.args.z s.args.r s.requires.1)
+    rw c.requires.2 (c.requires.0, name_inside c.args.z c.args.r c.requires.1)
 
 pub returns : goal.returns
 returns c = rw c.requires.2 at c.counter_named.ensures

@@ -14,15 +14,13 @@ loop-r-init c = (omega arith, renewed_none c.requires.2.words (λ x h. omega ari
 
 pub retest-requires : goal.retest-requires
 retest-requires c =
-    let l = c in
-    let p = l.requires in
-    (p.0, p.1, omega (arith, c.loop-r-test.true, l.count-n.ensures.0), l.loop-r.invariant.1.words)
+    let p = c.requires in
+    (p.0, p.1, omega (arith, c.loop-r-test.true, c.count-n.ensures.0), c.loop-r.invariant.1.words)
 
 pub loop-r-preserved : goal.loop-r-preserved
 loop-r-preserved c =
-    let f = c in
-    let l = f.loop-r in
-    (omega (arith, f.loop-r-test.true), renewed_then (below_next l.r) l.invariant.1 f.retest.ensures)
+    let l = c.loop-r in
+    (omega (arith, c.loop-r-test.true), renewed_then (below_next l.r) l.invariant.1 c.retest.ensures)
 
 pub shape_of-flags : goal.shape_of-flags
 shape_of-flags c = c.loop-r.invariant.1.words ∙ sym c.requires.2.words
@@ -30,8 +28,7 @@ shape_of-flags c = c.loop-r.invariant.1.words ∙ sym c.requires.2.words
 pub returns : goal.returns
 returns c =
     let l = c.loop-r in
-    let s = c in
-    let a = s.args in
+    let a = c.args in
     let e = c.count-n.ensures.0 in
     let past : (x : ℕ) → (x < l.r → ⊥) → x < rank_count a.z → ⊥ = λ x n h. n (omega (arith, e, c.loop-r-test.false)) in
-    renewed_all l.invariant.1 (λ x. false) s.requires.2 (λ x n. flag_past a.ports.now a.state.now a.z x (past x n))
+    renewed_all l.invariant.1 (λ x. false) c.requires.2 (λ x n. flag_past a.ports.now a.state.now a.z x (past x n))

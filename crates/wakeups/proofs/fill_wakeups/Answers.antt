@@ -22,11 +22,10 @@ bounds-wakeups-at c = omega (arith, c.foreign_of-at.ensures.1, c.loop-r.invarian
 pub loop-r-preserved : goal.loop-r-preserved
 loop-r-preserved c =
     let l = c.loop-r in
-    let s = c in
     let h = c.loop-r-test.true in
     let e = c.count-n.ensures.0 in (
       omega arith,
-      filled_next _ _ _ _ s.requires.2 (omega (arith, h, e)) c.foreign_of-at.ensures.0 c.foreign_of-at.ensures.1
+      filled_next _ _ _ _ c.requires.2 (omega (arith, h, e)) c.foreign_of-at.ensures.0 c.foreign_of-at.ensures.1
           (omega arith) l.invariant.1,
     )
 

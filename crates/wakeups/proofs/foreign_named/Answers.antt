@@ -72,6 +72,5 @@ returns-else-k-gt0-2 c =
 
 pub returns-in_default : goal.returns-in_default
 returns-in_default c =
-    let s = c in
-    let k : 3 < s.args.kind = omega arith in
-    rw (by_last s.args.kind k, c.end-e-in_default.ensures) (refl, omega (arith, (s.requires.0.ends _ (s.requires.1.pipe (inr k))).before))
+    let k : 3 < c.args.kind = omega arith in
+    rw (by_last c.args.kind k, c.end-e-in_default.ensures) (refl, omega (arith, (c.requires.0.ends _ (c.requires.1.pipe (inr k))).before))

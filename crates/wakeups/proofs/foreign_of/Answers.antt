@@ -5,7 +5,7 @@ use Rattle.wakeups.proofs.foreign_of.Goals as goal
 
 pub foreign_named-requires : goal.foreign_named-requires
 foreign_named-requires c =
-    let s = c in rw c.name_of-n.ensures (s.requires.0, name_inside s.args.z s.args.r s.requires.2)
+    rw c.name_of-n.ensures (c.requires.0, name_inside c.args.z c.args.r c.requires.2)
 
 pub returns : goal.returns
 returns c = rw c.name_of-n.ensures at c.foreign_named.ensures

@@ -12,29 +12,23 @@ overflow_cast-w c =
 
 pub retest-requires : goal.retest-requires
 retest-requires c =
-    let k = c in
-    let p = k.requires in
-    let o = k in
-    (p.0, p.2, omega (arith, p.3.ranks k.counter_of-at.result, c.if-w-ne0.true), o.retest_own.ensures.words)
+    let p = c.requires in
+    (p.0, p.2, omega (arith, p.3.ranks c.counter_of-at.result, c.if-w-ne0.true), c.retest_own.ensures.words)
 
 pub returns-then-w-ne0 : goal.returns-then-w-ne0
 returns-then-w-ne0 c =
-    let k = c in
-    let o = k in
-    let a = o.args in
+    let a = c.args in
     let f = c.retest.ensures in (
       f.words,
-      refreshed_some a.ports.now a.state.now a.wakeups.now a.z a.r k.counter_of-at.result k.counter_of-at.ensures.0
-          o.retest_own.ensures f,
+      refreshed_some a.ports.now a.state.now a.wakeups.now a.z a.r c.counter_of-at.result c.counter_of-at.ensures.0
+          c.retest_own.ensures f,
     )
 
 pub returns-else-w-ne0 : goal.returns-else-w-ne0
 returns-else-w-ne0 c =
-    let k = c in
-    let o = k in
-    let a = o.args in
-    let f = o.retest_own.ensures in (
+    let a = c.args in
+    let f = c.retest_own.ensures in (
       f.words,
-      refreshed_none a.ports.now a.state.now a.wakeups.now a.z a.r k.counter_of-at.result k.counter_of-at.ensures.0
+      refreshed_none a.ports.now a.state.now a.wakeups.now a.z a.r c.counter_of-at.result c.counter_of-at.ensures.0
           (omega (arith, c.if-w-ne0.false)) f,
     )

@@ -5,8 +5,7 @@ use Rattle.wakeups.proofs.retest.Goals as goal
 
 pub retest_named-requires : goal.retest_named-requires
 retest_named-requires c =
-    let n = c in
-    let p = n.requires in (p.0, p.1, p.2, sym n.name_of-n.ensures, p.3)
+    let p = c.requires in (p.0, p.1, p.2, sym c.name_of-n.ensures, p.3)
 
 pub returns : goal.returns
 returns c = c.retest_named.ensures

@@ -13,26 +13,21 @@ loop-i-init c = (omega arith, renewed_none c.requires.3 (λ x (i, h, e). omega a
 
 pub retest_named-requires : goal.retest_named-requires
 retest_named-requires c =
-    let l = c in
-    let s = l in
-    let p = s.requires in
+    let p = c.requires in
     let r = c.give_rank.ensures in (
       p.0,
       p.1,
       r.1,
-      rw r.0 (give_name s.args.z s.args.p l.loop-i.i p.2 (omega (arith, c.loop-i-test.true))),
-      l.loop-i.invariant.1.words,
+      rw r.0 (give_name c.args.z c.args.p c.loop-i.i p.2 (omega (arith, c.loop-i-test.true))),
+      c.loop-i.invariant.1.words,
     )
 
 pub loop-i-preserved : goal.loop-i-preserved
 loop-i-preserved c =
-    let f = c in
-    let g = f in
-    let l = g in
-    let a = l.args in (
-      omega (arith, g.loop-i-test.true),
-      renewed_then (λ x. give_next a.z a.p l.loop-i.i g.give_rank.result x g.give_rank.ensures.0) l.loop-i.invariant.1
-          f.retest_named.ensures,
+    let a = c.args in (
+      omega (arith, c.loop-i-test.true),
+      renewed_then (λ x. give_next a.z a.p c.loop-i.i c.give_rank.result x c.give_rank.ensures.0) c.loop-i.invariant.1
+          c.retest_named.ensures,
     )
 
 pub shape_of-flags : goal.shape_of-flags

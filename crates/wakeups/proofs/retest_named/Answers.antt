@@ -10,7 +10,7 @@ use Rattle.wakeups.proofs.retest_named.Goals as goal
 
 pub can-b-requires : goal.can-b-requires
 can-b-requires c =
-    let s = c in (s.requires.0, rw s.requires.3 at (name_inside s.args.z s.args.r s.requires.2))
+    (c.requires.0, rw c.requires.3 at (name_inside c.args.z c.args.r c.requires.2))
 
 pub put-requires : goal.put-requires
 put-requires c =
@@ -19,8 +19,6 @@ put-requires c =
 
 pub returns : goal.returns
 returns c =
-    let t = c in
-    let s = t in
-    let a = s.args in
-    let e : t.can-b.result ≡ can_at a.ports.now a.state.now a.z a.r = rw s.requires.3 t.can-b.ensures in
-    renewed_one a.r t.can-b.result (e ∙ sym (flag_in _ _ a.z a.r s.requires.2)) c.put.ensures
+    let a = c.args in
+    let e : c.can-b.result ≡ can_at a.ports.now a.state.now a.z a.r = rw c.requires.3 c.can-b.ensures in
+    renewed_one a.r c.can-b.result (e ∙ sym (flag_in _ _ a.z a.r c.requires.2)) c.put.ensures

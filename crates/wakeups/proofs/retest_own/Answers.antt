@@ -25,32 +25,25 @@ retest_named-requires-in-2 c = let p = c.requires in (p.0, p.1, p.2, sym p.3, p.
 
 pub retest_gives-requires : goal.retest_gives-requires
 retest_gives-requires c =
-    let s = c in
-    let f = own_fire s.args.z s.args.r s.args.n s.requires.2 s.requires.3 c.in-2.is in
-    (s.requires.0, s.requires.1, f.0, c.retest_named-in-2.ensures.words)
+    let f = own_fire c.args.z c.args.r c.args.n c.requires.2 c.requires.3 c.in-2.is in
+    (c.requires.0, c.requires.1, f.0, c.retest_named-in-2.ensures.words)
 
 pub retest_port-requires : goal.retest_port-requires
 retest_port-requires c =
-    let m = c in
-    let s = c in
-    let k = odd (kind_most s.args.z s.args.r s.args.n s.requires.2 s.requires.3) m.in_default.rest.0.1 m.in_default.rest.1 in
-    let f = own_port s.args.z s.args.r s.args.n s.requires.2 s.requires.3 k in (s.requires.0, s.requires.1, f.0, f.1, s.requires.4)
+    let k = odd (kind_most c.args.z c.args.r c.args.n c.requires.2 c.requires.3) c.in_default.rest.0.1 c.in_default.rest.1 in
+    let f = own_port c.args.z c.args.r c.args.n c.requires.2 c.requires.3 k in (c.requires.0, c.requires.1, f.0, f.1, c.requires.4)
 
 pub returns-in-0 : goal.returns-in-0
 returns-in-0 c =
-    let s = c in
-    renewed_less (own_alone s.args.z s.args.r s.args.n s.requires.2 s.requires.3 (fourth c.in-0.is))
+    renewed_less (own_alone c.args.z c.args.r c.args.n c.requires.2 c.requires.3 (fourth c.in-0.is))
     c.retest_named.ensures
 
 pub returns-in-2 : goal.returns-in-2
 returns-in-2 c =
-    let s = c in
-    renewed_then (own_fire s.args.z s.args.r s.args.n s.requires.2 s.requires.3 c.in-2.is).1
+    renewed_then (own_fire c.args.z c.args.r c.args.n c.requires.2 c.requires.3 c.in-2.is).1
     c.retest_named-in-2.ensures c.retest_gives.ensures
 
 pub returns-in_default : goal.returns-in_default
 returns-in_default c =
-    let m = c in
-    let s = c in
-    let k = odd (kind_most s.args.z s.args.r s.args.n s.requires.2 s.requires.3) m.in_default.rest.0.1 m.in_default.rest.1 in
-    renewed_less (own_port s.args.z s.args.r s.args.n s.requires.2 s.requires.3 k).2 c.retest_port.ensures
+    let k = odd (kind_most c.args.z c.args.r c.args.n c.requires.2 c.requires.3) c.in_default.rest.0.1 c.in_default.rest.1 in
+    renewed_less (own_port c.args.z c.args.r c.args.n c.requires.2 c.requires.3 k).2 c.retest_port.ensures

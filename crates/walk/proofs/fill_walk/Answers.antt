@@ -19,9 +19,8 @@ loop-p-init c = (omega arith, refl, passed_none _, λ k h. absurd (omega arith))
 pub put_line-from-requires : goal.put_line-from-requires
 put_line-from-requires c =
     let l = c.loop-p in
-    let s = c in
-    let p = s.requires in
-    let h : l.p < length (processesOf s.args.n) = omega (arith, p.ground.processes_is) in
+    let p = c.requires in
+    let h : l.p < length (processesOf c.args.n) = omega (arith, p.ground.processes_is) in
     record {
       walkable = p.walkable;
       held = p.held;
@@ -36,9 +35,8 @@ put_line-from-requires c =
 pub loop-p-preserved : goal.loop-p-preserved
 loop-p-preserved c =
     let l = c.loop-p in
-    let s = c in
-    let n = s.args.n in
-    let h : l.p < length (processesOf n) = omega (arith, s.requires.ground.processes_is) in
+    let n = c.args.n in
+    let h : l.p < length (processesOf n) = omega (arith, c.requires.ground.processes_is) in
     let e = c.put_line-from.ensures in (
       omega arith,
       e.1.long ∙ l.invariant.1,
@@ -50,6 +48,5 @@ loop-p-preserved c =
 pub returns : goal.returns
 returns c =
     let l = c.loop-p in
-    let s = c in
-    let e : l.p ≡ length (processesOf s.args.n) = omega (arith, l.invariant.0, s.requires.ground.processes_is) in
-    record { at = λ k h. l.invariant.3 k (omega (arith, passed_all s.args.n l.p e, l.invariant.2)) }
+    let e : l.p ≡ length (processesOf c.args.n) = omega (arith, l.invariant.0, c.requires.ground.processes_is) in
+    record { at = λ k h. l.invariant.3 k (omega (arith, passed_all c.args.n l.p e, l.invariant.2)) }

@@ -20,6 +20,5 @@ overflow_cast-walk-3 c = narrows c.requires.1.zs
 
 pub returns : goal.returns
 returns c =
-    let s = c in
-    let h = s.requires.1 in
-    put_by s.args.walk.now s.args.k s.args.v (narrowed h.xs) (narrowed h.ys) (narrowed h.zs)
+    let h = c.requires.1 in
+    put_by c.args.walk.now c.args.k c.args.v (narrowed h.xs) (narrowed h.ys) (narrowed h.zs)

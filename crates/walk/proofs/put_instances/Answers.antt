@@ -30,13 +30,12 @@ put_instance-requires c =
 pub loop-k-preserved : goal.loop-k-preserved
 loop-k-preserved c =
     let l = c.loop-k in
-    let s = c in
-    let a = s.args in
+    let a = c.args in
     let e = c.put_instance.ensures in (
       omega arith,
       ap length e ∙ put_length l.walk (a.from + l.k) _ ∙ l.invariant.1,
       subst (Lined (λ i. shift3 a.first (pos i) a.increment) a.from (l.k + 1) a.walk.now) (sym e)
-          (lined_on l.invariant.2 (omega (arith, s.requires.fits, s.requires.room)) c.later.ensures),
+          (lined_on l.invariant.2 (omega (arith, c.requires.fits, c.requires.room)) c.later.ensures),
     )
 
 pub returns : goal.returns

@@ -47,8 +47,7 @@ overflow_add-result c =
 
 pub returns : goal.returns
 returns c =
-    let s = c in
-    let p = s.requires in (
-      ap (λ (k : ℕ). s.args.from + k) (p.held.counts _ p.process),
+    let p = c.requires in (
+      ap (λ (k : ℕ). c.args.from + k) (p.held.counts _ p.process),
       own_line_lem p c.first_of.ensures.0 c.put_instances.ensures,
     )

@@ -5,6 +5,5 @@ use Rattle.walkable.proofs.early_refusal.Goals as goal
 
 pub returns : goal.returns
 returns c =
-    let w = c in
-    let a = w.args in
-    early a.limits a.s.now c.first_of.ensures w.board_refusal-board.ensures w.refusal-words.ensures
+    let a = c.args in
+    early a.limits a.s.now c.first_of.ensures c.board_refusal-board.ensures c.refusal-words.ensures

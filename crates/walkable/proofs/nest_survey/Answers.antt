@@ -42,13 +42,11 @@ pub returns-then-early-eq0 : goal.returns-then-early-eq0
 unfolding numbered
 returns-then-early-eq0 c =
     let v = survey_is c in
-    let t = c in
-    let e = t in
-    let a = e.args in
+    let a = c.args in
     let l = a.limits in
     let s = a.s.now in (
-      goes_on (early_tests l s) (layout_tests l (description_of s).nest) tt e.early_refusal-early.ensures
-          t.if-early-eq0.true
+      goes_on (early_tests l s) (layout_tests l (description_of s).nest) tt c.early_refusal-early.ensures
+          c.if-early-eq0.true
           (c.nest_refusal.ensures ∙ ap (λ (d : Description). refusal (layout_tests l d.nest)) v.description_is)
           ∙ walk_tests_lem l s,
       λ _. record {
@@ -59,12 +57,11 @@ returns-then-early-eq0 c =
 
 pub returns-else-early-eq0 : goal.returns-else-early-eq0
 returns-else-early-eq0 c =
-    let e = c in
-    let a = e.args in
+    let a = c.args in
     let l = a.limits in
     let s = a.s.now in (
       c.refused.ensures
-          ∙ stops (early_tests l s) (layout_tests l (description_of s).nest) e.early_refusal-early.ensures c.if-early-eq0.false
+          ∙ stops (early_tests l s) (layout_tests l (description_of s).nest) c.early_refusal-early.ensures c.if-early-eq0.false
           ∙ walk_tests_lem l s,
       λ z. absurd (c.if-early-eq0.false (sym c.refused.ensures ∙ z)),
     )

@@ -8,23 +8,21 @@ use borrow.Author.Rules.{rules}
 use Rattle.walkable.proofs.walk_of.Goals as goal
 
 pub survey_within-v-requires : goal.survey_within-v-requires
-survey_within-v-requires c = c.Limits-of.ensures.1
+survey_within-v-requires c = c.limits_of.ensures.1
 
 pub fill_walk-requires : goal.fill_walk-requires
 fill_walk-requires c =
-    let v = c in
     let z = c.if-v-eq0.true in
-    let h = v.survey_within-v.ensures.1 z in
-    let w = walkable v.Limits-of.ensures.1 h.0 (sym v.survey_within-v.ensures.0 ∙ z) in
+    let h = c.survey_within-v.ensures.1 z in
+    let w = walkable c.limits_of.ensures.1 h.0 (sym c.survey_within-v.ensures.0 ∙ z) in
     record { walkable = w; ground = h.0.surveyed.ground; held = h.1; words = omega arith; room = omega arith }
 
 pub returns-then-v-eq0 : goal.returns-then-v-eq0
 returns-then-v-eq0 c =
-    let v = c in
-    let s = v.args.s.now in
+    let s = c.args.s.now in
     let z = c.if-v-eq0.true in
-    let h = v.survey_within-v.ensures in
-    let l = v.Limits-of.ensures in
+    let h = c.survey_within-v.ensures in
+    let l = c.limits_of.ensures in
     let w = walkable l.1 (h.1 z).0 (sym h.0 ∙ z) in (
       h.0 ∙ ap (λ (l : Limits). walk_refusal l s) l.0,
       λ _. (
@@ -37,10 +35,9 @@ returns-then-v-eq0 c =
 
 pub returns-else-v-eq0 : goal.returns-else-v-eq0
 returns-else-v-eq0 c =
-    let v = c in
-    let s = v.args.s.now in
-    let h = v.survey_within-v.ensures in (
-      h.0 ∙ ap (λ (l : Limits). walk_refusal l s) v.Limits-of.ensures.0,
+    let s = c.args.s.now in
+    let h = c.survey_within-v.ensures in (
+      h.0 ∙ ap (λ (l : Limits). walk_refusal l s) c.limits_of.ensures.0,
       λ z. absurd (c.if-v-eq0.false z),
       λ f. (h.2 f, refl),
     )

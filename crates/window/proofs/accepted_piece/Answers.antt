@@ -8,24 +8,21 @@ use Rattle.window.proofs.accepted_piece.Goals as goal
 
 pub returns-then-r-eq0 : goal.returns-then-r-eq0
 returns-then-r-eq0 c =
-    let k = c in
-    let e = k.element_count-e.ensures.0 in
-    let s = k in
-    let a = s.args in
+    let e = c.element_count-e.ensures.0 in
+    let a = c.args in
     let d = a.v.description in
-    let l = lists_fit d a.pipe a.side a.waiting a.received e k.of_window-r.ensures c.if-r-eq0.true in
+    let l = lists_fit d a.pipe a.side a.waiting a.received e c.of_window-r.ensures c.if-r-eq0.true in
     let h = c.located.ensures in (
       h ∙ ap (piece_of d a.pipe) (by_pipe_lem d a.pipe a.side a.waiting a.received l.0 l.1 l.2),
       subst (λ (r : Piece). Within r a.waiting a.received) (sym h)
-          (located_within d a.pipe a.side a.waiting a.received l.0 l.1 s.requires.0.laid),
+          (located_within d a.pipe a.side a.waiting a.received l.0 l.1 c.requires.0.laid),
     )
 
 pub returns-else-r-eq0 : goal.returns-else-r-eq0
 returns-else-r-eq0 c =
-    let k = c in
-    let e = k.element_count-e.ensures.0 in
-    let a = k.args in
+    let e = c.element_count-e.ensures.0 in
+    let a = c.args in
     let d = a.v.description in
     let z = c.if-r-eq0.false in
     refused_piece d a.pipe c.refused.ensures z
-    (by_lists d a.pipe a.side a.waiting a.received e k.of_window-r.ensures z)
+    (by_lists d a.pipe a.side a.waiting a.received e c.of_window-r.ensures z)

@@ -57,9 +57,8 @@ loop-i-preserved c =
 
 pub returns : goal.returns
 returns c =
-    let s = c in
-    let d = s.args.v.description in
+    let d = c.args.v.description in
     let l = c.loop-i in (
-      stream_end d.nest l.w (streams_of d) l.i (omega (arith, c.loop-i-test.false, s.requires.0.in_use)) ∙ l.invariant.2,
-      omega (arith, l.invariant.1, l.invariant.0, s.requires.0.few.ranged.sized.most_streams),
+      stream_end d.nest l.w (streams_of d) l.i (omega (arith, c.loop-i-test.false, c.requires.0.in_use)) ∙ l.invariant.2,
+      omega (arith, l.invariant.1, l.invariant.0, c.requires.0.few.ranged.sized.most_streams),
     )

@@ -10,12 +10,10 @@ all_searched-w-requires c = let p = c.requires in (p.0.described, p.1, p.2, p.3)
 
 pub returns-then-w : goal.returns-then-w
 returns-then-w c =
-    let s = c in
-    let a = s.args in
-    found_piece a.v.description a.pipe s.all_searched-w.ensures.0 c.if-w.true refl refl refl
+    let a = c.args in
+    found_piece a.v.description a.pipe c.all_searched-w.ensures.0 c.if-w.true refl refl refl
 
 pub returns-else-w : goal.returns-else-w
 returns-else-w c =
-    let s = c in
-    let a = s.args in
-    lost_piece a.v.description a.pipe s.all_searched-w.ensures.0 c.if-w.false c.refused.ensures
+    let a = c.args in
+    lost_piece a.v.description a.pipe c.all_searched-w.ensures.0 c.if-w.false c.refused.ensures

@@ -8,15 +8,14 @@ use Rattle.window.specs.Pieces.{piece_of, own_tests}
 use Rattle.window.proofs.piece_of.Goals as goal
 
 pub piece_within-requires : goal.piece_within-requires
-piece_within-requires c = c.Limits-of.ensures.1
+piece_within-requires c = c.limits_of.ensures.1
 
 pub returns : goal.returns
 returns c =
-    let b = c in
-    let a = b.args in
+    let a = c.args in
     let d = description_of a.s.now in
     let e = c.piece_within.ensures in (
       e.0 ∙ ap (λ (l : Limits). piece_of d a.pipe (refused_by l a.s.now (own_tests d a.pipe a.side a.waiting a.received)))
-          b.Limits-of.ensures.0,
+          c.limits_of.ensures.0,
       e.1,
     )

@@ -15,12 +15,11 @@ loop-p-init c = (omega arith, omega arith, refl)
 
 pub visited-w-requires : goal.visited-w-requires
 visited-w-requires c =
-    let s = c in
     let l = c.loop-p in
-    let p = s.requires.0 in
+    let p = c.requires.0 in
     let few = p.seen.flows.laid.processes in (
       record { seen = p.seen; lt = omega (arith, p.counted, c.loop-p-test.true) },
-      omega (arith, l.invariant.1, s.requires.1, p.counted, few, c.loop-p-test.true),
+      omega (arith, l.invariant.1, c.requires.1, p.counted, few, c.loop-p-test.true),
     )
 
 pub overflow_add-p : goal.overflow_add-p
@@ -28,22 +27,20 @@ overflow_add-p c = omega (arith, c.loop-p-test.true)
 
 pub loop-p-preserved : goal.loop-p-preserved
 loop-p-preserved c =
-    let s = c in
-    let f = s.args.f in
+    let f = c.args.f in
     let l = c.loop-p in
     let t = c.loop-p-test.true in (
       omega (arith, t),
       omega (arith, l.invariant.1, c.visited-w.ensures.1),
       ap (λ (w : Search). results w (lengths_of f.nest f.stream (drop (l.p + 1) (processes f.nest)))) c.visited-w.ensures.0
-          ∙ visit_next f.nest f.stream l.w (processes f.nest) l.p (omega (arith, t, s.requires.0.counted)) ∙ l.invariant.2,
+          ∙ visit_next f.nest f.stream l.w (processes f.nest) l.p (omega (arith, t, c.requires.0.counted)) ∙ l.invariant.2,
     )
 
 pub returns : goal.returns
 returns c =
-    let s = c in
-    let f = s.args.f in
+    let f = c.args.f in
     let l = c.loop-p in
-    let p = s.requires.0 in (
+    let p = c.requires.0 in (
       visit_end f.nest f.stream l.w (processes f.nest) l.p (omega (arith, c.loop-p-test.false, l.invariant.0, p.counted))
           ∙ l.invariant.2,
       omega (arith, l.invariant.1, l.invariant.0, p.counted, p.seen.flows.laid.processes),

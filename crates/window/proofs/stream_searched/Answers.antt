@@ -9,6 +9,5 @@ fill_lanes-requires c = record { flowing = c.requires.0; words = refl; zeros = Î
 
 pub searched-requires : goal.searched-requires
 searched-requires c =
-    let k = c in
-    let p = k.requires in
-    (record { seen = k.fill_lanes.ensures; counted = p.0.counted }, p.1)
+    let p = c.requires in
+    (record { seen = c.fill_lanes.ensures; counted = p.0.counted }, p.1)

@@ -6,9 +6,8 @@ use Rattle.window.proofs.window.Goals as goal
 
 pub returns : goal.returns
 returns c =
-    let p = c in
-    let a = p.args in
-    let e = p.piece_of-piece.ensures.0 in (
+    let a = c.args in
+    let e = c.piece_of-piece.ensures.0 in (
       number_is _ a.s.now a.pipe a.side a.waiting.now a.received.now e,
       part_is _ a.s.now a.pipe a.side a.waiting.now a.received.now e c.part_of.ensures,
     )

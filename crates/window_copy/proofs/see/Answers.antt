@@ -9,7 +9,6 @@ use Rattle.window_copy.proofs.see.Goals as goal
 
 pub returns : goal.returns
 returns c =
-    let k = c in
-    let w = k.window-seen.ensures in
-    let a = k.args in
-    (k.copy.ensures ∙ ap (λ (p : List ℕ). copied p a.part.now) w.1, ap (λ (r : ℕ). words_of r []) w.0)
+    let w = c.window-seen.ensures in
+    let a = c.args in
+    (c.copy.ensures ∙ ap (λ (p : List ℕ). copied p a.part.now) w.1, ap (λ (r : ℕ). words_of r []) w.0)

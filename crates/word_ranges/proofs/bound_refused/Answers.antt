@@ -13,6 +13,5 @@ returns-then-above_y c =
 
 pub returns-else-above_y : goal.returns-else-above_y
 returns-else-above_y c =
-    let b = c in
-    rw (sym b.above_x.ensures ∙ b.if-above_x.false, sym b.above_y.ensures ∙ c.if-above_y.false)
+    rw (sym c.above_x.ensures ∙ c.if-above_x.false, sym c.above_y.ensures ∙ c.if-above_y.false)
     c.above_z.ensures

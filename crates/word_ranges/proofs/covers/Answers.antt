@@ -6,15 +6,11 @@ use Rattle.word_ranges.proofs.covers.Goals as goal
 
 pub returns-then-r-w : goal.returns-then-r-w
 returns-then-r-w c =
-    let t = c in
-    let s = t in
-    let w = tower s.args.w s.ranges.w.sfits in
-    let l = tower s.args.r.least t.struct_told-1.given.0.1 in
-    rw (sym (ap₂ le_z l w) ∙ c.if-r-w.true) (ap₂ le_z w (tower s.args.r.greatest c.struct_told-then-r-w-1.given.1.0.1))
+    let w = tower c.args.w c.ranges.w.sfits in
+    let l = tower c.args.r.least c.struct_told-1.given.0.1 in
+    rw (sym (ap₂ le_z l w) ∙ c.if-r-w.true) (ap₂ le_z w (tower c.args.r.greatest c.struct_told-then-r-w-1.given.1.0.1))
 
 pub returns-else-r-w : goal.returns-else-r-w
 returns-else-r-w c =
-    let t = c in
-    let s = t in
-    let w = tower s.args.w s.ranges.w.sfits in
-    let l = tower s.args.r.least t.struct_told-1.given.0.1 in rw (sym (ap₂ le_z l w) ∙ c.if-r-w.false) c.if-r-w.false
+    let w = tower c.args.w c.ranges.w.sfits in
+    let l = tower c.args.r.least c.struct_told-1.given.0.1 in rw (sym (ap₂ le_z l w) ∙ c.if-r-w.false) c.if-r-w.false

@@ -11,16 +11,12 @@ use Rattle.word_ranges.proofs.in_range.Goals as goal
 
 pub returns-then-is_direction : goal.returns-then-is_direction
 returns-then-is_direction c =
-    let d = c in
-    let s = d in
-    let w = tower s.args.w s.ranges.w.sfits in
-    rw (sym d.is_direction.ensures ∙ c.if-is_direction.true)
-    (ap (λ (n : ℕ). eqb n 1) (c.magnitude.ensures ∙ ap nat_abs w) ∙ direction_is s.args.w)
+    let w = tower c.args.w c.ranges.w.sfits in
+    rw (sym c.is_direction.ensures ∙ c.if-is_direction.true)
+    (ap (λ (n : ℕ). eqb n 1) (c.magnitude.ensures ∙ ap nat_abs w) ∙ direction_is c.args.w)
 
 pub returns : goal.returns
 returns c =
-    let d = c in
-    let s = d in
-    let w = tower s.args.w s.ranges.w.sfits in
-    rw (sym d.is_direction.ensures ∙ c.if-is_direction.false)
+    let w = tower c.args.w c.ranges.w.sfits in
+    rw (sym c.is_direction.ensures ∙ c.if-is_direction.false)
     (c.covers.ensures ∙ ap₂ within c.range_at.ensures w)

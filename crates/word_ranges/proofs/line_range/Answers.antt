@@ -13,23 +13,20 @@ returns-then-j-eq0 c = rw (eq-eqb _ _ c.if-j-eq0.true) c.up_to.ensures
 
 pub returns-then-j-lt4 : goal.returns-then-j-lt4
 returns-then-j-lt4 c =
-    let b = c in
-    rw (ne_eqb _ _ b.if-j-eq0.false, lt-ltb _ _ b.if-j-lt4.true)
+    rw (ne_eqb _ _ c.if-j-eq0.false, lt-ltb _ _ c.if-j-lt4.true)
     (c.up_to-then-j-lt4.ensures ∙ ap (λ (n : ℕ). pos 0 to pos n) (add-one _))
 
 pub returns-then-j-eq4 : goal.returns-then-j-eq4
 returns-then-j-eq4 c =
-    let b = c in
-    rw (ne_eqb _ _ b.if-j-eq0.false, le-ltb _ _ b.if-j-lt4.false, eq-eqb _ _ b.if-j-eq4.true) c.up_to-then-j-eq4.ensures
+    rw (ne_eqb _ _ c.if-j-eq0.false, le-ltb _ _ c.if-j-lt4.false, eq-eqb _ _ c.if-j-eq4.true) c.up_to-then-j-eq4.ensures
 
 pub returns-then-j-eq5 : goal.returns-then-j-eq5
 returns-then-j-eq5 c =
-    let b = c in
     rw (
-      ne_eqb _ _ b.if-j-eq0.false,
-      le-ltb _ _ b.if-j-lt4.false,
-      ne_eqb _ _ b.if-j-eq4.false,
-      eq-eqb _ _ b.if-j-eq5.true,
+      ne_eqb _ _ c.if-j-eq0.false,
+      le-ltb _ _ c.if-j-lt4.false,
+      ne_eqb _ _ c.if-j-eq4.false,
+      eq-eqb _ _ c.if-j-eq5.true,
     ) c.up_to-then-j-eq5.ensures
 
 pub returns : goal.returns

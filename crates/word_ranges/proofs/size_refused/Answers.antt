@@ -15,6 +15,5 @@ returns-then-outside-2 c =
 
 pub returns-else-outside-2 : goal.returns-else-outside-2
 returns-else-outside-2 c =
-    let b = c in
-    rw (sym b.outside.ensures ∙ b.if-outside.false, sym b.outside-else-outside.ensures ∙ c.if-outside-2.false)
+    rw (sym c.outside.ensures ∙ c.if-outside.false, sym c.outside-else-outside.ensures ∙ c.if-outside-2.false)
     c.outside-else-outside-2.ensures

@@ -19,7 +19,6 @@ loop-i-preserved c =
 
 pub returns : goal.returns
 returns c =
-    let s = c in
     let l = c.loop-i in
-    let e : l.i ≡ length s.args.values.now = omega (arith, c.loop-i-test.false, l.invariant.0) in
-    l.invariant.2 ∙ ap (λ (k : ℕ). stored s.args.values.now s.args.at k s.args.list.now) e
+    let e : l.i ≡ length c.args.values.now = omega (arith, c.loop-i-test.false, l.invariant.0) in
+    l.invariant.2 ∙ ap (λ (k : ℕ). stored c.args.values.now c.args.at k c.args.list.now) e

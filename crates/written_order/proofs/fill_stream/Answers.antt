@@ -10,13 +10,9 @@ flow_at-f-requires c = omega (arith, c.requires.2, c.requires.0.few.ranged.sized
 
 pub fill_column-requires : goal.fill_column-requires
 fill_column-requires c =
-    let f = c in
-    let s = f in
-    filling s.requires.0 s.requires.1 s.args.i s.requires.2 f.flow_at-f.ensures c.elements_in-start.ensures
+    filling c.requires.0 c.requires.1 c.args.i c.requires.2 c.flow_at-f.ensures c.elements_in-start.ensures
 
 pub returns : goal.returns
 returns c =
-    let f = c in
-    let s = f in
-    column_is s.requires.0 s.requires.1 s.args.i s.requires.2 f.flow_at-f.ensures c.elements_in-start.ensures
-    s.args.table.now c.fill_column.ensures
+    column_is c.requires.0 c.requires.1 c.args.i c.requires.2 c.flow_at-f.ensures c.elements_in-start.ensures
+    c.args.table.now c.fill_column.ensures

@@ -18,18 +18,16 @@ fill_stream-requires c = let p = c.requires in (p.0, p.1, c.loop-i-test.true)
 
 pub loop-i-preserved : goal.loop-i-preserved
 loop-i-preserved c =
-    let b = c in
-    let a = b.args in
+    let a = c.args in
     let d = a.v.description in (
       omega arith,
-      c.fill_stream.ensures ∙ ap (column b.loop-i.i (place d b.loop-i.i) (length (instances d.nest))) b.loop-i.invariant.1
-          ∙ sym (columns_next d b.loop-i.i a.table.now),
+      c.fill_stream.ensures ∙ ap (column c.loop-i.i (place d c.loop-i.i) (length (instances d.nest))) c.loop-i.invariant.1
+          ∙ sym (columns_next d c.loop-i.i a.table.now),
     )
 
 pub returns : goal.returns
 returns c =
-    let b = c in
-    let a = b.args in
+    let a = c.args in
     let d = a.v.description in
-    let e : b.loop-i.i ≡ d.sizes.streams = omega arith in
-    b.loop-i.invariant.1 ∙ ap (λ (i : ℕ). columns d i a.table.now) e
+    let e : c.loop-i.i ≡ d.sizes.streams = omega arith in
+    c.loop-i.invariant.1 ∙ ap (λ (i : ℕ). columns d i a.table.now) e

@@ -9,14 +9,12 @@ use Rattle.written_order.proofs.run_instance.Goals as goal
 
 pub execute-requires : goal.execute-requires
 execute-requires c =
-    let a = c in
-    let d = a.args.d in
-    let p = a.requires in
-    subst₂ (Runnable d.sizes.lines d.lines) (sym p.4) (sym (lent d a.args.table.now a.args.k p.2 p.3))
-    (runnable d p.1 p.0 a.args.k p.3)
+    let d = c.args.d in
+    let p = c.requires in
+    subst₂ (Runnable d.sizes.lines d.lines) (sym p.4) (sym (lent d c.args.table.now c.args.k p.2 p.3))
+    (runnable d p.1 p.0 c.args.k p.3)
 
 pub returns : goal.returns
 returns c =
-    let a = c in
-    executed a.args.d a.args.k a.args.table.now a.args.store.now a.requires.2 a.requires.3 a.requires.5
+    executed c.args.d c.args.k c.args.table.now c.args.store.now c.requires.2 c.requires.3 c.requires.5
     c.execute.ensures

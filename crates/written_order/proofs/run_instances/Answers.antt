@@ -26,18 +26,15 @@ loop-k-init c =
 pub run_instance-requires : goal.run_instance-requires
 run_instance-requires c =
     let l = c.loop-k in
-    let w = c in
-    let s = w in
-    let p = s.requires in
-    let t : l.k < length (instances s.args.v.description.nest) = omega (arith, c.loop-k-test.true, l.invariant.0) in
-    (p.0, p.1.in_use, p.2, t, l.invariant.2, reached (nest_bounded p.0.few.ranged.nest) w.course_of-course.ensures.0 l.invariant.4 t)
+    let p = c.requires in
+    let t : l.k < length (instances c.args.v.description.nest) = omega (arith, c.loop-k-test.true, l.invariant.0) in
+    (p.0, p.1.in_use, p.2, t, l.invariant.2, reached (nest_bounded p.0.few.ranged.nest) c.course_of-course.ensures.0 l.invariant.4 t)
 
 pub next-x-requires : goal.next-x-requires
 next-x-requires c =
     let l = c.loop-k in
-    let w = c in
-    let p = w.requires in
-    let e = w.course_of-course.ensures in (
+    let p = c.requires in
+    let e = c.course_of-course.ensures in (
       e.1,
       reached_small (nest_bounded p.0.few.ranged.nest) e.0 l.invariant.4
           (omega (arith, c.loop-k-test.true, l.invariant.0)),
@@ -47,15 +44,14 @@ pub loop-k-preserved : goal.loop-k-preserved
 loop-k-preserved c =
     let r = c.run_instance in
     let l = c.loop-k in
-    let w = c in
-    let d = w.args.v.description in
+    let d = c.args.v.description in
     let xs = instances d.nest in
     let t = c.loop-k-test.true in (
       l.invariant.0,
       omega (arith, t),
       r.auto.store ∙ l.invariant.2,
       ap (execute_all d (drop (l.k + 1) xs)) r.ensures ∙ run_next d xs l.k l.store (omega (arith, t, l.invariant.0)) ∙ l.invariant.3,
-      c.next-x.ensures ∙ ap (next_of w.course_of-course.result) l.invariant.4 ∙ sym (after_next w.course_of-course.result l.k),
+      c.next-x.ensures ∙ ap (next_of c.course_of-course.result) l.invariant.4 ∙ sym (after_next c.course_of-course.result l.k),
     )
 
 pub returns : goal.returns

@@ -13,8 +13,7 @@ slice_bounds-run_instances-end c =
 
 pub run_instances-requires : goal.run_instances-requires
 run_instances-requires c =
-    let a = c in
-    let p = a.requires in
-    let d = a.args.v.description in
+    let p = c.requires in
+    let d = c.args.v.description in
     let t = columns_table d p.1.in_use p.0 _ (length-replicate {A = ℕ} 24576 0) in
     (p.0, p.1, subst (Table d) (sym c.fill_table.ensures) t, p.2)
