@@ -3,4 +3,4 @@ use Rattle.std.proofs.Common.{◌-◌, ◌*◌, ◌≤◌, length, arith, rules}
 use Rattle.compare.proofs.print_instances.Goals as goal
 
 pub instance_at-requires : goal.instance_at-requires
-instance_at-requires c = omega (arith, c.loop-k.invariant.1)
+instance_at-requires g c = omega (arith, c.loop-k.invariant.1)
