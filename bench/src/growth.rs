@@ -12,7 +12,7 @@ pub fn print() {
     }
 }
 
-/// Two lines for each call, a column for each array; a run and a clocked run to the end have one line, by the step.
+/// Two lines for each call, a column for each array; a run has one line, by the step.
 fn print_family(family: &[Array]) {
     let names: Vec<&str> = family.iter().map(|array| array.name.as_str()).collect();
     print_row("", names);
@@ -21,17 +21,14 @@ fn print_family(family: &[Array]) {
     print_row("size", sizes.collect());
     let mut none = Vec::new();
     for (call, name) in Call::ALL {
-        if call == Call::ClockHalf {
-            continue;
-        }
         let times = works
             .iter_mut()
             .map(|work| least(work, call, [&LIBRARY])[0]);
         let times: Vec<f64> = times.collect();
-        if [Call::RunAll, Call::ClockAll].contains(&call) {
+        if call == Call::RunAll {
             let pairs = times.iter().zip(&none).zip(&works);
             let by_step = pairs.map(|((time, none), work)| (time - none) / f64::from(work.steps()));
-            print_row(&format!("{name}, a step"), by_step.map(shown).collect());
+            print_row("run, a step", by_step.map(shown).collect());
             continue;
         }
         print_row(name, times.iter().copied().map(shown).collect());
@@ -46,5 +43,5 @@ fn print_row<T: AsRef<str>>(name: &str, columns: Vec<T>) {
     let columns = columns
         .iter()
         .map(|column| format!(" {:>18}", column.as_ref()));
-    println!("{name:14}{}", columns.collect::<String>());
+    println!("{name:12}{}", columns.collect::<String>());
 }

@@ -70,19 +70,6 @@ extern "C" {
         state_length: usize,
         answer: *mut u32,
     ) -> u32;
-    fn beqlanosh_clock(
-        board: u32,
-        bytes: *const u8,
-        length: usize,
-        tick: i32,
-        waiting: *const u32,
-        waiting_length: usize,
-        received: *mut u32,
-        received_length: usize,
-        state: *mut u32,
-        state_length: usize,
-        answer: *mut i32,
-    ) -> u32;
     fn beqlanosh_ready(
         board: u32,
         bytes: *const u8,
@@ -224,25 +211,6 @@ pub fn run(board: u32, bytes: &[u8], steps: u32, lent: Lent, answer: &mut [u32; 
             bytes.as_ptr(),
             bytes.len(),
             steps,
-            lent.waiting.as_ptr(),
-            lent.waiting.len(),
-            lent.received.as_mut_ptr(),
-            lent.received.len(),
-            lent.state.as_mut_ptr(),
-            lent.state.len(),
-            answer.as_mut_ptr(),
-        )
-    }
-}
-
-pub fn clock(board: u32, bytes: &[u8], tick: i32, lent: Lent, answer: &mut [i32; 2]) -> u32 {
-    // SAFETY: as above.
-    unsafe {
-        beqlanosh_clock(
-            board,
-            bytes.as_ptr(),
-            bytes.len(),
-            tick,
             lent.waiting.as_ptr(),
             lent.waiting.len(),
             lent.received.as_mut_ptr(),

@@ -4,7 +4,6 @@
 
 mod answers;
 mod arrays;
-mod clocked;
 mod growth;
 mod instructions;
 mod library;
@@ -65,8 +64,6 @@ fn answers(seed: u64) {
     let (scripts, calls) = scripts::check(seed);
     println!("{scripts} scripts, {calls} calls: same answers");
     println!("{} generated loads: same answers", loads::check(seed));
-    let (arrays, stops) = clocked::check(seed);
-    println!("{arrays} arrays, {stops} clocked runs: same answers");
     let counted = step_vectors::check(seed);
     println!("{counted} counts of step vectors: same answers");
 }

@@ -29,9 +29,8 @@ pub fn check(seed: u64) -> (usize, usize) {
     (played.len(), played.iter().sum())
 }
 
-/// The values and the lists of a script, and how many words of each are lent.
+/// The lists of a script, and how many words of each are lent.
 struct Lists<'a> {
-    values: &'a [u32],
     /// The script's own board word, another board's, and one that names none; and which of them the next call is told.
     told: [Told<'a>; 3],
     now: usize,
@@ -52,7 +51,6 @@ fn play(script: &Script, random: &mut Random) -> usize {
     let (elements, words) = accepted.map_or((0, 0), |accepted| (accepted.elements, accepted.words));
     let [waiting, received, state, ready, output] = LONGEST;
     let mut lists = Lists {
-        values: &script.values,
         told,
         now: 0,
         waiting: vec![MARK; waiting],
@@ -62,7 +60,7 @@ fn play(script: &Script, random: &mut Random) -> usize {
         output: vec![MARK; output],
         lengths: [elements, elements, words, READY_WORDS, elements],
     };
-    lists.start();
+    lists.start(&script.values);
     let played = script.calls.iter().map_while(|&call| {
         lists.now = random.pick(&[0, 0, 0, 0, 0, 0, 0, 0, 1, 2]);
         lists.call(call)
@@ -80,18 +78,14 @@ impl Lists<'_> {
             3 => self.window([a, b]),
             4 => self.result(),
             5 | 6 => {}
-            7 => poke(&mut self.state[..self.lengths[2]], a as usize, b),
+            7 => self.poke(a as usize, b),
             8 => self.lend(a as usize, b as usize),
-            9 => self.clock(a as i32),
-            14 => self.start(),
-            15 => poke(&mut self.received[..self.lengths[1]], a as usize, b),
             _ => return None,
         }
-        Some(matches!(number, 0..=4 | 9 | 14))
+        Some(number < 5)
     }
 
-    fn start(&mut self) {
-        let values = self.values;
+    fn start(&mut self, values: &[u32]) {
         let [w, r, s, ..] = self.lengths;
         let before = [&self.waiting[..w], &self.received[..r], &self.state[..s]];
         let before = before.map(<[u32]>::to_vec);
@@ -130,22 +124,6 @@ impl Lists<'_> {
             |side, told, lent| {
                 let mut answer = [MARK; 2];
                 let number = (side.run)(told.board, told.description, steps, lent, &mut answer);
-                (number, answer)
-            },
-        );
-    }
-
-    fn clock(&mut self, tick: i32) {
-        let marked = [MARK as i32; 2];
-        self.moved(
-            |told, lent| {
-                let clocked = told.calls.clocked_run(lent, tick);
-                let answer = clocked.map_or(marked, |clocked| [clocked.least, clocked.greatest]);
-                (number_of(clocked), answer)
-            },
-            |side, told, lent| {
-                let mut answer = marked;
-                let number = (side.clock)(told.board, told.description, tick, lent, &mut answer);
                 (number, answer)
             },
         );
@@ -230,6 +208,14 @@ impl Lists<'_> {
         self.output[..output].copy_from_slice(&left);
     }
 
+    /// Writes a word of the lent state if there is one.
+    fn poke(&mut self, word: usize, value: u32) {
+        let lent = self.lengths[2];
+        if let Some(word) = self.state[..lent].get_mut(word) {
+            *word = value;
+        }
+    }
+
     /// From here on lends so many words of a list, or all if it has fewer.
     fn lend(&mut self, list: usize, length: usize) {
         if let (Some(lent), Some(&longest)) = (self.lengths.get_mut(list), LONGEST.get(list)) {
@@ -238,14 +224,7 @@ impl Lists<'_> {
     }
 }
 
-/// Writes a word of a lent list if there is one.
-fn poke(lent: &mut [u32], word: usize, value: u32) {
-    if let Some(word) = lent.get_mut(word) {
-        *word = value;
-    }
-}
-
-/// Received and state as they are lent to Step, Run and Clocked run.
+/// Received and state as they are lent to Step and Run.
 fn lent<'a>(waiting: &'a [u32], [received, state]: &'a mut [Vec<u32>; 2]) -> Lent<'a> {
     Lent {
         waiting,

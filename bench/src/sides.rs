@@ -26,9 +26,6 @@ pub type Written<'a> = [&'a mut [u32]; 3];
 /// Two words that a call answers besides its number.
 pub type Answer = [u32; 2];
 
-/// The least and the greatest step, which Clocked run answers besides its number.
-pub type Steps = [i32; 2];
-
 /// The number of bytes that Make answers besides its number.
 pub type Bytes = [u32; 1];
 
@@ -48,8 +45,6 @@ pub struct Side {
     pub step: fn(u32, &[u8], [u32; 3], Lent) -> u32,
     /// Steps, the lists and the answer.
     pub run: fn(u32, &[u8], u32, Lent, &mut Answer) -> u32,
-    /// Tick, the lists and the answer.
-    pub clock: fn(u32, &[u8], i32, Lent, &mut Steps) -> u32,
     /// Ready words, the lists and the answer.
     pub ready: fn(u32, &[u8], &mut [u64], Memory, &mut Answer) -> u32,
     /// Pipe and side, the lists and the answer.
@@ -71,7 +66,6 @@ pub static LIBRARY: Side = Side {
     start: library::start,
     step: library::step,
     run: library::run,
-    clock: library::clock,
     ready: library::ready,
     window: library::window,
     result: library::result,
@@ -88,7 +82,6 @@ pub static QUICK: Side = Side {
     start: quick::start,
     step: quick::step,
     run: quick::run,
-    clock: quick::clock,
     ready: quick::ready,
     window: quick::window,
     result: quick::result,

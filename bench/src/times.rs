@@ -17,8 +17,7 @@ use crate::work::{Call, Work};
 /// How long a call of the second implementation is repeated; it is done once at least.
 const LONG: Duration = Duration::from_millis(50);
 
-/// The greatest ratio of a call so far, and its array or load. Step vectors has a second one, to the library's Accept, and so have clocked
-/// runs, to the library's run.
+/// The greatest ratio of a call so far, and its array or load. Step vectors has a second one, to the library's Accept.
 struct Worst {
     call: &'static str,
     ratio: f64,
@@ -44,12 +43,12 @@ pub fn print() {
     }
 }
 
-/// A line for each call; that of a run is by the step, without what a run of no step takes, that of Step vectors ends with the library's
-/// time in Accepts, and those of clocked runs with its time in runs to the end.
+/// A line for each call; that of a run is by the step, without what a run of no step takes, and that of Step vectors ends with the
+/// library's time in Accepts.
 fn print_array(array: &Array, worst: &mut Vec<Worst>) {
     let mut work = Work::new(array);
     let steps = f64::from(work.steps());
-    let (mut accept, mut run) = (0.0, 0.0);
+    let mut accept = 0.0;
     let mut none = [0.0; 2];
     for (call, mut name) in Call::ALL {
         let mut times = least(&mut work, call, SIDES);
@@ -60,21 +59,16 @@ fn print_array(array: &Array, worst: &mut Vec<Worst>) {
             Call::StepVectors => note = format!("{:8.1} Accepts", times[0] / accept),
             Call::RunNone => none = times,
             Call::RunAll => {
-                run = times[0];
                 times = [0, 1].map(|side| (times[side] - none[side]) / steps);
                 slow /= steps;
                 name = "run, a step";
             }
-            Call::ClockHalf | Call::ClockAll => note = format!("{:8.2} runs", times[0] / run),
             _ => {}
         }
         print_times([&array.name, name, &note], times, slow);
         keep_worst(worst, name, times[0] / times[1], &array.name);
-        match call {
-            Call::StepVectors => keep_worst(worst, "in Accepts", times[0] / accept, &array.name),
-            Call::ClockHalf => keep_worst(worst, "half in runs", times[0] / run, &array.name),
-            Call::ClockAll => keep_worst(worst, "in runs", times[0] / run, &array.name),
-            _ => {}
+        if call == Call::StepVectors {
+            keep_worst(worst, "in Accepts", times[0] / accept, &array.name);
         }
     }
 }
@@ -139,7 +133,9 @@ fn reference_time(work: &mut Work, call: Call) -> f64 {
         work.prepare(call);
         time(|| reference_call(work, call))
     });
-    assert!(work.is_right(call));
+    if call == Call::RunAll {
+        assert!(work.stage == work.ended);
+    }
     work.stage.clone_from(&work.started);
     least
 }
@@ -181,10 +177,6 @@ fn reference_call(work: &mut Work, call: Call) {
         }
         Call::RunNone => calls().run(work.started.lent(waiting), 0).is_ok(),
         Call::RunAll => calls().run(work.stage.lent(waiting), u64::MAX).is_ok(),
-        Call::ClockHalf | Call::ClockAll => {
-            let tick = work.tick(call);
-            calls().clocked_run(work.stage.lent(waiting), tick).is_ok()
-        }
     };
     assert!(done);
 }

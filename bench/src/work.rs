@@ -6,7 +6,7 @@ use reference::calls::{Lent, READY_WORDS};
 use reference::step_vectors::GREATEST;
 
 use crate::arrays::Array;
-use crate::sides::{Side, Steps, COUNTS, FIGURES, QUICK, ROW_WORDS};
+use crate::sides::{Side, COUNTS, FIGURES, QUICK, ROW_WORDS};
 
 /// A call as it is measured.
 #[derive(Clone, Copy, PartialEq)]
@@ -29,14 +29,10 @@ pub enum Call {
     RunNone,
     /// A run from the start to the end.
     RunAll,
-    /// A clocked run from the start to the tick in the middle of the firings.
-    ClockHalf,
-    /// A clocked run from the start to the end.
-    ClockAll,
 }
 
 impl Call {
-    pub const ALL: [(Call, &'static str); 13] = [
+    pub const ALL: [(Call, &'static str); 11] = [
         (Call::Accept, "accept"),
         (Call::StepVectors, "step vectors"),
         (Call::Table, "table"),
@@ -48,8 +44,6 @@ impl Call {
         (Call::Result, "result"),
         (Call::RunNone, "run 0"),
         (Call::RunAll, "run"),
-        (Call::ClockHalf, "clock half"),
-        (Call::ClockAll, "clock"),
     ];
 
     pub fn named(name: &str) -> Option<Call> {
@@ -79,7 +73,7 @@ impl Stage {
     }
 }
 
-/// An array with its stages in Run's order and its clocked stage, and the lists that its calls write.
+/// An array with its stages in Run's order, and the lists that its calls write.
 pub struct Work {
     pub board: u32,
     pub bytes: Vec<u8>,
@@ -90,16 +84,12 @@ pub struct Work {
     pub started: Stage,
     pub halfway: Stage,
     pub ended: Stage,
-    /// The tick in the middle of the firings, and what a clocked run leaves there.
-    middle: i32,
-    clocked: Stage,
     /// The words that the first send changes, from 0.
     sent: Vec<usize>,
     pub rows: Vec<u32>,
     pub output: Vec<u32>,
     pub words: [u64; READY_WORDS],
     pub answer: [u32; 2],
-    pub steps_answered: Steps,
     pub new_waiting: Vec<u32>,
     pub stage: Stage,
 }
@@ -125,14 +115,11 @@ impl Work {
             started: empty.clone(),
             halfway: empty.clone(),
             ended: empty.clone(),
-            middle: 0,
-            clocked: empty.clone(),
             sent: Vec::new(),
             rows: vec![0; ROW_WORDS * processes],
             output: vec![0; elements],
             words: [0; READY_WORDS],
             answer: [0; 2],
-            steps_answered: [0; 2],
             new_waiting: vec![0; elements],
             stage: empty,
         };
@@ -141,7 +128,6 @@ impl Work {
         work.waiting.clone_from(&work.new_waiting);
         work.halfway = work.after(steps as u32 / 2);
         work.ended = work.after(steps as u32);
-        work.clock_halfway();
         assert_eq!(work.call(&QUICK, Call::Step), 0);
         let state = work.stage.state.iter().enumerate();
         work.sent = state
@@ -162,34 +148,6 @@ impl Work {
         stage
     }
 
-    /// Finds the tick in the middle, and what is left there.
-    fn clock_halfway(&mut self) {
-        assert_eq!(self.call(&QUICK, Call::ClockAll), 0);
-        let [least, greatest] = self.steps_answered;
-        self.middle = (least + greatest) / 2;
-        self.prepare(Call::ClockHalf);
-        assert_eq!(self.call(&QUICK, Call::ClockHalf), 0);
-        self.clocked.clone_from(&self.stage);
-        self.stage.clone_from(&self.started);
-    }
-
-    /// The tick that a clocked run is given.
-    pub fn tick(&self, call: Call) -> i32 {
-        match call {
-            Call::ClockHalf => self.middle,
-            _ => i32::MAX,
-        }
-    }
-
-    /// Whether a run from the start has left what it should.
-    pub fn is_right(&self, call: Call) -> bool {
-        match call {
-            Call::RunAll | Call::ClockAll => self.stage == self.ended,
-            Call::ClockHalf => self.stage == self.clocked,
-            _ => true,
-        }
-    }
-
     pub fn steps(&self) -> u32 {
         self.figures[5]
     }
@@ -207,9 +165,7 @@ impl Work {
                     self.stage.state[word] = 0;
                 }
             }
-            Call::RunAll | Call::ClockHalf | Call::ClockAll => {
-                self.stage.clone_from(&self.started);
-            }
+            Call::RunAll => self.stage.clone_from(&self.started),
             _ => {}
         }
     }
@@ -249,11 +205,6 @@ impl Work {
             Call::RunAll => {
                 let lent = self.stage.lent(waiting);
                 (side.run)(board, bytes, u32::MAX, lent, answer)
-            }
-            Call::ClockHalf | Call::ClockAll => {
-                let tick = self.tick(call);
-                let lent = self.stage.lent(waiting);
-                (side.clock)(board, bytes, tick, lent, &mut self.steps_answered)
             }
         }
     }

@@ -60,7 +60,7 @@ pub struct Row {
     pub drain: [u32; 6],
 }
 
-/// The lists that Step, Run and Clocked run are lent. The waiting list never changes.
+/// The lists that Step and Run are lent. The waiting list never changes.
 pub struct Lent<'a> {
     pub waiting: &'a [u32],
     pub received: &'a mut [u32],
@@ -270,12 +270,7 @@ impl Calls {
     }
 
     /// The checks of the lists and of the state: 20, 26, 21, 22.
-    pub(crate) fn sound(
-        &self,
-        waiting: &[u32],
-        received: &[u32],
-        state: &[u32],
-    ) -> Result<&Network, Refusal> {
+    fn sound(&self, waiting: &[u32], received: &[u32], state: &[u32]) -> Result<&Network, Refusal> {
         let network = self.lists(waiting, received)?;
         demand(state.len() >= network.words(), 21)?;
         demand(network.sound(state), 22)?;

@@ -4,7 +4,7 @@
 use crate::board::{BENCH, GAUGE};
 use crate::description::Description;
 use crate::designs;
-use crate::replay::{Call, Script};
+use crate::replay::Script;
 
 /// A description and the name of its file.
 pub struct Example {
@@ -43,25 +43,9 @@ pub fn examples() -> Vec<Example> {
     .collect()
 }
 
-/// Forty steps, who is ready, all the others, and the result.
-const IN_TWO_PIECES: [Call; 4] = [
-    [1, 40, 0, 0],
-    [2, 0, 0, 0],
-    [1, u32::MAX, 0, 0],
-    [4, 0, 0, 0],
-];
-
-/// A clocked run up to tick 3, the state, all the steps that are left, and the result.
-const BY_THE_CLOCK: [Call; 4] = [
-    [9, 3, 0, 0],
-    [5, 0, 0, 0],
-    [1, u32::MAX, 0, 0],
-    [4, 0, 0, 0],
-];
-
 /// Document 01's polynomial product in design two, the fractional filter on 16.16 numbers, the product that clears what c held, and the
-/// matrix product on the slanted grid, on the gauge, and design two on the bench, in two pieces; and design two on the gauge by request
-/// 2.6's clock.
+/// matrix product on the slanted grid, on the gauge, and design two on the bench: forty steps, who is ready, all the others, and the
+/// result.
 pub fn example_scripts() -> Vec<ExampleScript> {
     let factors = vec![1, 2, 3, 4, 5, 6, 0, 0, 0, 0, 0];
     [
@@ -70,52 +54,45 @@ pub fn example_scripts() -> Vec<ExampleScript> {
             GAUGE,
             designs::polynomial_two(2),
             factors.clone(),
-            IN_TWO_PIECES,
         ),
         (
             "smoothing",
             GAUGE,
             designs::smoothing(5, 2),
             smoothing_values(),
-            IN_TWO_PIECES,
         ),
         (
             "cleared",
             GAUGE,
             designs::cleared_one(2),
             vec![1, 2, 3, 4, 5, 6, 9, 8, 7, 6, 5],
-            IN_TWO_PIECES,
         ),
         (
             "matrix-slanted",
             GAUGE,
             designs::matrix_slanted(2),
             (1..=9).chain((1..=9).rev()).chain([0; 9]).collect(),
-            IN_TWO_PIECES,
         ),
         (
             "polynomial-two-bench",
             BENCH,
             designs::polynomial_two(2),
-            factors.clone(),
-            IN_TWO_PIECES,
-        ),
-        (
-            "clocked",
-            GAUGE,
-            designs::polynomial_two(2),
             factors,
-            BY_THE_CLOCK,
         ),
     ]
     .into_iter()
-    .map(|(name, board, description, values, calls)| ExampleScript {
+    .map(|(name, board, description, values)| ExampleScript {
         name,
         script: Script {
             description: description.bytes(),
             board,
             values,
-            calls: calls.to_vec(),
+            calls: vec![
+                [1, 40, 0, 0],
+                [2, 0, 0, 0],
+                [1, u32::MAX, 0, 0],
+                [4, 0, 0, 0],
+            ],
         },
     })
     .collect()

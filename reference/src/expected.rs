@@ -6,8 +6,6 @@ use std::path::Path;
 
 use crate::board::{BENCH, GAUGE};
 use crate::calls::Calls;
-use crate::clock_cases::clock_scripts;
-use crate::clock_text::clock_text;
 use crate::compare;
 use crate::description::{bytes_of, Description};
 use crate::designs;
@@ -51,7 +49,6 @@ fn cases() -> Vec<Case> {
         print_make_case(),
         vector_counts_case(),
         print_steps_case(),
-        print_clock_case(),
     ]
 }
 
@@ -226,7 +223,7 @@ fn compare_case() -> Case {
 const SCRIPTS: usize = 1000;
 
 /// The replay of the examples, run to their end, of the example scripts, of designs of requests 2.5 and 2.7 in two orders, of the examples
-/// and designs of request 2.9 on its boards, of clocked runs (request 2.6), and of random scripts, in one bundle.
+/// and designs of request 2.9 on its boards, and of random scripts, in one bundle.
 fn replay_case() -> Case {
     let stdin = bundle(&replay_scripts());
     Case {
@@ -284,16 +281,6 @@ fn print_steps_case() -> Case {
     }
 }
 
-/// The counts of design two after tick 3.
-fn print_clock_case() -> Case {
-    let stdin = designs::polynomial_two(2).bytes();
-    Case {
-        name: "print_clock",
-        stdout: clock_text(GAUGE, 3, &stdin).into_bytes(),
-        given: Given::Both(&["3"], stdin),
-    }
-}
-
 /// The scripts that are replayed.
 pub fn replay_scripts() -> Vec<Vec<u8>> {
     let ends = examples()
@@ -304,7 +291,6 @@ pub fn replay_scripts() -> Vec<Vec<u8>> {
     ends.chain(named)
         .chain(pairs)
         .chain(on_boards())
-        .chain(clock_scripts())
         .chain(scripts(1, SCRIPTS))
         .collect()
 }
@@ -349,10 +335,21 @@ fn run_to_the_end(board: u32, description: &Description) -> Vec<u8> {
     to_the_end_by(board, description, calls)
 }
 
-/// A script that comes to a description's end on a board by some calls and asks for all that came out.
+/// A script that comes to a description's end on a board by some calls and asks for all that came out. Its values are as many as the gauge
+/// takes, Fill's for that number as seed.
 fn to_the_end_by(board: u32, description: &Description, mut calls: Vec<Call>) -> Vec<u8> {
+    let description = description.bytes();
+    let elements = Calls::on(GAUGE, &description)
+        .accept()
+        .map_or(0, |found| found.elements);
     calls.extend([[2, 0, 0, 0], [3, 0, 1, 0], [4, 0, 0, 0], [6, 0, 0, 0]]);
-    Script::generated(board, description, calls).bytes()
+    Script {
+        description,
+        board,
+        values: generator::values(elements.max(1) as u32, elements),
+        calls,
+    }
+    .bytes()
 }
 
 /// The steps of a whole run, always the highest ready; none if the description is refused. Which are ready does not depend on the values.

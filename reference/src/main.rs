@@ -1,4 +1,4 @@
-//! The command line: table, walk, steps, clock, replay, fill, make, random, expected.
+//! The command line: table, walk, steps, replay, fill, make, random, expected.
 
 use std::ffi::OsString;
 use std::fs;
@@ -7,7 +7,6 @@ use std::path::Path;
 use std::process::ExitCode;
 
 use reference::board::GAUGE;
-use reference::clock_text::clock_text;
 use reference::expected::write_files;
 use reference::fill_text::fill_text;
 use reference::generator::made;
@@ -18,8 +17,7 @@ use reference::table::table_text;
 use reference::walk_text::walk_text;
 
 const USAGE: &str = "usage: reference table [--board N] | walk [--board N] | steps [--board N] K \
-    | clock [--board N] TICK | replay | fill SEED N | make SEED R M B | random SEED N [DIR] \
-    | expected DIR";
+    | replay | fill SEED N | make SEED R M B | random SEED N [DIR] | expected DIR";
 
 fn main() -> ExitCode {
     let arguments: Vec<OsString> = std::env::args_os().skip(1).collect();
@@ -49,10 +47,6 @@ fn command(arguments: &[OsString]) -> Result<(), String> {
         (Some("steps"), [option, board, k]) if option == "--board" => {
             print_steps(number("N", board)?, k)
         }
-        (Some("clock"), [tick]) => print_clock(GAUGE, tick),
-        (Some("clock"), [option, board, tick]) if option == "--board" => {
-            print_clock(number("N", board)?, tick)
-        }
         (Some("replay"), []) => print(replay(&input()?).as_bytes()),
         (Some("fill"), [seed, n]) => {
             let text = fill_text(number("SEED", seed)?, number("N", n)?);
@@ -80,10 +74,7 @@ fn command(arguments: &[OsString]) -> Result<(), String> {
         (Some("expected"), [directory]) => write_files(Path::new(directory))
             .map_err(|error| format!("cannot write {directory:?}: {error}")),
         (
-            Some(
-                "table" | "walk" | "steps" | "clock" | "replay" | "fill" | "make" | "random"
-                | "expected",
-            ),
+            Some("table" | "walk" | "steps" | "replay" | "fill" | "make" | "random" | "expected"),
             _,
         ) => Err(format!("wrong arguments for {name:?}")),
         _ => Err(format!("unknown command {name:?}")),
@@ -99,12 +90,6 @@ fn print_text(text: impl Fn(u32, &[u8]) -> String, board: u32) -> Result<(), Str
 fn print_steps(board: u32, k: &OsString) -> Result<(), String> {
     let k = number("K", k)?;
     print_text(|board, bytes| steps_text(board, k, bytes), board)
-}
-
-/// Prints the counts of a clocked run of the description on standard input for a board.
-fn print_clock(board: u32, tick: &OsString) -> Result<(), String> {
-    let tick = number("TICK", tick)?;
-    print_text(|board, bytes| clock_text(board, tick, bytes), board)
 }
 
 /// Prints the bytes of a made description; a refusal is a line on standard error.

@@ -2,14 +2,13 @@
 //! steps that are ready.
 
 use crate::board::{BENCH, GAUGE};
-use crate::calls::{Calls, READY_WORDS};
+use crate::calls::READY_WORDS;
 use crate::network::{Network, Step};
 use crate::random::Random;
 use crate::random_board as boards;
 use crate::random_description as descriptions;
 use crate::random_divisor as divisors;
 use crate::random_stride as strides;
-use crate::random_tick as ticks;
 use crate::replay::{step_call, Call, Machine, Script};
 
 /// Scripts come in rounds: in each, one for every refusal of Accept and these.
@@ -77,14 +76,16 @@ fn cut(random: &mut Random, bytes: &mut Vec<u8>) {
 
 /// A whole script on a description for a board, sometimes with an ending that is not to be played.
 fn full_script(random: &mut Random, board: u32, description: Vec<u8>) -> Vec<u8> {
-    let accepted = Calls::on(board, &description).accept();
-    let mut count = accepted.map_or(random.below(4), |accepted| accepted.elements);
+    let mut machine = Machine::new(board, &description);
+    let mut count = machine
+        .calls
+        .accept()
+        .map_or(random.below(4), |accepted| accepted.elements);
     if random.percent(5) {
         count = (count + random.below(3)).saturating_sub(1);
     }
     let values = random.values(count);
-    let mut machine = Machine::new(board, &description, values.clone());
-    machine.opening();
+    machine.opening(&values);
     let mut writer = Writer {
         random,
         machine,
@@ -116,24 +117,22 @@ struct Writer<'a> {
 impl Writer<'_> {
     fn write_calls(&mut self) {
         for _ in 0..self.random.below(6) + 1 {
-            match self.random.below(12) {
+            match self.random.below(9) {
                 0 | 1 => self.ready_steps(),
                 2 => self.run_some(),
                 3 => self.ask(),
                 4 => self.any_steps(),
                 5 | 6 => self.wrong_lends(),
                 7 => self.poke(true),
-                8 => self.poke(false),
-                9 | 10 => self.clocked_run(),
-                _ => self.poke_received(),
+                _ => self.poke(false),
             }
         }
         if self.random.percent(50) {
             self.run_to_the_end();
         }
         if self.random.percent(10) {
-            let none = self.random.pick(&[10, 13, 16, 1 << 31, u32::MAX]);
-            self.play([none, 0, 0, 0]);
+            let over = self.random.pick(&[9, 10, 1 << 31, u32::MAX]);
+            self.play([over, 0, 0, 0]);
             self.play([2, 0, 0, 0]);
         }
     }
@@ -191,48 +190,12 @@ impl Writer<'_> {
         self.play([1, steps, 0, 0]);
     }
 
-    /// A whole run takes this implementation long.
-    fn is_large(&self) -> bool {
-        self.network().is_some_and(|network| network.words() > 2000)
-    }
-
     fn run_to_the_end(&mut self) {
-        let steps = if self.is_large() { 500 } else { u32::MAX };
+        let large = self.network().is_some_and(|network| network.words() > 2000);
+        let steps = if large { 500 } else { u32::MAX };
         self.play([1, steps, 0, 0]);
         self.play([4, 0, 0, 0]);
         self.show();
-    }
-
-    /// A clocked run, mostly from a new start, that is sometimes called again and sometimes carried on.
-    fn clocked_run(&mut self) {
-        if self.random.percent(70) {
-            self.play([14, 0, 0, 0]);
-        }
-        self.clock();
-        self.show();
-        if self.random.percent(25) {
-            self.clock();
-        }
-        match self.random.below(3) {
-            0 => self.ready_steps(),
-            1 => self.ask(),
-            _ => {}
-        }
-    }
-
-    /// Clocked run up to some tick; a large array has it rarely.
-    fn clock(&mut self) {
-        if self.is_large() && self.random.percent(75) {
-            return;
-        }
-        let Writer {
-            random, machine, ..
-        } = self;
-        let tick = match machine.calls.network() {
-            Ok(network) => ticks::tick(random, &network.array),
-            Err(_) => random.value() as i32,
-        };
-        self.play([9, tick as u32, 0, 0]);
     }
 
     /// The calls that change nothing.
@@ -296,12 +259,6 @@ impl Writer<'_> {
     }
 
     fn all_calls(&mut self) {
-        if self.random.percent(20) {
-            self.play([14, 0, 0, 0]);
-        }
-        if self.random.percent(50) {
-            self.clock();
-        }
         match self.any_ready_step() {
             Some(step) if self.random.percent(50) => self.play(step_call(step, 0)),
             _ => self.play([0, 0, 0, 0]),
@@ -324,24 +281,6 @@ impl Writer<'_> {
             self.any_steps();
         } else if self.random.percent(70) {
             self.clear_state();
-        }
-    }
-
-    /// Words of the received list changed, often after a new start; then a clocked run, and mostly a new start and another.
-    fn poke_received(&mut self) {
-        if self.random.percent(60) {
-            self.play([14, 0, 0, 0]);
-        }
-        let received = self.machine.lent_received().len();
-        for _ in 0..self.random.below(2) + 1 {
-            let (word, value) = (self.word(received), self.random.value());
-            self.play([15, word, value, 0]);
-        }
-        self.clock();
-        self.show();
-        if self.random.percent(70) {
-            self.play([14, 0, 0, 0]);
-            self.clock();
         }
     }
 

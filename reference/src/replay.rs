@@ -3,19 +3,16 @@
 //! A script is words, least byte first: the number of bytes of the description; its bytes, padded to a whole word; the board word, which
 //! every call is told; the number of values; the values; then calls of four words each: 0 step (kind, number, stream), 1 run (steps), 2
 //! ready, 3 window (pipe, side), 4 result, 5 show the state, 6 show the received list, 7 poke (word of the state, value), 8 lend (list,
-//! length), 9 clocked run (tick), 14 start again, 15 poke (word of the received list, value). Any other number ends the script. Words that a
-//! call does not use are ignored, and so is a last call that is cut off. The output has a line for Accept, one for Start and one for each
-//! call. Accept's has the six figures, the divisor of place and that of each stream in use.
+//! length). Any other number ends the script. Words that a call does not use are ignored, and so is a last call that is cut off. The output
+//! has a line for Accept, one for Start and one for each call. Accept's has the six figures, the divisor of place and that of each stream
+//! in use.
 //!
 //! Several scripts stand in a bundle: the word 2^32 − 1, with which no whole script begins, since no
 //! description is so long; then for each script its number of bytes, a word, and the script. What each
 //! prints stands below a line with `script` and its number, from 0 on. A last script that is cut off
 //! is played as far as it goes.
 
-use crate::board::GAUGE;
 use crate::calls::{Calls, Lent, READY_WORDS};
-use crate::description::Description;
-use crate::generator;
 use crate::network::Step;
 use crate::Refusal;
 
@@ -78,8 +75,8 @@ fn replay_script(script: &[u8]) -> String {
     let Some(script) = Script::read(script) else {
         return "short script\n".to_string();
     };
-    let mut machine = Machine::new(script.board, &script.description, script.values);
-    let mut output = machine.opening();
+    let mut machine = Machine::new(script.board, &script.description);
+    let mut output = machine.opening(&script.values);
     for call in script.calls {
         let Some(line) = machine.call(call) else {
             break;
@@ -99,19 +96,6 @@ pub struct Script {
 }
 
 impl Script {
-    /// A script of calls on a description for a board. Its values are as many as the gauge takes, Fill's for that number as seed.
-    pub fn generated(board: u32, description: &Description, calls: Vec<Call>) -> Script {
-        let description = description.bytes();
-        let accepted = Calls::on(GAUGE, &description).accept();
-        let elements = accepted.map_or(0, |found| found.elements);
-        Script {
-            description,
-            board,
-            values: generator::values(elements.max(1) as u32, elements),
-            calls,
-        }
-    }
-
     /// Reads a script, unless it is cut off before its calls.
     pub fn read(bytes: &[u8]) -> Option<Script> {
         let mut rest = bytes;
@@ -174,10 +158,9 @@ fn word_at(bytes: &[u8], start: usize) -> u32 {
     ])
 }
 
-/// The lists of a replay, the calls on its description and the values that it starts with.
+/// The lists of a replay and the calls on its description.
 pub struct Machine {
     pub calls: Calls,
-    values: Vec<u32>,
     waiting: Vec<u32>,
     received: Vec<u32>,
     state: Vec<u32>,
@@ -189,7 +172,7 @@ pub struct Machine {
 
 impl Machine {
     /// Zeroed lists of the lengths that Accept gives.
-    pub fn new(board: u32, description: &[u8], values: Vec<u32>) -> Machine {
+    pub fn new(board: u32, description: &[u8]) -> Machine {
         let calls = Calls::on(board, description);
         let (elements, words) = match calls.accept() {
             Ok(accepted) => (accepted.elements, accepted.words),
@@ -197,7 +180,6 @@ impl Machine {
         };
         let mut machine = Machine {
             calls,
-            values,
             waiting: vec![0; BUFFERS[WAITING]],
             received: vec![0; BUFFERS[RECEIVED]],
             state: vec![0; BUFFERS[STATE]],
@@ -215,8 +197,16 @@ impl Machine {
     }
 
     /// The lines of Accept and Start.
-    pub fn opening(&mut self) -> String {
-        let (accept, start) = (line(self.accept()), line(self.start()));
+    pub fn opening(&mut self, values: &[u32]) -> String {
+        let accept = line(self.accept());
+        let [waiting, received, state, ..] = self.lengths;
+        let started = self.calls.start(
+            values,
+            &mut self.waiting[..waiting],
+            &mut self.received[..received],
+            &mut self.state[..state],
+        );
+        let start = line(started.map(|()| "start".to_string()));
         format!("{accept}\n{start}\n")
     }
 
@@ -231,14 +221,14 @@ impl Machine {
             4 => line(self.result()),
             5 => with_numbers("state", self.lent_state()),
             6 => with_numbers("received", self.lent_received()),
-            7 => poke(self.lent_state_mut(), a as usize, b),
+            7 => {
+                self.poke(a as usize, b);
+                "poke".to_string()
+            }
             8 => {
                 self.lend(a as usize, b as usize);
                 "lend".to_string()
             }
-            9 => line(self.clock(a as i32)),
-            14 => line(self.start()),
-            15 => poke(self.lent_received_mut(), a as usize, b),
             _ => return None,
         })
     }
@@ -253,19 +243,11 @@ impl Machine {
         &self.received[..self.lengths[RECEIVED]]
     }
 
-    fn lent_state_mut(&mut self) -> &mut [u32] {
-        &mut self.state[..self.lengths[STATE]]
-    }
-
-    fn lent_received_mut(&mut self) -> &mut [u32] {
-        &mut self.received[..self.lengths[RECEIVED]]
-    }
-
     fn lent_waiting(&self) -> &[u32] {
         &self.waiting[..self.lengths[WAITING]]
     }
 
-    /// The lists that Step, Run and Clocked run are lent, with the calls.
+    /// The lists that Step and Run are lent, with the calls.
     fn lent(&mut self) -> (&Calls, Lent<'_>) {
         let [waiting, received, state, ..] = self.lengths;
         let lent = Lent {
@@ -283,17 +265,6 @@ impl Machine {
         Ok(with_numbers("accept", &values[..7 + streams]))
     }
 
-    fn start(&mut self) -> Result<String, Refusal> {
-        let [waiting, received, state, ..] = self.lengths;
-        self.calls.start(
-            &self.values,
-            &mut self.waiting[..waiting],
-            &mut self.received[..received],
-            &mut self.state[..state],
-        )?;
-        Ok("start".to_string())
-    }
-
     fn step(&mut self, kind: u32, number: u32, stream: u32) -> Result<String, Refusal> {
         let (calls, lent) = self.lent();
         calls.step(lent, kind, number, stream)?;
@@ -304,12 +275,6 @@ impl Machine {
         let (calls, lent) = self.lent();
         let ran = calls.run(lent, u64::from(steps))?;
         Ok(format!("run {} {}", ran.done, u32::from(ran.ready)))
-    }
-
-    fn clock(&mut self, tick: i32) -> Result<String, Refusal> {
-        let (calls, lent) = self.lent();
-        let clocked = calls.clocked_run(lent, tick)?;
-        Ok(format!("clock {} {}", clocked.least, clocked.greatest))
     }
 
     fn ready(&mut self) -> Result<String, Refusal> {
@@ -343,20 +308,20 @@ impl Machine {
         Ok(with_numbers("result", output))
     }
 
+    /// Writes a word of the lent state if there is one.
+    fn poke(&mut self, word: usize, value: u32) {
+        let lent = &mut self.state[..self.lengths[STATE]];
+        if let Some(word) = lent.get_mut(word) {
+            *word = value;
+        }
+    }
+
     /// From here on lends a list with so many words, or the whole buffer if it has fewer.
     fn lend(&mut self, list: usize, length: usize) {
         if let (Some(lent), Some(buffer)) = (self.lengths.get_mut(list), BUFFERS.get(list)) {
             *lent = length.min(*buffer);
         }
     }
-}
-
-/// Writes a word of a lent list if there is one; the line of a poke.
-fn poke(lent: &mut [u32], word: usize, value: u32) -> String {
-    if let Some(word) = lent.get_mut(word) {
-        *word = value;
-    }
-    "poke".to_string()
 }
 
 /// The line of an answer or of a refusal.

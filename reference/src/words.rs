@@ -1,6 +1,6 @@
 //! Reading the state's words: a process on a pipe, and a link.
 
-use crate::network::{Network, Step};
+use crate::network::Network;
 use crate::pipes::{Pipe, Station};
 
 // The words of a station after its beginning.
@@ -172,17 +172,5 @@ impl Network {
     /// How many elements a pipe has received.
     pub fn received(&self, state: &[u32], pipe: usize) -> usize {
         state[self.pipe_word(pipe, RECEIVED)] as usize
-    }
-
-    /// How often a step was done: the state counts each kind.
-    pub fn times_done(&self, state: &[u32], step: Step) -> usize {
-        let word = match step {
-            Step::Send { pipe } => self.pipe_word(pipe, SENT),
-            Step::Take { process, stream } => self.station_word(process, stream, TAKEN),
-            Step::Fire { process } => self.layout.firings[process],
-            Step::Give { process, stream } => self.station_word(process, stream, GIVEN),
-            Step::Receive { pipe } => self.pipe_word(pipe, RECEIVED),
-        };
-        state[word] as usize
     }
 }

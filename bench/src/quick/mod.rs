@@ -5,7 +5,6 @@
 
 mod body;
 mod boxes;
-mod clock;
 mod description;
 mod generator;
 mod lanes;
@@ -157,17 +156,6 @@ pub fn run(board: u32, bytes: &[u8], steps: u32, lent: Lent, answer: &mut [u32; 
     }
 }
 
-pub fn clock(board: u32, bytes: &[u8], tick: i32, lent: Lent, answer: &mut [i32; 2]) -> u32 {
-    match open_clear(board, bytes, &lent) {
-        Ok(network) => {
-            *answer = clock::steps(&network);
-            clock::run(&network, tick, lent);
-            0
-        }
-        Err(number) => number,
-    }
-}
-
 pub fn ready(
     board: u32,
     bytes: &[u8],
@@ -276,33 +264,10 @@ fn open(
     received: &[u32],
     state: &[u32],
 ) -> Result<Network, u32> {
-    let network = open_any(board, bytes, waiting, received, state)?;
-    demand(network.sound(state), 22)?;
-    Ok(network)
-}
-
-/// The network of a state that is clear, as is the received list; declines by 33, 1 to 17, 20, 26, 21, 22 and 32. A clear state is sound.
-fn open_clear(board: u32, bytes: &[u8], lent: &Lent) -> Result<Network, u32> {
-    let network = open_any(board, bytes, lent.waiting, lent.received, lent.state)?;
-    let clear = |words: &[u32]| words.iter().all(|&word| word == 0);
-    if clear(&lent.state[..network.words]) && clear(lent.received) {
-        return Ok(network);
-    }
-    demand(network.sound(lent.state), 22)?;
-    Err(32)
-}
-
-/// The network of any state; declines by 33, 1 to 17, 20, 26 and 21.
-fn open_any(
-    board: u32,
-    bytes: &[u8],
-    waiting: &[u32],
-    received: &[u32],
-    state: &[u32],
-) -> Result<Network, u32> {
     let network = Network::new(Array::of(board, bytes)?);
     check_lists(&network.array, waiting, received)?;
     demand(state.len() >= network.words, 21)?;
+    demand(network.sound(state), 22)?;
     Ok(network)
 }
 

@@ -95,12 +95,6 @@ impl Port {
         fill
     }
 
-    /// The next element that it takes is the one that it keeps.
-    #[inline]
-    pub fn keeps_next(&self, state: &[u32]) -> bool {
-        self.keeps && state[self.at as usize + TAKEN] == 0
-    }
-
     /// The next instance has its element: the keep is filled, or the element of that firing is in hand.
     #[inline]
     pub fn can_use(&self, state: &[u32]) -> bool {
@@ -148,11 +142,6 @@ impl Port {
         state[at + GIVEN] = given + 1;
         fill
     }
-
-    #[inline]
-    pub fn wholly_given(&self, state: &[u32]) -> bool {
-        state[self.at as usize + GIVEN] == self.total
-    }
 }
 
 impl End {
@@ -195,11 +184,6 @@ impl End {
         let fill = state[self.before as usize] - count;
         received[(self.part + count) as usize] = pull(state, self.at as usize + LAST_LINK, fill);
         state[self.received()] = count + 1;
-    }
-
-    #[inline]
-    pub fn wholly_sent(&self, state: &[u32]) -> bool {
-        state[self.sent()] == self.total
     }
 
     pub fn wholly_received(&self, state: &[u32]) -> bool {

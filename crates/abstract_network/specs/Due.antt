@@ -36,9 +36,11 @@ module _ (N : Net) where
     pub streams : ℕ
     pub pipe_through : ℕ → ℕ → ℕ
     pub place_on : ℕ → ℕ → ℕ
-    pub on : (p s : ℕ) → 0 < count p → s < streams → (place_on p s < stops (pipe_through p s)) × (process (pipe_through p s) (place_on p s) ≡ p)
+    pub on : (p s : ℕ) → 0 < count p → s < streams
+        → (place_on p s < stops (pipe_through p s)) × (process (pipe_through p s) (place_on p s) ≡ p)
     pub stream_on : ℕ → ℕ
-    pub only : (q k : ℕ) → k < stops q → 0 < count (process q k) → (stream_on q < streams) × (pipe_through (process q k) (stream_on q) ≡ q) ×
+    pub only : (q k : ℕ) → k < stops q → 0 < count (process q k)
+        → (stream_on q < streams) × (pipe_through (process q k) (stream_on q) ≡ q) ×
         (place_on (process q k) (stream_on q) ≡ k)
     pub shapes : (q k : ℕ) → k < stops q → Shape (elements q) (soak q k) (count (process q k)) (kind q k)
 

@@ -101,11 +101,13 @@ module _ (d : Description) (i j : ℕ) (hi : i < length (streams_of d)) (hj : j 
 
     pub taken_beyond : taken_out B number k ≡ Received number
     taken_beyond =
-        ap (λ (b : Bool). cond b (Taken (process_on B number k) (stream_on B number)) (Received number)) (le-ltb k (stops_on B number) no_stop)
+        ap (λ (b : Bool). cond b (Taken (process_on B number k) (stream_on B number)) (Received number))
+        (le-ltb k (stops_on B number) no_stop)
 
     pub link_beyond : (x : ℕ) → link_place B number k x ≡ End number x
     link_beyond x =
-        ap (λ (b : Bool). cond b (Place (process_on B number k) (stream_on B number) x) (End number x)) (le-ltb k (stops_on B number) no_stop)
+        ap (λ (b : Bool). cond b (Place (process_on B number k) (stream_on B number) x) (End number x))
+        (le-ltb k (stops_on B number) no_stop)
 
 module _ {d : Description} (laid : Laid d) where
   abbrev n : Nest
@@ -176,7 +178,8 @@ module _ {d : Description} (laid : Laid d) where
 
     pub taken_last : reach (space n) (move n s) y ≡ 0 → taken_out A q (suc k) ≡ Received q
     taken_last z =
-        at_port laid p i hp hi on (λ q k. taken_out A q (suc k) ≡ Received q) (taken_beyond d i j hi j_lt (suc (before n s y)) (none_next z))
+        at_port laid p i hp hi on (λ q k. taken_out A q (suc k) ≡ Received q)
+        (taken_beyond d i j hi j_lt (suc (before n s y)) (none_next z))
 
     pub taken_next : 0 < reach (space n) (move n s) y → taken_out A q (suc k) ≡ Taken (row_index (space n) (on_of n s y)) i
     taken_next l =

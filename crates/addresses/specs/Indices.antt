@@ -66,7 +66,8 @@ module _ (d : Description) where
       let hops = A.hops in
       ap (λ (c : ℕ). 1 + c)
       (sym (ap (total (λ h. 4 + h)) (take-length hops)) ∙ total_map_first (λ h. 4 + h) (hop n) (streams_of d) (length hops)
-      ∙ ap (λ (c : ℕ). total (port_words n) (take c (streams_of d))) stream_count_lem ∙ ap (total (port_words n)) (take-length (streams_of d)))
+      ∙ ap (λ (c : ℕ). total (port_words n) (take c (streams_of d))) stream_count_lem
+      ∙ ap (total (port_words n)) (take-length (streams_of d)))
 
   -- ---- the words of a process
 
@@ -95,7 +96,8 @@ module _ (d : Description) where
       ∙ ap₂ ◌+◌ (total_like (λ s. total (λ y. end_words n s) (entries n s)) (ends_words n) (streams_of d) i no_stream (omega arith)
       (λ k m. ends_of (stream_at d k)))
       (total_times (end_words n (stream_at d i)) (entries n (stream_at d i)) j hj))
-      ∙ sym (add_assoc (length (processes n) * stride_of d) (total (ends_words n) (take i (streams_of d))) (j * end_words n (stream_at d i)))
+      ∙ sym (add_assoc (length (processes n) * stride_of d) (total (ends_words n) (take i (streams_of d)))
+      (j * end_words n (stream_at d i)))
 
   -- ---- all
 
@@ -105,7 +107,8 @@ module _ (d : Description) where
       ap₂ ◌+◌ start_is
       (all_from (λ r. 2 + r.hop) (λ s y. end_words n s) n (λ i e s y. refl) 0 0 (streams_of d)
       ∙ sym (whole (λ s. total (λ y. end_words n s) (entries n s)))
-      ∙ total_like (λ s. total (λ y. end_words n s) (entries n s)) (ends_words n) (streams_of d) (length (streams_of d)) no_stream (omega arith)
+      ∙ total_like (λ s. total (λ y. end_words n s) (entries n s)) (ends_words n) (streams_of d) (length (streams_of d)) no_stream
+      (omega arith)
       (λ k m. ends_of (stream_at d k))
       ∙ whole (ends_words n))
     where

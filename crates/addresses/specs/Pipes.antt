@@ -17,7 +17,8 @@ use Rattle.meaning.specs.Streams.{hop, elements}
 use Rattle.meaning.specs.Pipes.{pipe, entries, pipe_elements}
 use Rattle.meaning.specs.Description.{no_stream, streams_of}
 use Rattle.meaning.specs.Body.{stream_start}
-use Rattle.meaning.specs.Array.{Pipe, stop_of, pipe_of, pipes_from, Array, array_of, pipe_number, no_pipe, pipe_at, stops_on, elements_on, part_start}
+use Rattle.meaning.specs.Array.{Pipe, stop_of, pipe_of, pipes_from, Array, array_of, pipe_number, no_pipe, pipe_at, stops_on, elements_on}
+use Rattle.meaning.specs.Array.{part_start}
 use Rattle.meaning.specs.Rules.{stream_on}
 use Rattle.lists.specs.Members.{map_at}
 use Rattle.lists.specs.Sums.{total_next, total_map_first, total_append, total_below, total_first, total_second, total_like}
@@ -69,7 +70,8 @@ module _ (f : Pipe → ℕ) (g : Stream → V2 → ℕ) (n : Nest) (same : (i e 
   one_stream : (i e : ℕ) (s : Stream) (l : List V2) (j : ℕ) → j ≤ length l
       → total f (take j (map (pipe_of n i e s) l)) ≡ total (g s) (take j l)
   one_stream i e s l j h =
-      total_map_first f (pipe_of n i e s) l j ∙ total_like (λ y. f (pipe_of n i e s y)) (g s) l j zero2 h (λ k m. same i e s (get_or l k zero2))
+      total_map_first f (pipe_of n i e s) l j
+      ∙ total_like (λ y. f (pipe_of n i e s y)) (g s) l j zero2 h (λ k m. same i e s (get_or l k zero2))
 
   all_entries : (i e : ℕ) (s : Stream) (l : List V2) → total f (map (pipe_of n i e s) l) ≡ total (g s) l
   unfolding total

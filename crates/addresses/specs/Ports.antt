@@ -13,7 +13,8 @@ use Rattle.meaning.specs.Space.{space, processes, count, computing}
 use Rattle.meaning.specs.Streams.{stationary, move, hop}
 use Rattle.meaning.specs.Pipes.{reach, pipe, before, is_pipe, entries, pipe_elements}
 use Rattle.meaning.specs.Description.{streams_of}
-use Rattle.meaning.specs.Array.{runs, Stop, Pipe, row_soak, stop_of, Array, array_of, runs_of, count_at, instance_at, no_stop, pipe_at, elements_on}
+use Rattle.meaning.specs.Array.{runs, Stop, Pipe, row_soak, stop_of, Array, array_of, runs_of, count_at, instance_at, no_stop, pipe_at}
+use Rattle.meaning.specs.Array.{elements_on}
 use Rattle.meaning.specs.Array.{stop_at, pipe_through, place_on}
 use Rattle.meaning.specs.Rules.{process_on, stream_on}
 use Rattle.lists.specs.Members.{map_at}
@@ -36,7 +37,8 @@ pub stop_at_lem : (d : Description) (i j : ℕ) → i < length (streams_of d) �
 stop_at_lem d i j hi hj k l =
     let n = d.nest in
     let s = stream_at d i in
-    ap (λ (r : Pipe). get_or r.stops k no_stop) (pipe_at_lem d i j hi hj) ∙ map_at (stop_of n s) (pipe n s (entry_at d i j)) k zero2 no_stop l
+    ap (λ (r : Pipe). get_or r.stops k no_stop) (pipe_at_lem d i j hi hj)
+    ∙ map_at (stop_of n s) (pipe n s (entry_at d i j)) k zero2 no_stop l
 
 module _ {d : Description} (laid : Laid d) where
   abbrev n : Nest

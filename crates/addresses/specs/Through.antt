@@ -14,7 +14,8 @@ use Rattle.meaning.specs.Space.{row_index, space, processes, computing}
 use Rattle.meaning.specs.Pipes.{pipe, before, is_pipe, is_entry, entries}
 use Rattle.meaning.specs.Description.{streams_of}
 use Rattle.meaning.specs.Body.{stream_start}
-use Rattle.meaning.specs.Array.{Stop, Pipe, stop_of, pipe_of, Array, array_of, pipe_number, no_pipe, no_stop, is_stop, pipe_through, on_pipe}
+use Rattle.meaning.specs.Array.{Stop, Pipe, stop_of, pipe_of, Array, array_of, pipe_number, no_pipe, no_stop, is_stop, pipe_through}
+use Rattle.meaning.specs.Array.{on_pipe}
 use Rattle.meaning.specs.Array.{place_on}
 use Rattle.meaning.specs.Points.{Inside}
 use Rattle.lists.specs.Members.{filter_in, any_yes, map_in, map_at}
@@ -117,7 +118,8 @@ module _ {d : Description} (laid : Laid d) where
 
       pub through_at : pipe_through A (row_index (space n) (process_at n lane e k)) i ≡ q
       through_at =
-          ap₂ (λ (a : ℕ) (b : V2). pipe_through A (row_index (space n) (process_at n (stream_at d a) b k)) a) (sym same_stream) (sym same_entry)
+          ap₂ (λ (a : ℕ) (b : V2). pipe_through A (row_index (space n) (process_at n (stream_at d a) b k)) a) (sym same_stream)
+          (sym same_entry)
           ∙ through laid q (pipe_lt d i j hi hj) k here
 
       pub place_at : place_on A (row_index (space n) (process_at n lane e k)) q ≡ k
@@ -169,7 +171,8 @@ module _ {d : Description} (laid : Laid d) where
       -- the pipe that it is on, and its place there
       pub through_is : pipe_through A p i ≡ pipe_index d p i
       through_is =
-          ap (λ (r : ℕ). pipe_through A r i) (sym process_number_lem) ∙ through_at i (entry_number d p i) hi entry_lt (before n s y) place_lt
+          ap (λ (r : ℕ). pipe_through A r i) (sym process_number_lem)
+          ∙ through_at i (entry_number d p i) hi entry_lt (before n s y) place_lt
 
       pub place_is : place_on A p (pipe_index d p i) ≡ before n s y
       place_is =

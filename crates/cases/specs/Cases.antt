@@ -113,8 +113,8 @@ cases = products ++ (hops ++ others)
 pub proved : map (λ c. c.got) cases ≡ map (λ c. c.wanted) cases
 unfolding eq_list first_wrong bits_at word_at gcd_of euclid filter any every position best best_or total each numbers_from refusal
     progression instances line_of points widen_all around box_of sent_to first_of last_of stays march line_in pipe used_on pipe_elements
-        nest_of
+    nest_of
     stream_of body_line description_of run_lines touched_from scatter execute execute_all tests_from refusal_of accept insert_by_step
-        by_step pipes_from
+    by_step pipes_from
     array_of move_down sound write_all apply first_ready run_steps apply_all table start run result plain_run
 proved = agree cases refl

@@ -1,7 +1,9 @@
 -- A description with other step coefficients: its bytes, its words, and what it decodes to. Assumes nothing.
-use Rattle.std.specs.Prelude.{◌≡◌, ◌⊎◌, Bool, true, false, cond, List, [], ◌∷◌, ◌++◌, ℕ, ◌+◌, ◌*◌, ◌-◌, ◌^◌, ◌≤◌, ◌<◌, eqb, length, take, drop, ℤ, pos}
+use Rattle.std.specs.Prelude.{◌≡◌, ◌⊎◌, Bool, true, false, cond, List, [], ◌∷◌, ◌++◌, ℕ, ◌+◌, ◌*◌, ◌-◌, ◌^◌, ◌≤◌, ◌<◌, eqb, length, take}
+use Rattle.std.specs.Prelude.{drop, ℤ, pos}
 use Rattle.std.proofs.Math.Path.{refl, ap}
-use Rattle.std.proofs.Common.{sym, ◌∙◌, inl, inr, length-append, length-drop, length-take-le, get_or-append-add, get_or-take, get_or-drop, to_z, eqb-true}
+use Rattle.std.proofs.Common.{sym, ◌∙◌, inl, inr, length-append, length-drop, length-take-le, get_or-append-add, get_or-take, get_or-drop}
+use Rattle.std.proofs.Common.{to_z, eqb-true}
 use native.Mathlib.Omega.{arith}
 use Rattle.std.proofs.Math.ListN.{get_or, replicate, get_or-append}
 use Rattle.std.specs.Int.Signed.{mag}
@@ -10,7 +12,8 @@ use Rattle.std.proofs.lemmas.Bool.{eqb-false}
 use Rattle.integers.specs.Bytes.{bits_at, word_at}
 use Rattle.integers.specs.declared.V3.{V3}
 use Rattle.meaning.specs.declared.Sizes.{Sizes}
-use Rattle.meaning.specs.Description.{bytes, sizes_of, left_at, right_at, direction_at, step_at, place_at, line_at, words_of, vector_at, nest_of}
+use Rattle.meaning.specs.Description.{bytes, sizes_of, left_at, right_at, direction_at, step_at, place_at, line_at, words_of, vector_at}
+use Rattle.meaning.specs.Description.{nest_of}
 use Rattle.meaning.specs.Description.{stream_of, body_line, no_stream, no_line, decoded, description_of}
 use Rattle.meaning.specs.Conditions.{SizesFit}
 use Rattle.meaning.specs.Parts.{vector_same, matrix_same, stream_same}

@@ -100,7 +100,8 @@ module _ (n : Nest) (v : V3) (m : Matrix) where
           → eq_z (dot v (line_of (stepped n v) m)) (pos 0) ≡ eq_z (dot v (line_of n m)) (pos 0)
       go (same e) = ap (λ (u : V3). eq_z (dot v u) (pos 0)) e
       go (opposite e) =
-          ap (λ (u : V3). eq_z (dot v u) (pos 0)) e ∙ ap (λ (t : ℤ). eq_z t (pos 0)) (dot_neg v (line_of n m)) ∙ zero_neg (dot v (line_of n m))
+          ap (λ (u : V3). eq_z (dot v u) (pos 0)) e ∙ ap (λ (t : ℤ). eq_z t (pos 0)) (dot_neg v (line_of n m))
+          ∙ zero_neg (dot v (line_of n m))
 
   -- which way it is turned
   turned_is : eq_z (dot v (line_of n m)) (pos 0) ≡ false → line_of (stepped n v) m ≡ turn v (line_of n m)

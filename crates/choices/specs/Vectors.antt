@@ -90,6 +90,7 @@ module _ (k : ℕ) where
   small_from : (r : ℕ) (v : List ℤ) → In v (vectors k r) → (length v ≡ r) × Small v
   unfolding vectors
   small_from zero v (here e) = (ap length e, λ x i. elim (subst (λ (w : List ℤ). In x w) e i) [ ])
+  small_from zero v (there i) = elim i [ ]
   small_from (suc r) v i =
       let x = each_in (λ e. map (λ v. e ∷ v) (vectors k r)) (entries k) i in
       let y = map_in (λ v. x.from ∷ v) (vectors k r) x.is in
@@ -100,7 +101,8 @@ module _ (k : ℕ) where
             (subst (λ (w : List ℤ). In e w) y.is j),
       )
     where
-      member : {a : ℤ} {w : List ℤ} → Between (neg_ℤ (pos k)) (pos k) a → Small w → (e : ℤ) → In e (a ∷ w) → Between (neg_ℤ (pos k)) (pos k) e
+      member : {a : ℤ} {w : List ℤ} → Between (neg_ℤ (pos k)) (pos k) a → Small w → (e : ℤ) → In e (a ∷ w)
+          → Between (neg_ℤ (pos k)) (pos k) e
       member b s e (here p) = subst (Between (neg_ℤ (pos k)) (pos k)) (sym p) b
       member b s e (there j) = s e j
 

@@ -1,5 +1,6 @@
 -- Words drawn: each is in its range, and each word of its range is drawn. Assumes nothing.
-use Rattle.std.specs.Prelude.{◌≡◌, refl, ◌⊎◌, Bool, true, false, cond, ◌||◌, ℕ, suc, ◌+◌, ◌*◌, ◌-◌, ◌%◌, ◌≤◌, ◌<◌, T, eqb, ltb, ℤ, pos, negsuc, nat_abs, ◌+ℤ◌, ◌-ℤ◌, ◌≤ℤ◌}
+use Rattle.std.specs.Prelude.{◌≡◌, refl, ◌⊎◌, Bool, true, false, cond, ◌||◌, ℕ, suc, ◌+◌, ◌*◌, ◌-◌, ◌%◌, ◌≤◌, ◌<◌, T, eqb, ltb, ℤ, pos}
+use Rattle.std.specs.Prelude.{negsuc, nat_abs, ◌+ℤ◌, ◌-ℤ◌, ◌≤ℤ◌}
 use Rattle.std.proofs.Common.{sym, ◌∙◌, ap, subst, true≢false, mod-lt, zero-lt-suc, mod-eq_of_lt, add-zero, arith}
 use Rattle.std.proofs.Math.Nat.{add-mod_left, mul-add-mod_self_right}
 use Rattle.std.specs.Int.Signed.{le_z}
@@ -136,7 +137,8 @@ module _ (z : Sizes) (k : ℕ) where
   direction_odd a b x e = rw (direction z k a b, e) refl
 
   -- another word by the remainder
-  pub drawn_remainder : (k < direction_at z) ⊎ (step_at z ≤ k) → (x q m : ℕ) → m < size_of (range_at z k) → x ≡ q * size_of (range_at z k) + m
+  pub drawn_remainder : (k < direction_at z) ⊎ (step_at z ≤ k) → (x q m : ℕ) → m < size_of (range_at z k)
+      → x ≡ q * size_of (range_at z k) + m
       → drawn z k x ≡ (range_at z k).least +ℤ pos m
   drawn_remainder o x q m h e = rw (no_direction z k o) (ap (λ (n : ℕ). (range_at z k).least +ℤ pos n) is)
     where

@@ -61,7 +61,8 @@ module _ (shift : ℕ → ℕ → ℕ)
   step_twice s x =
       ap (bit_xor (bit_xor x (shift s x))) (through s x (shift s x)) ∙ xor_assoc x (shift s x) (bit_xor (shift s x) (shift s (shift s x)))
       ∙ ap (bit_xor x)
-      (sym (xor_assoc (shift s x) (shift s x) (shift s (shift s x))) ∙ ap (λ (y : ℕ). bit_xor y (shift s (shift s x))) (xor_self (shift s x))
+      (sym (xor_assoc (shift s x) (shift s x) (shift s (shift s x)))
+      ∙ ap (λ (y : ℕ). bit_xor y (shift s (shift s x))) (xor_self (shift s x))
       ∙ xor_zero_l (shift s (shift s x)) ∙ two s x)
 
   step_none : (s x : ℕ) → shift s x ≡ 0 → step s x ≡ x

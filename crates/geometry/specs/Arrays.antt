@@ -18,7 +18,8 @@ use Rattle.meaning.specs.Space.{Box, points, row_index, space}
 use Rattle.meaning.specs.Streams.{elements}
 use Rattle.meaning.specs.Pipes.{pipe, before, is_pipe, is_entry, entries}
 use Rattle.meaning.specs.Description.{no_stream, streams_of}
-use Rattle.meaning.specs.Array.{Stop, Pipe, stop_of, pipe_of, pipes_from, array_of, pipe_number, no_pipe, no_stop, pipe_at, is_stop, pipe_through}
+use Rattle.meaning.specs.Array.{Stop, Pipe, stop_of, pipe_of, pipes_from, array_of, pipe_number, no_pipe, no_stop, pipe_at, is_stop}
+use Rattle.meaning.specs.Array.{pipe_through}
 use Rattle.meaning.specs.Array.{place_on}
 use Rattle.meaning.specs.Body.{stream_start}
 use Rattle.meaning.specs.Points.{Inside}
@@ -285,7 +286,8 @@ module _ {d : Description} (laid : Laid d) where
 
     stops_here : T (any (is_stop (row_index (space n) p)) (map (stop_of n s) (pipe n s y)))
     stops_here =
-        yes_any (is_stop (row_index (space n) p)) (in_map (stop_of n s) (get_d_in (pipe n s y) i zero2 l)) (eqb_refl (row_index (space n) p))
+        yes_any (is_stop (row_index (space n) p)) (in_map (stop_of n s) (get_d_in (pipe n s y) i zero2 l))
+        (eqb_refl (row_index (space n) p))
 
     not_sooner : (j : ℕ) → j < q → T (passing (pipe_at (array_of d) j)) → ⊥
     not_sooner j c t =

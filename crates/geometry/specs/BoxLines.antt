@@ -1,4 +1,5 @@
--- The points of a box on a line: `line_in` lists them, each once, in the order of the line. Assumes that the line's vector d is not zero and
+-- The points of a box on a line: `line_in` lists them, each once, in the order of the line. Assumes that the line's vector d is not zero
+-- and
 -- that its point p is in the box.
 use Rattle.std.specs.Prelude.{◌≡◌, refl, Bool, true, false, not, cond, ◌&&◌, ◌||◌, T, length, get_or, ℤ, negsuc, ◌+ℤ◌, ◌-ℤ◌, ◌≤ℤ◌, ◌<ℤ◌}
 use Rattle.std.proofs.Common.{sym, ◌∙◌, arith}

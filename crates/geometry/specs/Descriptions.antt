@@ -1,5 +1,6 @@
 -- A description that Accept does not refuse has all that the geometry asks for, whatever the limits. Assumes nothing.
-use Rattle.std.specs.Prelude.{◌≡◌, refl, ◌⊎◌, Bool, true, false, not, cond, ◌&&◌, ◌||◌, ℕ, zero, suc, ◌+◌, ◌-◌, ◌≤◌, ◌<◌, T, eqb, leb, ltb, length, get_or, ℤ, pos, negsuc}
+use Rattle.std.specs.Prelude.{◌≡◌, refl, ◌⊎◌, Bool, true, false, not, cond, ◌&&◌, ◌||◌, ℕ, zero, suc, ◌+◌, ◌-◌, ◌≤◌, ◌<◌, T, eqb, leb, ltb}
+use Rattle.std.specs.Prelude.{length, get_or, ℤ, pos, negsuc}
 use Rattle.std.proofs.Common.{sym, subst, inl, inr, add-zero, zero-add, arith, T_not, ltb→lt, leb→le, eqb→eq}
 use mathlib.Core.List.Memᴰ
 use mathlib.Core.List.Memᴰ.{head as here}
@@ -16,7 +17,8 @@ use Rattle.meaning.specs.declared.Description.{Description}
 use Rattle.meaning.specs.declared.Stream.{Stream}
 use Rattle.meaning.specs.Lists.{every, numbers_from}
 use Rattle.meaning.specs.Streams.{line}
-use Rattle.meaning.specs.Description.{sizes_of, direction_at, step_at, words_of, in_range, nest_of, no_stream, description_of, streams_of, written}
+use Rattle.meaning.specs.Description.{sizes_of, direction_at, step_at, words_of, in_range, nest_of, no_stream, description_of, streams_of}
+use Rattle.meaning.specs.Description.{written}
 use Rattle.meaning.specs.Description.{refused2, refused4, refused5}
 use Rattle.meaning.specs.Ranges.{in_directions}
 use Rattle.meaning.specs.Accept.{refused33, against, stream_tests, tests_from, nest_tests, byte_tests, refusal_of}

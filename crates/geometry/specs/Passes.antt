@@ -101,7 +101,8 @@ module _ (d : Description) (layout : Layout d.nest) (rows : List Row)
   left st p e =
       let A = array_of d in
       let b = ltb (read A st (Firings p)) (count_at A p) in
-      ltb→lt (read A st (Firings p)) (count_at A p) (and_left b (every (ready_to_use A st p) (numbers (stream_count A))) (subst T (sym e) tt))
+      ltb→lt (read A st (Firings p)) (count_at A p)
+      (and_left b (every (ready_to_use A st p) (numbers (stream_count A))) (subst T (sym e) tt))
 
   pub every_pass : EveryPass d rows
   every_pass =

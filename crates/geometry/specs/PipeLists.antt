@@ -1,7 +1,9 @@
 -- A pipe's elements as demand 2 speaks of them: those that its processes use, in order; its two ends; the three parts of its list that a
 -- process passes before its own, uses, and passes after them. Assumes an accepted stream.
-use Rattle.std.specs.Prelude.{◌≡◌, refl, ◌⊎◌, not, ℕ, zero, suc, ◌+◌, ◌-◌, ◌≤◌, ◌<◌, T, length, get_or, take, drop, ℤ, pos, negsuc, neg_ℤ, ◌+ℤ◌, ◌*ℤ◌, ◌≤ℤ◌, ◌<ℤ◌}
-use Rattle.std.proofs.Common.{sym, ◌∙◌, ap, subst, subst₂, inl, inr, eq-or-lt_of_le, arith, take-append-drop, length-drop, length-take-le, get_or-take, get_or-drop, drop-drop}
+use Rattle.std.specs.Prelude.{◌≡◌, refl, ◌⊎◌, not, ℕ, zero, suc, ◌+◌, ◌-◌, ◌≤◌, ◌<◌, T, length, get_or, take, drop, ℤ, pos, negsuc, neg_ℤ}
+use Rattle.std.specs.Prelude.{◌+ℤ◌, ◌*ℤ◌, ◌≤ℤ◌, ◌<ℤ◌}
+use Rattle.std.proofs.Common.{sym, ◌∙◌, ap, subst, subst₂, inl, inr, eq-or-lt_of_le, arith, take-append-drop, length-drop, length-take-le}
+use Rattle.std.proofs.Common.{get_or-take, get_or-drop, drop-drop}
 use mathlib.Core.List.{List, ◌++◌, Memᴰ as In}
 use Rattle.std.proofs.Math.Dec.{not_T}
 use Rattle.std.proofs.Math.IntN.{ℤ_discrete}
@@ -206,7 +208,8 @@ module _ {n : Nest} {s : Stream} (h : Accepted n s) {y : V2} {x : V3} (a : RunAt
   some_element = omega (arith, used.some, used.total)
 
   -- the index of an element that y uses
-  used_index_lem : {e : V2} (j : ℕ) → j < length all → get_or all j zero2 ≡ e → Uses n s y e → (soak n s y ≤ j) × (j < soak n s y + used.many)
+  used_index_lem : {e : V2} (j : ℕ) → j < length all → get_or all j zero2 ≡ e → Uses n s y e
+      → (soak n s y ≤ j) × (j < soak n s y + used.many)
   used_index_lem {e} j l g u =
       let q : ahead (image s.map u.0) all ≡ j =
       ap (λ (w : V2). ahead w all) (u.2 ∙ sym g) ∙ ahead_get_d all j zero2 (elements_distinct h y) l in

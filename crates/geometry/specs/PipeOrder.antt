@@ -88,7 +88,8 @@ All n ss = (k : ℕ) → k < length ss → Accepted n (get_or ss k no_stream)
 rest_all : {n : Nest} {s : Stream} (ss : List Stream) → All n (s ∷ ss) → All n ss
 rest_all ss a k l = a (suc k) (omega arith)
 
-order_in : (n : Nest) (i e : ℕ) (ss : List Stream) → All n ss → {j : ℕ} → In j (order_from n i e ss) → (e ≤ j) × (j < e + element_count n ss)
+order_in : (n : Nest) (i e : ℕ) (ss : List Stream) → All n ss → {j : ℕ} → In j (order_from n i e ss)
+    → (e ≤ j) × (j < e + element_count n ss)
 unfolding total pipes_from each
 order_in n i e [] a k = elim k [ ]
 order_in n i e (s ∷ ss) a {j} k =

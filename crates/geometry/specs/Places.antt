@@ -41,7 +41,8 @@ module _ {A : Type 0} where
   distinct_at (more f s) (suc i) (suc j) d h k e = ap suc (distinct_at s i j d (omega arith) (omega arith) e)
 
   -- of two members of a sorted list the one at the smaller place comes first, and the other way round
-  pub sorted_at : {R : A → A → Type 0} {l : List A} → Sorted R l → (i j : ℕ) (d : A) → i < j → j < length l → R (get_or l i d) (get_or l j d)
+  pub sorted_at : {R : A → A → Type 0} {l : List A} → Sorted R l → (i j : ℕ) (d : A) → i < j → j < length l
+      → R (get_or l i d) (get_or l j d)
   sorted_at none i j d h k = absurd (omega arith)
   sorted_at (more f s) i zero d h k = absurd (omega arith)
   sorted_at (more {x} {l} f s) zero (suc j) d h k = f (get_or l j d) (get_d_in l j d (omega arith))

@@ -130,7 +130,12 @@ module _ {n : Nest} {m : Matrix} {u : V3} (dirs : Directed n) (line : Line n m u
       natural e = omega (arith, eq_out e)
 
   pub segment : {y : V2} {x : V3} → At n m y x → Segment n m u y
-  segment h = record { span = (from_first (last_at dirs h)).at; size = count_is h; end = (from_first (last_at dirs h)).eq; each = each_at h }
+  segment h = record {
+    span = (from_first (last_at dirs h)).at;
+    size = count_is h;
+    end = (from_first (last_at dirs h)).eq;
+    each = each_at h;
+  }
 
   -- every instance there is one of them
   pub numbered : {y : V2} {x : V3} → At n m y x → Numbered n m u y x

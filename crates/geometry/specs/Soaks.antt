@@ -151,7 +151,8 @@ module _ {n : Nest} {s : Stream} (h : Accepted n s) (moves : T (not (stationary 
       → ahead (image s.map (run_at n y i)) (pipe_elements n s y) ≡ soak n s y + i
   element_index {y} i a b = index_on h moves i a b ∙ ap (λ (k : ℕ). k + i) (sym (soak_first h a))
 
-  pub element_at_lem : (y : V2) (i : ℕ) (d : V2) → i < count n y → get_or (pipe_elements n s y) (soak n s y + i) d ≡ image s.map (run_at n y i)
+  pub element_at_lem : (y : V2) (i : ℕ) (d : V2) → i < count n y
+      → get_or (pipe_elements n s y) (soak n s y + i) d ≡ image s.map (run_at n y i)
   element_at_lem y i d k =
       let a = instance_at_lem h.layout y i k in
       ap (λ (c : ℕ). get_or (pipe_elements n s y) c d) (sym (element_index i a a))

@@ -109,7 +109,8 @@ flat_value {m} f a = (
     two_terms = ring 2 0 _ λ ρ. simp (quotes, literal ρ) (λ e. solve_by _ _ (given (minus (var 5)) e) tt)
 
 -- the minors with one are that value alone, negated
-pub flat_minors : {m : Matrix} → Flat m → (a : ℤ) → minors_with m (record { a = a; b = pos 0 }) ≡ record { x = pos 0; y = pos 0; z = neg_ℤ a }
+pub flat_minors : {m : Matrix} → Flat m → (a : ℤ)
+    → minors_with m (record { a = a; b = pos 0 }) ≡ record { x = pos 0; y = pos 0; z = neg_ℤ a }
 flat_minors {m} f a = ap (λ (w : V3). sub3 (scale3 (pos 0) m.top) (scale3 a w)) f.low ∙ go m.top a
   where
     go : (p : V3) (a : ℤ) → sub3 (scale3 (pos 0) p) (scale3 a unit3) ≡ record { x = pos 0; y = pos 0; z = neg_ℤ a }

@@ -22,7 +22,7 @@
 //   two loops          TwoLoops: that the padded third loop changes nothing
 //   divisors           Divisors: those of a description's streams in their list
 //   from Accept        Descriptions: `walk-tests`, `walk-layout`: what the refusals 33 and 1 to 10 leave; `laid`: what all leave
-//   limits             UpTo: `up_to_lem`: what is accepted under some limits is accepted under higher ones; `by-gauge`, `by-board`: under the
+// limits             UpTo: `up_to_lem`: what is accepted under some limits is accepted under higher ones; `by-gauge`, `by-board`: under the
 //                      gauge's
 //   for the network    Wiring: `wired`, `flowing`, `keeping`, `meeting`; Arrays: `pipe-is`, `pipe-of`, `through`, `place-on`
 //

@@ -20,7 +20,8 @@ use Rattle.meaning.specs.Description.{words_of, description_of}
 use Rattle.meaning.specs.Accept.{refusal_of, accept}
 use Rattle.meaning.specs.Rules.{Memory}
 use Rattle.meaning.specs.Calls.{state_length, refused_by, memory_tests, table_tests, start_tests, step_tests, ready_tests, window_tests}
-use Rattle.meaning.specs.Calls.{result_tests, plain_tests, started, step_of, ready_word, table, start, step, run, ready_call, window, result}
+use Rattle.meaning.specs.Calls.{result_tests, plain_tests, started, step_of, ready_word, table, start, step, run, ready_call, window}
+use Rattle.meaning.specs.Calls.{result}
 use Rattle.meaning.specs.Calls.{plain_run, row_of}
 use Rattle.meaning.specs.StepVectors.{vector_tests, step_vectors}
 use Rattle.meaning.specs.Generator.{after, fill_tests, fill, made, make_tests, make}

@@ -84,7 +84,8 @@ module _ {d : Description} (laid : Laid d) where
       go (at_least l) = absurd (omega (arith, ap length (get_or-eq_default A.runs [] l)))
 
   pub point_inside : (p : ℕ) → p < process_count A → Inside (space n) (get_or (processes n) p zero2)
-  point_inside p h = points_inside (space n) (get_or (processes n) p zero2) (get_d_in (processes n) p zero2 (omega (arith, process_count_lem)))
+  point_inside p h = points_inside (space n) (get_or (processes n) p zero2)
+      (get_d_in (processes n) p zero2 (omega (arith, process_count_lem)))
 
   pub point_number : (p : ℕ) → p < process_count A → row_index (space n) (get_or (processes n) p zero2) ≡ p
   point_number p h = row_number (space n) p zero2 (omega (arith, process_count_lem))

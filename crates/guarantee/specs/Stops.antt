@@ -17,7 +17,8 @@ use Rattle.meaning.specs.Streams.{stationary, hop}
 use Rattle.meaning.specs.Pipes.{pipe, before, pipe_elements, soak}
 use Rattle.meaning.specs.Description.{no_stream, streams_of}
 use Rattle.meaning.specs.Body.{stream_start}
-use Rattle.meaning.specs.Array.{Stop, Pipe, stop_of, pipe_of, Array, array_of, count_at, instance_at, process_count, stream_count, pipe_number}
+use Rattle.meaning.specs.Array.{Stop, Pipe, stop_of, pipe_of, Array, array_of, count_at, instance_at, process_count, stream_count}
+use Rattle.meaning.specs.Array.{pipe_number}
 use Rattle.meaning.specs.Array.{no_stop, pipe_at, stops_on, elements_on, stop_at, is_stop, pipe_through, on_pipe, place_on}
 use Rattle.meaning.specs.Rules.{process_on, stream_on}
 use Rattle.meaning.specs.Points.{Inside}

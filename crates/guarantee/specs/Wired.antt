@@ -80,7 +80,8 @@ module _ (l : Limits) (s : List ℕ) (e : refusal_of l s ≡ 0) where
   wired_instance i h = instance_same (laid l s e) i h
 
   -- and touches what it touches in the plain run
-  pub wired_touched : (i k : ℕ) → k < stream_count (array_of d) → get_or (touched_by d (instance_number d i)) k 0 ≡ (wired l s e).touched i k
+  pub wired_touched : (i k : ℕ) → k < stream_count (array_of d)
+      → get_or (touched_by d (instance_number d i)) k 0 ≡ (wired l s e).touched i k
   unfolding wired wired_of
   wired_touched i k h = touched_by_lem d (instance_number d i) k (omega (arith, streams_are d))
 

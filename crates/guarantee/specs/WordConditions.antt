@@ -1,6 +1,7 @@
 -- Conditions 1 to 4, of the bytes, the sizes and the words, against their tests; what the fourth leaves: directions of 1 or −1.
 -- Assumes nothing.
-use Rattle.std.specs.Prelude.{◌≡◌, refl, ◌⊎◌, Bool, cond, ◌||◌, List, ℕ, zero, suc, ◌+◌, ◌*◌, ◌-◌, ◌%◌, ◌≤◌, ◌<◌, eqb, length, ℤ, pos, negsuc}
+use Rattle.std.specs.Prelude.{◌≡◌, refl, ◌⊎◌, Bool, cond, ◌||◌, List, ℕ, zero, suc, ◌+◌, ◌*◌, ◌-◌, ◌%◌, ◌≤◌, ◌<◌, eqb, length, ℤ, pos}
+use Rattle.std.specs.Prelude.{negsuc}
 use Rattle.std.proofs.Common.{sym, ◌∙◌, ap, inl, inr, lt-ltb, ne_eqb}
 use Rattle.std.proofs.Math.Path.{subst}
 use Rattle.std.proofs.Math.Bool.{true, false}
@@ -14,7 +15,8 @@ use Rattle.meaning.specs.declared.Sizes.{Sizes}
 use Rattle.meaning.specs.Lists.{every, numbers_from}
 use Rattle.meaning.specs.Points.{Direction, Direction.onward, Direction.back, Between, Directed}
 use Rattle.meaning.specs.Operations.{last_operation}
-use Rattle.meaning.specs.Description.{matrix_words, left_at, right_at, direction_at, step_at, place_at, map_at, loading_at, line_words, line_at}
+use Rattle.meaning.specs.Description.{matrix_words, left_at, right_at, direction_at, step_at, place_at, map_at, loading_at, line_words}
+use Rattle.meaning.specs.Description.{line_at}
 use Rattle.meaning.specs.Description.{words_of, within, line_range, range_at, in_range, nest_of, refused2, refused3, refused4}
 use Rattle.meaning.specs.Ranges.{at_bounds, at_steps, at_matrices, at_loading, at_lines, in_directions as one_of_lem, in_others}
 use Rattle.meaning.specs.Conditions.{SizesFit, word_total, WordsFit}
@@ -137,7 +139,8 @@ module _ (s : List ℕ) (z : Sizes) where
       (line_word i 0 (omega arith) (says_between (pos 0) (pos last_operation) _))
 
   -- target, first and second operand
-  operand_word : (i j : ℕ) → 1 ≤ j → j < 4 → Says (Between (pos 0) (pos (z.streams + 1)) (word_at s (line_at z i + j))) (ok (line_at z i + j))
+  operand_word : (i j : ℕ) → 1 ≤ j → j < 4
+      → Says (Between (pos 0) (pos (z.streams + 1)) (word_at s (line_at z i + j))) (ok (line_at z i + j))
   operand_word i j g h =
       let n : suc z.streams ≡ z.streams + 1 = omega arith in
       line_word i j (omega arith) (rw (ne_eqb j 0 (λ e. omega arith), lt-ltb j 4 h, n) (says_between (pos 0) (pos (z.streams + 1)) _))

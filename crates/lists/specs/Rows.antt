@@ -35,7 +35,8 @@ module _ {X : Type 0} where
       (numbers_add f (suc i) m n ∙ ap (λ (k : ℕ). map f (numbers_from (suc i) m) ++ map f (numbers_from k n)) (omega arith))
 
   -- functions that agree on the numbers
-  pub same_numbers : (f g : ℕ → X) (i n : ℕ) → ((j : ℕ) → i ≤ j → j < i + n → f j ≡ g j) → map f (numbers_from i n) ≡ map g (numbers_from i n)
+  pub same_numbers : (f g : ℕ → X) (i n : ℕ) → ((j : ℕ) → i ≤ j → j < i + n → f j ≡ g j)
+      → map f (numbers_from i n) ≡ map g (numbers_from i n)
   unfolding numbers_from
   same_numbers f g i zero h = refl
   same_numbers f g i (suc n) h =

@@ -1,6 +1,7 @@
 -- Document 01, Accept: the refusals 6 to 17, each by its number, and 33 of request 2.9, all in order, and the figures and divisors that it
 -- answers. 9 is never given (request 2.2) and keeps its number.
-use Rattle.std.specs.Prelude.{◌≡◌, Bool, not, cond, ◌&&◌, List, [], ◌∷◌, ◌++◌, map, ℕ, suc, ◌+◌, ◌*◌, eqb, ltb, length, get_or, ℤ, pos, negsuc, ◌*ℤ◌}
+use Rattle.std.specs.Prelude.{◌≡◌, Bool, not, cond, ◌&&◌, List, [], ◌∷◌, ◌++◌, map, ℕ, suc, ◌+◌, ◌*◌, eqb, ltb, length, get_or, ℤ, pos}
+use Rattle.std.specs.Prelude.{negsuc, ◌*ℤ◌}
 use Rattle.std.specs.Int.Signed.{le_z, lt_z}
 use Rattle.integers.specs.Words.{eq_z}
 use Rattle.integers.specs.Vectors.{zero2}

@@ -1,6 +1,7 @@
 -- Document 01, "Operations and what they decline": each call, for any bytes, lists and states, of any lengths and contents: the answer, and
 -- every lent list afterwards. "A declined call answers its number and changes no lent word"; "words beyond the named length never change".
-use Rattle.std.specs.Prelude.{Bool, true, false, not, cond, ◌&&◌, ◌||◌, List, [], ◌∷◌, ◌++◌, map, ℕ, ◌+◌, ◌*◌, ◌-◌, ◌^◌, eqb, ltb, length, get_or, drop, replicate}
+use Rattle.std.specs.Prelude.{Bool, true, false, not, cond, ◌&&◌, ◌||◌, List, [], ◌∷◌, ◌++◌, map, ℕ, ◌+◌, ◌*◌, ◌-◌, ◌^◌, eqb, ltb, length}
+use Rattle.std.specs.Prelude.{get_or, drop, replicate}
 use Rattle.integers.specs.declared.V2.{V2}
 use Rattle.meaning.specs.declared.Limits.{Limits}
 use Rattle.meaning.specs.declared.Stream.{Stream}
@@ -17,7 +18,8 @@ use Rattle.meaning.specs.Pipes.{drain}
 use Rattle.meaning.specs.Description.{description_of, streams_of}
 use Rattle.meaning.specs.Body.{element_count, gather, final_values}
 use Rattle.meaning.specs.Accept.{refusal_of, state_words}
-use Rattle.meaning.specs.Array.{Array, array_of, row_soak, process_count, stream_count, pipe_number, elements_on, pipe_order, part_of, on_pipe}
+use Rattle.meaning.specs.Array.{Array, array_of, row_soak, process_count, stream_count, pipe_number, elements_on, pipe_order, part_of}
+use Rattle.meaning.specs.Array.{on_pipe}
 use Rattle.meaning.specs.State.{Received, read}
 use Rattle.meaning.specs.Rules.{sound, Step, Send, Take, Fire, Give, Receive, Memory, ready, apply, steps_of, any_ready, Found, at}
 use Rattle.meaning.specs.Rules.{nothing, run_steps, apply_all}

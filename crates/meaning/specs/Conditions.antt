@@ -20,7 +20,8 @@ use Rattle.meaning.specs.Loops.{step_of, place_of}
 use Rattle.meaning.specs.Space.{Box}
 use Rattle.meaning.specs.Points.{Direction, Between, Within, At, IsLine, Inside}
 use Rattle.meaning.specs.Operations.{last_operation}
-use Rattle.meaning.specs.Description.{sizes_of, matrix_words, left_at, right_at, direction_at, step_at, place_at, map_at, loading_at, line_at}
+use Rattle.meaning.specs.Description.{sizes_of, matrix_words, left_at, right_at, direction_at, step_at, place_at, map_at, loading_at}
+use Rattle.meaning.specs.Description.{line_at}
 use Rattle.meaning.specs.Description.{description_of, no_stream, streams_of, lines_of}
 use Rattle.meaning.specs.Accept.{accept, figures, divisors}
 

@@ -47,7 +47,8 @@ pub record Values (l : Limits) (s : List ℕ) : Type 0 where
       → let d = description_of s in
       let n = d.nest in
       accept_values (accept l s)
-      ≡ length (processes n) ∷ length (instances n) ∷ length_of d ∷ pipe_count n (streams_of d) ∷ state_length d ∷ total_steps n (streams_of d)
+      ≡ length (processes n) ∷ length (instances n) ∷ length_of d ∷ pipe_count n (streams_of d) ∷ state_length d ∷ total_steps n
+      (streams_of d)
       ∷ divisor n.place ∷ stream_divisor d 0 ∷ stream_divisor d 1 ∷ stream_divisor d 2 ∷ stream_divisor d 3 ∷ stream_divisor d 4
       ∷ stream_divisor d 5 ∷ []
   -- "steps done and whether any is ready"
@@ -73,15 +74,18 @@ pub record NothingChanged (l : Limits) (s : List ℕ) : Type 0 where
   pub step : (kind number stream : ℕ) (M : Memory)
       → Declined (answer_number (step l s kind number stream M).answer) → (step l s kind number stream M).memory ≡ M
   pub run : (n : ℕ) (M : Memory) → Declined (ran_number (run l s n M).answer) → (run l s n M).memory ≡ M
-  pub ready : (words : List ℕ) (M : Memory) → Declined (ready_number (ready_call l s words M).answer) → (ready_call l s words M).words ≡ words
+  pub ready : (words : List ℕ) (M : Memory) → Declined (ready_number (ready_call l s words M).answer)
+      → (ready_call l s words M).words ≡ words
   pub window : (pipe side : ℕ) (waiting received : List ℕ)
       → Declined (window l s pipe side waiting received).refusal → (window l s pipe side waiting received).part ≡ []
-  pub result : (output : List ℕ) (M : Memory) → Declined (answer_number (result l s output M).answer) → (result l s output M).output ≡ output
+  pub result : (output : List ℕ) (M : Memory) → Declined (answer_number (result l s output M).answer)
+      → (result l s output M).output ≡ output
   pub plain : (values output : List ℕ) → Declined (answer_number (plain_run l s values output).answer)
       → (plain_run l s values output).output ≡ output
   pub fill : (seed n : ℕ) (list : List ℕ) → Declined (answer_number (fill seed n list).answer) → (fill seed n list).list ≡ list
   pub make : (seed : ℕ) (z : Sizes) (out : List ℕ) → Declined (made_number (make seed z out).answer) → (make seed z out).output ≡ out
-  pub vectors : (k : ℕ) (lent : List ℕ) → Declined (answer_number (step_vectors l s k lent).answer) → (step_vectors l s k lent).counts ≡ lent
+  pub vectors : (k : ℕ) (lent : List ℕ) → Declined (answer_number (step_vectors l s k lent).answer)
+      → (step_vectors l s k lent).counts ≡ lent
 
 -- ---- "words beyond the named length never change": rows past P, words past those that Accept counts, ready words past the 16th, places
 -- past the n-th, bytes past a description. All other lists are lent as long as they are used, or the call is declined

@@ -1,6 +1,7 @@
 -- Document 01, "The description": signed words as bytes and bytes to words, the length that the sizes give, the range of every word,
 -- decoding; refusals 1 to 5.
-use Rattle.std.specs.Prelude.{Bool, not, cond, ◌&&◌, ◌||◌, List, [], ◌∷◌, map, ◌++◌, ℕ, suc, ◌+◌, ◌*◌, ◌-◌, ◌/◌, ◌%◌, eqb, leb, ltb, length, take, replicate, ℤ, pos, negsuc}
+use Rattle.std.specs.Prelude.{Bool, not, cond, ◌&&◌, ◌||◌, List, [], ◌∷◌, map, ◌++◌, ℕ, suc, ◌+◌, ◌*◌, ◌-◌, ◌/◌, ◌%◌, eqb, leb, ltb, length}
+use Rattle.std.specs.Prelude.{take, replicate, ℤ, pos, negsuc}
 use Rattle.std.specs.Int.Signed.{le_z, lt_z}
 use Rattle.std.specs.Int.{w32}
 use Rattle.std.proofs.Common.{of_z}

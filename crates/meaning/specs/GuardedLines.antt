@@ -49,7 +49,8 @@ pub record Guarded (l : Limits) (s : List ℕ) : Type 0 where
   -- "descriptions of the older length are declined by 3", of all sizes
   pub older_length : Known l → SizesFit (sizes_of s) → length s ≡ 4 * former_total (sizes_of s) → DeclinedBy l s 3
   -- "refusal 4 covers the new words"
-  pub covered : ((c : Condition) → In c conditions_before → Asks l s c) → (i : ℕ) → i < (sizes_of s).lines → (GuardFits s (sizes_of s) i → ⊥)
+  pub covered : ((c : Condition) → In c conditions_before → Asks l s c) → (i : ℕ) → i < (sizes_of s).lines
+      → (GuardFits s (sizes_of s) i → ⊥)
       → accept l s ≡ Refused 4
   -- "a guarded target still makes its stream written": Accept answers as it does to any other guard
   pub any_guard : (t : List ℕ) → OtherGuards s t → accept l s ≡ accept l t

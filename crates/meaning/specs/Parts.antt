@@ -8,7 +8,8 @@ use Rattle.integers.specs.declared.V3.{V3}
 use Rattle.integers.specs.declared.V2.{V2}
 use Rattle.integers.specs.declared.Matrix.{Matrix}
 use Rattle.meaning.specs.declared.Sizes.{Sizes}
-use Rattle.meaning.specs.Description.{matrix_words, place_at, map_at, loading_at, line_at, vector_at, unit3, matrix_at, loading_of, stream_of}
+use Rattle.meaning.specs.Description.{matrix_words, place_at, map_at, loading_at, line_at, vector_at, unit3, matrix_at, loading_of}
+use Rattle.meaning.specs.Description.{stream_of}
 use Rattle.meaning.specs.Conditions.{SizesFit}
 
 module _ (s t : List ℕ) where

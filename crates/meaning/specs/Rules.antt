@@ -1,6 +1,7 @@
 -- Document 01, "The network": links and their fill, sound states, and for each of send, take, fire, give and receive when it is ready and
 -- what it does, on the words of any sound state; the lowest ready step.
-use Rattle.std.specs.Prelude.{Bool, cond, ◌&&◌, ◌||◌, List, [], ◌∷◌, ◌++◌, map, ℕ, zero, suc, ◌+◌, ◌-◌, eqb, leb, ltb, length, get_or, set, take}
+use Rattle.std.specs.Prelude.{Bool, cond, ◌&&◌, ◌||◌, List, [], ◌∷◌, ◌++◌, map, ℕ, zero, suc, ◌+◌, ◌-◌, eqb, leb, ltb, length, get_or, set}
+use Rattle.std.specs.Prelude.{take}
 use Rattle.integers.specs.declared.V3.{V3}
 use Rattle.meaning.specs.Lists.{every, any, each, numbers}
 use Rattle.meaning.specs.Body.{run_lines}
@@ -75,7 +76,8 @@ module _ (A : Array) where
 
   abbrev pub sound_link : List ℕ → ℕ → ℕ → Bool
   sound_link st q k =
-      leb (read A st (taken_out q k)) (read A st (put_in q k)) && leb (read A st (put_in q k)) (read A st (taken_out q k) + (pipe_at A q).hop)
+      leb (read A st (taken_out q k)) (read A st (put_in q k)) && leb (read A st (put_in q k))
+      (read A st (taken_out q k) + (pipe_at A q).hop)
 
   -- n elements, x taken, y given
   abbrev pub sound_hand : Bool → ℕ → ℕ → ℕ → Bool
@@ -90,7 +92,8 @@ module _ (A : Array) where
 
   abbrev pub sound_pipe : List ℕ → ℕ → Bool
   sound_pipe st q =
-      sound_count st (Sent q) && sound_count st (Received q) && every (sound_stop st q) (numbers (stops_on A q)) && sound_link st q (stops_on A q)
+      sound_count st (Sent q) && sound_count st (Received q) && every (sound_stop st q) (numbers (stops_on A q)) && sound_link st q
+      (stops_on A q)
 
   abbrev pub sound_port : List ℕ → ℕ → ℕ → Bool
   sound_port st p s = sound_count st (Taken p s) && sound_count st (Given p s)
@@ -135,7 +138,8 @@ module _ (A : Array) where
   abbrev pub ready_to_take : List ℕ → ℕ → ℕ → Bool
   ready_to_take st q k =
       ltb 0 (fill st q k)
-      && hand_empty (stop_at A q k).keeps (read A st (Taken (process_on q k) (stream_on q))) (read A st (Given (process_on q k) (stream_on q)))
+      && hand_empty (stop_at A q k).keeps (read A st (Taken (process_on q k) (stream_on q)))
+      (read A st (Given (process_on q k) (stream_on q)))
 
   -- of process p and stream s
   abbrev pub ready_to_use : List ℕ → ℕ → ℕ → Bool

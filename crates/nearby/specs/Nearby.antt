@@ -4,7 +4,8 @@ use Rattle.std.specs.Prelude.{◌≡◌, refl, Bool, true, ◌⊎◌, ℕ, zero,
 use Rattle.std.proofs.Common.{sym, ◌∙◌, ap, ap₂, subst₂, inl, inr, le_refl, arith, lt-ltb, le-ltb}
 use Rattle.meaning.specs.Array.{Array, pipe_number, stops_on, pipe_through, on_pipe, place_on}
 use Rattle.meaning.specs.State.{Word, Firings, Taken, Given, Hand, Keep, Place, Sent, Received, End, index, word_count}
-use Rattle.meaning.specs.Rules.{process_on, stream_on, put_in, taken_out, sound, Step, Send, Take, Fire, Give, Receive, Memory, ready, apply}
+use Rattle.meaning.specs.Rules.{process_on, stream_on, put_in, taken_out, sound, Step, Send, Take, Fire, Give, Receive, Memory, ready}
+use Rattle.meaning.specs.Rules.{apply}
 use Rattle.abstract_network.specs.Counters.{put, get, fire, put≢fire, get≢fire}
 use Rattle.abstract_network.specs.Counters as Abstract
 use Rattle.network.specs.Layout.{layout}
@@ -133,7 +134,8 @@ module _ (A : Array) where
 module _ {A : Array} (W : Wired A) where
   pub counter_below : (a : Step) → There A a → counter A a < word_count A
   counter_below a h =
-      rw (counted_is A a h) at ((layout A).below (word_at A (step_of A a)) (word_live A W (Slots.counter (step_of A a)) (counter_has A a h)))
+      rw (counted_is A a h) at
+      ((layout A).below (word_at A (step_of A a)) (word_live A W (Slots.counter (step_of A a)) (counter_has A a h)))
 
   -- ---- the steps at place k of pipe q
 

@@ -15,7 +15,8 @@ use Rattle.meaning.specs.State.{words}
 use Rattle.meaning.specs.Rules.{Step, Memory, total_of, apply_all}
 use Rattle.meaning.specs.Answers.{answer_number}
 use Rattle.meaning.specs.Calls.{length_of, state_length, started, start, all_out, in_element_order, result}
-use Rattle.meaning.specs.Demand3.{Told, memory_after, granted_by, receives, all_received, final_value, Holds, finish, SameMemory, declined_by}
+use Rattle.meaning.specs.Demand3.{Told, memory_after, granted_by, receives, all_received, final_value, Holds, finish, SameMemory}
+use Rattle.meaning.specs.Demand3.{declined_by}
 use Rattle.meaning.specs.Demand3.{NotByMemory, AfterCalls}
 use Rattle.lists.specs.Rows.{every_numbers, same_every}
 use Rattle.network.specs.WordOrder.{words_length}

@@ -94,7 +94,8 @@ module _ {A : Array} (W : Wired A) where
           (ap second (sym e) ∙ (own_at (pipe_through A p s) (place_at A p s)).1)
           ∙ e
 
-      lands_at : (s : ℕ) (d : Slot) → s < stream_count A → slot s ≡ d → (process_on A (first d) (second d) ≡ p) × (stream_on A (first d) ≡ s)
+      lands_at : (s : ℕ) (d : Slot) → s < stream_count A → slot s ≡ d
+          → (process_on A (first d) (second d) ≡ p) × (stream_on A (first d) ≡ s)
       lands_at s d l e =
           let q = ap first (sym e) ∙ (own_at (pipe_through A p s) (place_at A p s)).0 in
           let k = ap second (sym e) ∙ (own_at (pipe_through A p s) (place_at A p s)).1 in
@@ -195,7 +196,8 @@ module _ {A : Array} (W : Wired A) where
       firing q k l e v m = go (stop_at A q k).keeps refl
         where
           o : (stream_on A q < stream_count A) × (pipe_through A p (stream_on A q) ≡ q) × (place_at A p (stream_on A q) ≡ k)
-          o = subst (λ (p : ℕ). (stream_on A q < stream_count A) × (pipe_through A p (stream_on A q) ≡ q) × (place_at A p (stream_on A q) ≡ k)) e
+          o = subst (λ (p : ℕ). (stream_on A q < stream_count A) × (pipe_through A p (stream_on A q) ≡ q)
+              × (place_at A p (stream_on A q) ≡ k)) e
               (port_is W q k l)
 
           used : view A after (own q k) ≡ v
@@ -231,7 +233,8 @@ module _ {A : Array} (W : Wired A) where
           → Fires (net_of A) (ranked_of W) (counts_of A st) p (words_of A st out) (words_of A (do_fire A st p) out) new
       unfolding made found
       fire_fires out new m =
-          subst (λ (st' : List ℕ). Fires (net_of A) (ranked_of W) (counts_of A st) p (words_of A st out) (words_of A st' out) new) (sym after_is)
+          subst (λ (st' : List ℕ). Fires (net_of A) (ranked_of W) (counts_of A st) p (words_of A st out) (words_of A st' out) new)
+          (sym after_is)
           (record {
             fired = λ q k l e. firing q k l e (new q k) (m q k l e);
             idle = λ q k l n. (idle q k n (hand q k) refl refl (omega arith), idle q k n (kept q k) refl refl (omega arith));

@@ -146,7 +146,8 @@ module _ {A : Array} (W : Wired A) (st : List ℕ) (long : word_count A ≤ leng
           ∙ st₁_other q k h le g (Slots.kept q k) (λ j i. omega (arith, ap sort i)))
 
       -- and where the link's spare places are 0 it is a get of the abstract network
-      pub take_moves : Moves (net_of A) (ranked_of W) waiting (counts_of A st) (get q k) (words_of A st out) (words_of A (do_take A st q k) out)
+      pub take_moves : Moves (net_of A) (ranked_of W) waiting (counts_of A st) (get q k) (words_of A st out)
+          (words_of A (do_take A st q k) out)
       unfolding after to_keep x st₁
       take_moves =
           get_moves W waiting st (do_take A st q k) out out q k
@@ -194,7 +195,8 @@ module _ {A : Array} (W : Wired A) (st : List ℕ) (long : word_count A ≤ leng
     pub receive_moves : (waiting out out' : ℕ → ℕ → ℕ) → Spare A st q (stops_on A q)
         → out' q (view A st (taken q (stops_on A q))) ≡ oldest A st q (stops_on A q)
         → ((q' i : ℕ) → (q ≡ q' → view A st (taken q (stops_on A q)) ≡ i → ⊥) → out' q' i ≡ out q' i)
-        → Moves (net_of A) (ranked_of W) waiting (counts_of A st) (get q (stops_on A q)) (words_of A st out) (words_of A (do_receive A st q) out')
+        → Moves (net_of A) (ranked_of W) waiting (counts_of A st) (get q (stops_on A q)) (words_of A st out)
+        (words_of A (do_receive A st q) out')
     receive_moves waiting out out' z new old =
         get_moves W waiting st (do_receive A st q) out out' q (stops_on A q)
         (λ i. past (place q (stops_on A q) i) (omega arith) ∙ st₁_shift q (stops_on A q) h end g z i)

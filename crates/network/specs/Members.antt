@@ -11,7 +11,8 @@ use mathlib.Core.List.Memᴰ.{append_left as left}
 use mathlib.Core.List.Memᴰ.{append_right as right}
 use Rattle.meaning.specs.Lists.{any, each, numbers}
 use Rattle.meaning.specs.Array.{Array, process_count, stream_count, pipe_number, pipe_through, on_pipe}
-use Rattle.meaning.specs.Rules.{Step, Send, Take, Fire, Give, Receive, ready_to_take, ready_to_give, ready, steps_of, in_order, at, first_ready}
+use Rattle.meaning.specs.Rules.{Step, Send, Take, Fire, Give, Receive, ready_to_take, ready_to_give, ready, steps_of, in_order, at}
+use Rattle.meaning.specs.Rules.{first_ready}
 use Rattle.lists.specs.Members.{any_yes, yes_any, map_in, in_each, each_in, numbers_in, in_numbers}
 use Rattle.lists.specs.Tests.{is_true, both_true}
 use Rattle.network.specs.Wiring.{place_at}
@@ -64,7 +65,8 @@ module _ (A : Array) where
       (left _ (in_rows (steps_of A) (process_count A) p h
       (right (map (Take p) (numbers (stream_count A))) (there (in_row (Give p) (stream_count A) s l)))))
   in_order_lem (Receive q) h =
-      right (map Send (numbers (pipe_number A))) (right (each (steps_of A) (numbers (process_count A))) (in_row Receive (pipe_number A) q h))
+      right (map Send (numbers (pipe_number A)))
+      (right (each (steps_of A) (numbers (process_count A))) (in_row Receive (pipe_number A) q h))
 
   pub listed : (a : Step) → In a (in_order A) → Listed a
   listed a i = go (cases (map Send (numbers (pipe_number A))) i)

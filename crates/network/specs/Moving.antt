@@ -36,7 +36,8 @@ module _ {A : Array} (W : Wired A) (waiting : ℕ → ℕ → ℕ) (st st' : Lis
       → Taking (view A st (taken q k)) (view A st (given q k)) (view A st (hand q k)) (view A st (Slots.kept q k)) (view A st (place q k 0))
       (view A st' (hand q k)) (view A st' (Slots.kept q k)) (kind_of (stop_at A q k).keeps))
       (receiving : k ≡ stops_on A q → out' q (view A st (taken q k)) ≡ view A st (place q k 0))
-      (received : (q' i : ℕ) → (get q k ≡ get q' (stops_on A q') → view A st (taken q' (stops_on A q')) ≡ i → ⊥) → out' q' i ≡ out q' i) where
+      (received : (q' i : ℕ) → (get q k ≡ get q' (stops_on A q') → view A st (taken q' (stops_on A q')) ≡ i → ⊥)
+      → out' q' i ≡ out q' i) where
     pub get_moves : Moves (net_of A) (ranked_of W) waiting (counts_of A st) (get q k) (words_of A st out) (words_of A st' out')
     get_moves =
         record {

@@ -1,7 +1,8 @@
 -- The waiting and the received list by pipes: where a pipe's part stands, what a receive changes there, and that the list of a start has
 -- the elements' values. Assumes nothing.
 use Rattle.std.specs.Prelude.{◌≡◌, refl, get_or, set, take, drop, replicate}
-use Rattle.std.proofs.Common.{sym, ◌∙◌, ap, ap₂, length-append, length-drop, take-append-drop, length-take-le, get_or-take, get_or-drop, drop-drop, ext_get_or, get_or-append-add, get_or-set_same, get_or-set_other, lt-ltb, le-ltb}
+use Rattle.std.proofs.Common.{sym, ◌∙◌, ap, ap₂, length-append, length-drop, take-append-drop, length-take-le, get_or-take, get_or-drop}
+use Rattle.std.proofs.Common.{drop-drop, ext_get_or, get_or-append-add, get_or-set_same, get_or-set_other, lt-ltb, le-ltb}
 use mathlib.Core.List.{List, [], ◌∷◌, ◌++◌, map, map-append}
 use Prim.Native.Nat.{ℕ, zero, suc, ◌+◌, ◌-◌, ◌≤◌, ◌<◌}
 use native.Mathlib.Omega.{arith}

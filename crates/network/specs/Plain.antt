@@ -17,7 +17,8 @@ use Rattle.meaning.specs.Lists.{any, total, numbers, numbers_from}
 use Rattle.meaning.specs.Loops.{instances}
 use Rattle.meaning.specs.Streams.{elements, hop}
 use Rattle.meaning.specs.Description.{streams_of}
-use Rattle.meaning.specs.Body.{body, stream_start, element_count, touched_from, touched_by, gather, scatter, execute, execute_all, store_after}
+use Rattle.meaning.specs.Body.{body, stream_start, element_count, touched_from, touched_by, gather, scatter, execute, execute_all}
+use Rattle.meaning.specs.Body.{store_after}
 use Rattle.meaning.specs.Body.{final_values}
 use Rattle.meaning.specs.Array.{Array, array_of, instance_at, stream_count, elements_on, pipe_order, list_length}
 use Rattle.meaning.specs.Rules.{stream_on, body_at}

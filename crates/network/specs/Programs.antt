@@ -14,7 +14,8 @@ use Rattle.meaning.specs.Rules.{process_on, stream_on, body_at}
 use Rattle.lists.specs.Rows.{length_numbers, get_d_first, same_numbers}
 use Rattle.abstract_network.specs.Values.{Program, Body}
 use Rattle.abstract_network.specs.Firing.{Own, in_hand, in_keep}
-use Rattle.network.specs.Wiring.{kind_of, rank_at, net_of, element_at, writes, UsedAt, Wired, element_pipe, has_port_lem, ranked_of, lined_of}
+use Rattle.network.specs.Wiring.{kind_of, rank_at, net_of, element_at, writes, UsedAt, Wired, element_pipe, has_port_lem, ranked_of}
+use Rattle.network.specs.Wiring.{lined_of}
 use Rattle.network.specs.Wiring.{laid_of, clock_of}
 use Rattle.abstract_network.specs.System.{Spot, Geometry, System}
 

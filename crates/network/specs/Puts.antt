@@ -131,14 +131,16 @@ module _ {A : Array} (W : Wired A) (st : List ℕ) (long : word_count A ≤ leng
     pub give_written : Written W st (do_give A st q k)
     unfolding after of_keep x y source value st₁
     give_written =
-        set_written W (st₁ of_keep) (st₁_long of_keep) (chosen q k of_keep) (chosen_has A q k of_keep l) (source_is of_keep) 0 (given q k) l refl
+        set_written W (st₁ of_keep) (st₁_long of_keep) (chosen q k of_keep) (chosen_has A q k of_keep l) (source_is of_keep) 0
+        (given q k) l refl
         (putting_written q (suc k) h l g (value of_keep))
 
     -- it counts one more of what was given there
     pub give_more : OneMore (counts_of A st) (counts_of A (do_give A st q k)) (put q (suc k))
     unfolding after of_keep x y source value st₁
     give_more =
-        set_more W (st₁ of_keep) (st₁_long of_keep) (chosen q k of_keep) (chosen_has A q k of_keep l) (source_is of_keep) 0 (given q k) l refl
+        set_more W (st₁ of_keep) (st₁_long of_keep) (chosen q k of_keep) (chosen_has A q k of_keep l) (source_is of_keep) 0
+        (given q k) l refl
         (put q (suc k)) refl
         (chosen_sort q k of_keep).0 st
         (λ d. putting_other q (suc k) h l g (value of_keep) (counter d) (λ e. omega (arith, ap sort e, counter_sort d)))
@@ -196,7 +198,8 @@ module _ {A : Array} (W : Wired A) (st : List ℕ) (long : word_count A ≤ leng
           two (passed i) = i
           two (kept i j m) =
               absurd
-              (eqb-false (read A st (Taken (process_on A q k) (stream_on A q))) (suc (read A st (Given (process_on A q k) (stream_on A q)))) e
+              (eqb-false (read A st (Taken (process_on A q k) (stream_on A q)))
+              (suc (read A st (Given (process_on A q k) (stream_on A q)))) e
               (taken_is A st q k l ∙ i ∙ ap suc (sym (given_is A st q k l))))
 
       -- and is a put of the abstract network

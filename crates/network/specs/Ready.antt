@@ -5,10 +5,12 @@ use Rattle.std.proofs.Common.{sym, ◌∙◌, ap₂, subst, subst₂, le_refl, l
 use Prim.Native.Nat.{ℕ, zero, suc, ◌+◌, ◌≤◌, ◌<◌}
 use native.Mathlib.Omega.{arith}
 use Rattle.meaning.specs.Lists.{every, numbers}
-use Rattle.meaning.specs.Array.{Array, count_at, process_count, stream_count, pipe_number, pipe_at, stops_on, elements_on, stop_at, pipe_through}
+use Rattle.meaning.specs.Array.{Array, count_at, process_count, stream_count, pipe_number, pipe_at, stops_on, elements_on, stop_at}
+use Rattle.meaning.specs.Array.{pipe_through}
 use Rattle.meaning.specs.Array.{on_pipe}
 use Rattle.meaning.specs.State.{Received, Firings, Taken, Given, Sent, read}
-use Rattle.meaning.specs.Rules.{process_on, stream_on, put_in, taken_out, fill, has_room, ready_to_take, ready_to_use, ready_to_fire, ready_to_give}
+use Rattle.meaning.specs.Rules.{process_on, stream_on, put_in, taken_out, fill, has_room, ready_to_take, ready_to_use, ready_to_fire}
+use Rattle.meaning.specs.Rules.{ready_to_give}
 use Rattle.meaning.specs.Rules.{Send, Take, Fire, Give, Receive, ready}
 use Rattle.meaning.specs.Rules as Rules
 use Rattle.abstract_network.specs.Counters.{Use, Step, put, get, fire, Counts, At, Guard}
@@ -67,7 +69,8 @@ module _ (A : Array) where
       c : Counts
       c = counts_of A st
 
-      says_room : (q k : ℕ) → q < pipe_number A → k ≤ stops_on A q → Says (c (put q k) < c (get q k) + (pipe_at A q).hop) (has_room A st q k)
+      says_room : (q k : ℕ) → q < pipe_number A → k ≤ stops_on A q
+          → Says (c (put q k) < c (get q k) + (pipe_at A q).hop) (has_room A st q k)
       unfolding c
       says_room q k h l =
           let x = put_is q k h l in
@@ -139,7 +142,8 @@ module _ (A : Array) where
               says_as (λ f. (omega (arith, fired_is p h), spread f))
               (λ g s m. let z = has_port_lem A p s (W.on_all p s (omega arith) m) in
               g.1 (pipe_through A p s) (place_at A p s) z.place_lt z.process)
-              (says_every (ready_to_use A st p) (stream_count A) (λ s m. says_used p s h (has_port_lem A p s (W.on_all p s (omega arith) m))))
+              (says_every (ready_to_use A st p) (stream_count A)
+              (λ s m. says_used p s h (has_port_lem A p s (W.on_all p s (omega arith) m))))
 
       -- ready says whether the abstract network may grant the step
       pub says_ready : (a : Rules.Step) → There a → Says (Guard (net_of A) (counts_of A st) (step_of a)) (ready A st a)

@@ -6,10 +6,12 @@ use Rattle.std.proofs.Common.{subst, le_refl, lt-ltb}
 use Rattle.std.proofs.Math.Bool.{true, false}
 use Prim.Native.Nat.{ℕ, zero, suc, ◌+◌, ◌≤◌, ◌<◌}
 use native.Mathlib.Omega.{arith}
-use Rattle.meaning.specs.Array.{Array, count_at, process_count, stream_count, pipe_number, pipe_at, stops_on, elements_on, stop_at, pipe_through}
+use Rattle.meaning.specs.Array.{Array, count_at, process_count, stream_count, pipe_number, pipe_at, stops_on, elements_on, stop_at}
+use Rattle.meaning.specs.Array.{pipe_through}
 use Rattle.meaning.specs.Array.{on_pipe}
 use Rattle.meaning.specs.State.{Firings, Taken, Given, Sent, Received, word_count, read}
-use Rattle.meaning.specs.Rules.{process_on, stream_on, put_in, taken_out, sound_link, sound_stop, sound_pipe, sound_port, sound_process, sound}
+use Rattle.meaning.specs.Rules.{process_on, stream_on, put_in, taken_out, sound_link, sound_stop, sound_pipe, sound_port, sound_process}
+use Rattle.meaning.specs.Rules.{sound}
 use Rattle.meaning.specs.Rules.{Memory, ready, apply}
 use Rattle.meaning.specs.Rules as Rules
 use Rattle.abstract_network.specs.Cases.{Order, less, at_least, order}
@@ -70,7 +72,8 @@ module _ {A : Array} (W : Wired A) where
         (omega (arith, z.0, e, taken_is A st q k l), omega (arith, z.1, e, given_is A st q k l))
 
     Stop : ℕ → ℕ → Type 0
-    Stop q k = Balance (elements_on A q) (counts_of A st (get q k)) (counts_of A st (put q (suc k))) (kind_of (stop_at A q k).keeps) × Link q k
+    Stop q k = Balance (elements_on A q) (counts_of A st (get q k)) (counts_of A st (put q (suc k))) (kind_of (stop_at A q k).keeps)
+        × Link q k
 
     says_stop : Processes → (q k : ℕ) → k < stops_on A q → Says (Stop q k) (sound_stop A st q k)
     unfolding Stop
@@ -141,7 +144,8 @@ module _ {A : Array} (W : Wired A) where
             go (at_least h) m = omega (arith, no_get q k h)
 
         link : (q k : ℕ) → k ≤ stops_on A q
-            → (counts_of A st (get q k) ≤ counts_of A st (put q k)) × (counts_of A st (put q k) ≤ counts_of A st (get q k) + (pipe_at A q).hop)
+            → (counts_of A st (get q k) ≤ counts_of A st (put q k))
+            × (counts_of A st (put q k) ≤ counts_of A st (get q k) + (pipe_at A q).hop)
         link q k l = go (order q (pipe_number A)) (order k (stops_on A q))
           where
             go : Order q (pipe_number A) → Order k (stops_on A q)

@@ -16,7 +16,8 @@ use Rattle.meaning.specs.Lists.{numbers}
 use Rattle.meaning.specs.Points.{Between}
 use Rattle.meaning.specs.Operations.{last_operation}
 use Rattle.meaning.specs.Guards.{last_comparison}
-use Rattle.meaning.specs.Description.{decoded, sizes_of, line_at, stream_of, body_line, no_stream, no_line, description_of, streams_of, lines_of}
+use Rattle.meaning.specs.Description.{decoded, sizes_of, line_at, stream_of, body_line, no_stream, no_line, description_of, streams_of}
+use Rattle.meaning.specs.Description.{lines_of}
 use Rattle.meaning.specs.Conditions.{SizesFit, WordsFit}
 use Rattle.lists.specs.Members.{map_in, in_numbers, numbers_in}
 use Rattle.lists.specs.Rows.{length_numbers, get_d_first}

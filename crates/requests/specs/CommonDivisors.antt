@@ -1,6 +1,7 @@
 -- Request 2.7: the divisors in Accept's answer are those that the shortening rule takes out, and tell how far apart values and working
 -- processes lie. Assumes nothing.
-use Rattle.std.specs.Prelude.{◌≡◌, refl, ◌↔◌, Bool, true, false, List, [], ◌∷◌, map, ℕ, zero, suc, ◌+◌, ◌≤◌, ◌<◌, eqb, get_or, drop, ℤ, nat_abs, ◌+ℤ◌, ◌*ℤ◌}
+use Rattle.std.specs.Prelude.{◌≡◌, refl, ◌↔◌, Bool, true, false, List, [], ◌∷◌, map, ℕ, zero, suc, ◌+◌, ◌≤◌, ◌<◌, eqb, get_or, drop, ℤ}
+use Rattle.std.specs.Prelude.{nat_abs, ◌+ℤ◌, ◌*ℤ◌}
 use Rattle.std.proofs.Common.{sym, ◌∙◌, arith, get_or-drop, eqb-true}
 use Rattle.std.proofs.Math.Path.{ap, subst}
 use Rattle.std.specs.Int.{◌∣◌}

@@ -14,7 +14,8 @@ use Rattle.meaning.specs.Points.{Between}
 use Rattle.meaning.specs.Description.{sizes_of, line_at, body_line, description_of, lines_of}
 use Rattle.meaning.specs.Accept.{refusal_of, answer_of, accept}
 use Rattle.meaning.specs.Conditions.{WordsFit}
-use Rattle.meaning.specs.FixedPoint.{tests_before, HasSix, has_six, tests_after, former_tests, former_accept, conditions_before, conditions_after}
+use Rattle.meaning.specs.FixedPoint.{tests_before, HasSix, has_six, tests_after, former_tests, former_accept, conditions_before}
+use Rattle.meaning.specs.FixedPoint.{conditions_after}
 use Rattle.meaning.specs.FixedPoint.{WasFour, FixedPoint}
 use Rattle.geometry.specs.Tests.{numbered}
 use Rattle.network.specs.Decide.{Says}

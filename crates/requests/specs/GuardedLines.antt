@@ -16,7 +16,8 @@ use Rattle.meaning.specs.Operations.{last_operation}
 use Rattle.meaning.specs.Guards.{index_of}
 use Rattle.meaning.specs.Description.{sizes_of, body_line, no_line, description_of, lines_of}
 use Rattle.meaning.specs.Accept.{accept, Accepts}
-use Rattle.meaning.specs.Conditions.{Known, SizesFit, former_total, GuardFits, WordsFit, Meets, Condition, Condition.Board, Condition.Begins}
+use Rattle.meaning.specs.Conditions.{Known, SizesFit, former_total, GuardFits, WordsFit, Meets, Condition, Condition.Board}
+use Rattle.meaning.specs.Conditions.{Condition.Begins}
 use Rattle.meaning.specs.Conditions.{Condition.Sizes-fit, Condition.Long, Condition.Words-fit, Asks}
 use Rattle.meaning.specs.FixedPoint.{conditions_after}
 use Rattle.meaning.specs.Alike.{DeclinedBy}

@@ -15,7 +15,8 @@ use Rattle.meaning.specs.Points.{IsLine}
 use Rattle.meaning.specs.Description.{sizes_of, description_of}
 use Rattle.meaning.specs.Accept.{refusal_of, answer_of, accept}
 use Rattle.meaning.specs.Conditions.{Small, Condition.Place-rank, Condition.Increment}
-use Rattle.meaning.specs.LongerStrides.{former_nine, tests_before, tests_after, former_tests, former_accept, conditions_before, conditions_after}
+use Rattle.meaning.specs.LongerStrides.{former_nine, tests_before, tests_after, former_tests, former_accept, conditions_before}
+use Rattle.meaning.specs.LongerStrides.{conditions_after}
 use Rattle.meaning.specs.LongerStrides.{WasNine, LongerStrides}
 use Rattle.geometry.specs.Tests.{numbered}
 use Rattle.geometry.specs.Lines.{line_unique}

@@ -105,7 +105,8 @@ module _ {s t : List ℕ} (o : OtherWords s t) where
   words_same : refused4 s z ≡ refused4 t z
   words_same =
       ap not
-      (same_every (λ k. in_range z k (word_at s k)) (λ k. in_range z k (word_at t k)) 3 (words_of z - 3) (λ k l m. range_same k l (omega arith)))
+      (same_every (λ k. in_range z k (word_at s k)) (λ k. in_range z k (word_at t k)) 3 (words_of z - 3)
+      (λ k l m. range_same k l (omega arith)))
 
   -- ---- what stands before the body
 

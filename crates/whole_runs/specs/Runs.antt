@@ -14,7 +14,8 @@ use Rattle.meaning.specs.Description.{nest_of, stream_of, body_line, description
 use Rattle.meaning.specs.Body.{run_lines, touched_from, scatter, execute, execute_all}
 use Rattle.meaning.specs.Accept.{tests_from, refusal_of, accept}
 use Rattle.meaning.specs.Array.{Array, insert_by_step, by_step, pipes_from, array_of}
-use Rattle.meaning.specs.Rules.{move_down, sound, write_all, Memory, Step, ready, in_order, apply, Found, at, nothing, first_ready, run_steps}
+use Rattle.meaning.specs.Rules.{move_down, sound, write_all, Memory, Step, ready, in_order, apply, Found, at, nothing, first_ready}
+use Rattle.meaning.specs.Rules.{run_steps}
 use Rattle.meaning.specs.Rules.{apply_all}
 use Rattle.meaning.specs.Answers.{accept_values, answer_number, ran_values, ready_values}
 use Rattle.meaning.specs.Calls.{start, run, ready_call, window, result, plain_run}
@@ -117,7 +118,9 @@ more = one ++ (two ++ (ordered ++ (spatial_run ++ decimated)))
 
 pub proved : map (λ c. c.got) more ≡ map (λ c. c.wanted) more
 unfolding eq_list first_wrong backwards bits_at word_at gcd_of euclid filter any every position best best_or total each numbers_from refusal
-    progression instances line_of points widen_all around box_of sent_to first_of last_of stays march line_in pipe used_on pipe_elements nest_of
-    stream_of body_line description_of run_lines touched_from scatter execute execute_all tests_from refusal_of accept insert_by_step by_step pipes_from
+    progression instances line_of points widen_all around box_of sent_to first_of last_of stays march line_in pipe used_on pipe_elements
+    nest_of
+    stream_of body_line description_of run_lines touched_from scatter execute execute_all tests_from refusal_of accept insert_by_step
+    by_step pipes_from
     array_of move_down sound write_all apply first_ready run_steps apply_all start run ready_call window result plain_run
 proved = agree more refl

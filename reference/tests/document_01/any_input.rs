@@ -116,10 +116,6 @@ fn states_and_lists() {
             if lists.run(1000).is_ok() {
                 assert!(lists.network().sound(&lists.state));
             }
-            let before = lists.words();
-            if lists.clocked_run(kind as i32).is_err() {
-                assert_eq!(lists.words(), before);
-            }
             let count = random.below(20);
             let _ = lists.ready(&mut vec![0; count]);
             let _ = lists.window(number, kind);

@@ -6,7 +6,6 @@ use std::path::PathBuf;
 use std::process::{Command, Output, Stdio};
 
 use reference::board::GAUGE;
-use reference::clock_text::clock_text;
 use reference::designs::{grid, polynomial_one, polynomial_two};
 use reference::examples::{example_scripts, examples};
 use reference::expected::vectors;
@@ -111,26 +110,6 @@ fn steps() {
     let large = polynomial_one(63).bytes();
     assert_eq!(steps(&["--board", "1", "2"], &large), "refused 6\n");
     assert_eq!(steps(&["--board", "2", "4"], &large), "refused 33\n");
-}
-
-/// Request 2.6: the counts of a clocked run, or the refusal; a tick may be negative.
-#[test]
-fn clock() {
-    let clock = |arguments: &[&str], description: &[u8]| {
-        let output = run(&[&["clock"], arguments].concat(), description);
-        assert!(output.status.success() && output.stderr.is_empty());
-        String::from_utf8(output.stdout).expect("plain text")
-    };
-    let two = polynomial_two(2).bytes();
-    for tick in [i32::MIN, -4, -1, 0, 3, i32::MAX] {
-        let text = clock_text(GAUGE, tick, &two);
-        assert_eq!(clock(&[&tick.to_string()], &two), text);
-        assert_eq!(clock(&["--board", "1", &tick.to_string()], &two), text);
-    }
-    assert_eq!(clock(&["3"], &[]), "refused 1\n");
-    assert_eq!(clock(&["--board", "2", "-3"], &two), "refused 33\n");
-    let large = polynomial_one(63).bytes();
-    assert_eq!(clock(&["--board", "1", "2"], &large), "refused 6\n");
 }
 
 /// Request 2.3: a value to a line, or the refusal.
@@ -254,17 +233,12 @@ fn expected_files() {
         assert_eq!(output, run(&arguments, &[]).stdout);
         assert!(!folder.join("stdin").exists());
     }
-    // These two are given both.
-    for (program, command, design) in [
-        ("print_steps", "steps", polynomial_one(2)),
-        ("print_clock", "clock", polynomial_two(2)),
-    ] {
-        let folder = place.join("crates").join(program);
-        let file = |name: &str| fs::read(folder.join(name)).expect("a file");
-        assert_eq!(file("args"), b"3\n");
-        assert_eq!(file("stdin"), design.bytes());
-        assert_eq!(file("stdout"), run(&[command, "3"], &file("stdin")).stdout);
-    }
+    // This one is given both.
+    let folder = place.join("crates").join("print_steps");
+    let file = |name: &str| fs::read(folder.join(name)).expect("a file");
+    assert_eq!(file("args"), b"3\n");
+    assert_eq!(file("stdin"), polynomial_one(2).bytes());
+    assert_eq!(file("stdout"), run(&["steps", "3"], &file("stdin")).stdout);
     for example in examples() {
         let file = place.join("examples").join(format!("{}.bin", example.name));
         let bytes = fs::read(file).expect("an example");
@@ -279,7 +253,7 @@ fn expected_files() {
 
 #[test]
 fn bad_arguments() {
-    let bad: [&[&str]; 54] = [
+    let bad: [&[&str]; 45] = [
         &[],
         &["tables"],
         &[""],
@@ -299,15 +273,6 @@ fn bad_arguments() {
         &["steps", "--board", "1"],
         &["steps", "--board", "bench", "1"],
         &["steps", "1", "--board", "1"],
-        &["clock"],
-        &["clock", "three"],
-        &["clock", "-"],
-        &["clock", "2147483648"],
-        &["clock", "-2147483649"],
-        &["clock", "1", "1"],
-        &["clock", "--board", "1"],
-        &["clock", "--board", "-1", "1"],
-        &["clock", "1", "--board", "1"],
         &["replay", "--board", "1"],
         &["replay", "more"],
         &["fill"],
@@ -358,13 +323,7 @@ fn arguments_that_are_no_text() {
 #[cfg(unix)]
 #[test]
 fn unreadable_input() {
-    for arguments in [
-        &["table"][..],
-        &["walk"],
-        &["steps", "1"],
-        &["clock", "1"],
-        &["replay"],
-    ] {
+    for arguments in [&["table"][..], &["walk"], &["steps", "1"], &["replay"]] {
         let folder = File::open(env!("CARGO_TARGET_TMPDIR")).expect("a directory");
         check_bad(
             &command(arguments)

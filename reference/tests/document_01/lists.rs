@@ -2,7 +2,6 @@
 
 use reference::board::GAUGE;
 use reference::calls::{Accepted, Calls, Lent, Ran, ReadyProcesses};
-use reference::clocked::Clocked;
 use reference::description::Description;
 use reference::network::{Network, Step};
 use reference::Refusal;
@@ -78,15 +77,6 @@ impl Lists {
             state: &mut self.state,
         };
         self.calls.run(lent, steps)
-    }
-
-    pub fn clocked_run(&mut self, tick: i32) -> Result<Clocked, Refusal> {
-        let lent = Lent {
-            waiting: &self.waiting,
-            received: &mut self.received,
-            state: &mut self.state,
-        };
-        self.calls.clocked_run(lent, tick)
     }
 
     pub fn ready(&self, words: &mut [u64]) -> Result<ReadyProcesses, Refusal> {

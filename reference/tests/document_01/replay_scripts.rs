@@ -14,9 +14,6 @@ const STATE: u32 = 5;
 const RECEIVED: u32 = 6;
 const POKE: u32 = 7;
 const LEND: u32 = 8;
-const CLOCK: u32 = 9;
-const START: u32 = 14;
-const POKE_RECEIVED: u32 = 15;
 
 /// Design one for a product of polynomials of degree 0: a, b and c have one element each.
 fn small(calls: &[Call]) -> Vec<u8> {
@@ -202,112 +199,10 @@ fn a_longer_lend_is_the_whole_buffer() {
     assert_eq!(lines(&small(&calls)), ["lend", ready, "lend", "run 13 0"]);
 }
 
-/// Request 2.6: the tick is the bits of a signed number, and what is answered may be negative.
 #[test]
-fn clocked_runs() {
-    let calls = [
-        // b has hop 2 and is sent at tick −2.
-        [CLOCK, -3_i32 as u32, 9, 9],
-        [STATE, 0, 0, 0],
-        [CLOCK, 0, 0, 0],
-        [START, 9, 9, 9],
-        [CLOCK, 0, 0, 0],
-        [STATE, 0, 0, 0],
-        [RECEIVED, 0, 0, 0],
-        [START, 0, 0, 0],
-        [CLOCK, i32::MAX as u32, 0, 0],
-        [RESULT, 0, 0, 0],
-        [START, 0, 0, 0],
-        [CLOCK, i32::MIN as u32, 0, 0],
-        [RUN, 100, 0, 0],
-    ];
-    let expected = [
-        "clock 0 0",
-        "state 0 1 0 0 3 0 0 0 0 0 0 0 0 0 0 0 0 1 0 0 0 0 0 0 0 0 0",
-        "refused 32",
-        "start",
-        "clock 0 0",
-        "state 1 1 0 0 3 0 1 1 0 0 0 0 1 1 0 0 0 1 0 0 1 0 5 0 1 0 22",
-        "received 0 0 0",
-        "start",
-        "clock 0 0",
-        "result 3 5 22",
-        "start",
-        "clock 0 0",
-        "run 11 0",
-    ];
-    assert_eq!(lines(&small(&calls)), expected);
-    let mut earlier = polynomial_one(1);
-    earlier.left = vec![-2, -3];
-    let script = Script {
-        description: earlier.bytes(),
-        board: GAUGE,
-        values: vec![0; 17],
-        calls: vec![[CLOCK, 0, 0, 0]],
-    };
-    assert_eq!(lines(&script.bytes()), ["clock -7 3"]);
-}
-
-/// Start is told the script's values again, on the lists as they are lent then.
-#[test]
-fn starts_and_pokes_of_the_received_list() {
-    let calls = [
-        [POKE_RECEIVED, 2, 8, 9],
-        [POKE_RECEIVED, 3, 1, 0],
-        [POKE_RECEIVED, u32::MAX, 1, 0],
-        [RECEIVED, 0, 0, 0],
-        [CLOCK, 0, 0, 0],
-        [RUN, 4, 0, 0],
-        [LEND, 2, 26, 0],
-        [START, 0, 0, 0],
-        [LEND, 1, 2, 0],
-        [POKE_RECEIVED, 2, 7, 0],
-        [START, 0, 0, 0],
-        [LEND, 0, 4, 0],
-        [START, 0, 0, 0],
-        [LEND, 0, 3, 0],
-        [LEND, 1, 3, 0],
-        [LEND, 2, 28, 0],
-        [POKE, 27, 9, 0],
-        [RECEIVED, 0, 0, 0],
-        [START, 0, 0, 0],
-        [STATE, 0, 0, 0],
-        [RECEIVED, 0, 0, 0],
-        [CLOCK, 9, 0, 0],
-        [RECEIVED, 0, 0, 0],
-    ];
-    let expected = [
-        "poke",
-        "poke",
-        "poke",
-        "received 0 0 8",
-        "refused 32",
-        "run 4 1",
-        "lend",
-        "refused 21",
-        "lend",
-        "poke",
-        "refused 26",
-        "lend",
-        "refused 20",
-        "lend",
-        "lend",
-        "lend",
-        "poke",
-        "received 0 0 8",
-        "start",
-        "state 0 0 0 0 0 0 0 0 0 0 0 0 0 0 0 0 0 0 0 0 0 0 0 0 0 0 0 9",
-        "received 0 0 0",
-        "clock 0 0",
-        "received 3 5 22",
-    ];
-    assert_eq!(lines(&small(&calls)), expected);
-}
-
-#[test]
-fn a_number_of_no_call_ends_the_script() {
-    for none in [10, 11, 12, 13, 16, 17, 1 << 31, u32::MAX] {
-        let calls = [[RUN, 2, 0, 0], [none, 0, 0, 0], [RUN, 2, 0, 0]];
+fn a_call_over_8_ends_the_script() {
+    for over in [9, 10, u32::MAX] {
+        let calls = [[RUN, 2, 0, 0], [over, 0, 0, 0], [RUN, 2, 0, 0]];
         assert_eq!(lines(&small(&calls)), ["run 2 1"]);
     }
 }
@@ -365,17 +260,8 @@ ready 8 3 17912 0 0 0 0 0 0 0 0 0 0 0 0 0 0 0
 run 263 0
 result 1 2 3 4 5 6 7 8 9 9 8 7 6 5 4 3 2 1 30 24 18 84 69 54 138 114 90
 ";
-    let clocked = "\
-accept 5 9 11 3 95 141 1 1 1 1
-start
-clock 0 6
-state 1 3 3 0 0 0 3 3 0 0 0 0 5 4 0 4 0 2 3 3 0 0 0 3 3 0 0 0 0 4 3 0 13 0 2 2 2 0 0 3 2 2 0 0 4 0 3 2 0 16 0 0 1 1 0 0 2 0 0 0 0 6 5 \
-2 1 0 0 0 0 0 0 0 0 1 0 0 0 0 0 0 1 0 0 0 0 3 0 0 3 0 0 0 5 0 0
-run 66 0
-result 1 2 3 4 5 6 4 13 28 27 18
-";
     // On the bench it is the same.
-    let expected = [polynomial, smoothing, cleared, slanted, polynomial, clocked];
+    let expected = [polynomial, smoothing, cleared, slanted, polynomial];
     assert_eq!(example_scripts().len(), expected.len());
     for (example, expected) in example_scripts().iter().zip(expected) {
         assert_eq!(replay(&example.script.bytes()), expected);
@@ -387,7 +273,7 @@ fn bundles() {
     let scripts = [
         small(&[[RUN, 2, 0, 0]]),
         Vec::new(),
-        small(&[[RUN, 3, 0, 0], [10, 0, 0, 0], [RUN, 1, 0, 0]]),
+        small(&[[RUN, 3, 0, 0], [9, 0, 0, 0], [RUN, 1, 0, 0]]),
     ];
     let outputs: Vec<String> = scripts.iter().map(|script| replay(script)).collect();
     let text = |outputs: &[String]| -> String {
@@ -450,13 +336,10 @@ fn after_a_refused_description() {
             [LEND, 2, 2, 0],
             [POKE, 1, 5, 0],
             [STATE, 0, 0, 0],
-            [CLOCK, 0, 0, 0],
-            [START, 0, 0, 0],
         ],
     };
     let mut expected = vec!["refused 2"; 5];
     expected.extend(["state", "received", "poke", "lend", "poke", "state 0 5"]);
-    expected.extend(["refused 2"; 2]);
     assert_eq!(replay(&script.bytes()).lines().next(), Some("refused 2"));
     assert_eq!(lines(&script.bytes()), expected);
 }

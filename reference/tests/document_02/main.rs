@@ -1,7 +1,6 @@
 //! Tests of the second implementation against document 02.
 
 mod bench_board;
-mod clocked;
 mod divisors;
 mod five_places;
 mod fixed_point;

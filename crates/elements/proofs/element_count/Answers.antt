@@ -3,7 +3,6 @@
 use mathlib.Core.Path.{◌∙◌}
 use native.Mathlib.Omega.{arith}
 use Rattle.elements.specs.Counts.{start_most, start_all}
-use borrow.Author.Rules.{rules}
 use Rattle.elements.proofs.element_count.Goals as goal
 
 pub returns : goal.returns

@@ -1,6 +1,6 @@
 -- `elements::elements_in` meets its contract: after i turns the sum is the number of stream i's first element. Assumes nothing.
 use mathlib.Core.Path.{◌≡◌, refl, ◌∙◌, ap}
-use Prim.Native.Nat.{ℕ, ◌+◌, ◌-◌, ◌≤◌, ◌<◌}
+use Prim.Native.Nat.{ℕ, ◌+◌, ◌<◌}
 use native.Mathlib.Omega.{arith}
 use lib.ListN.{length}
 use Rattle.meaning.specs.Lists.{total}
@@ -10,7 +10,6 @@ use Rattle.meaning.specs.Body.{stream_start}
 use Rattle.survey.specs.InRange.{in_range_lem}
 use Rattle.survey.specs.Surveys.{flow_is, charted, spans}
 use Rattle.elements.specs.Counts.{start_next, start_most}
-use borrow.Author.Rules.{rules}
 use Rattle.elements.proofs.elements_in.Goals as goal
 
 pub loop-i-init : goal.loop-i-init

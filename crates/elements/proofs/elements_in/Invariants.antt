@@ -1,16 +1,8 @@
 -- `elements::elements_in` meets its contract: after i turns the sum is the number of stream i's first element. Assumes nothing.
-use mathlib.Core.Path.{◌≡◌, refl, ◌∙◌, ap}
-use Prim.Native.Nat.{ℕ, ◌+◌, ◌-◌, ◌≤◌, ◌<◌}
-use native.Mathlib.Omega.{arith}
-use lib.ListN.{length}
-use Rattle.meaning.specs.Lists.{total}
-use Rattle.meaning.specs.Space.{Box, points}
+use mathlib.Core.Path.{◌≡◌}
+use Prim.Native.Nat.{◌-◌, ◌≤◌}
 use Rattle.meaning.specs.Description.{streams_of}
 use Rattle.meaning.specs.Body.{stream_start}
-use Rattle.survey.specs.InRange.{in_range_lem}
-use Rattle.survey.specs.Surveys.{flow_is, charted, spans}
-use Rattle.elements.specs.Counts.{start_next, start_most}
-use borrow.Author.Rules.{rules}
 use Rattle.elements.proofs.elements_in.Given as goal
 
 abbrev pub invariant-loop-i : goal.invariant-loop-i

@@ -9,11 +9,11 @@ returns-then-rank_refused c = applies 11 _ c.rank_refused.ensures c.if-rank_refu
 
 pub returns-then-line_refused : goal.returns-then-line_refused
 returns-then-line_refused c =
-    skips 11 _ c.rank_refused.ensures c.if-rank_refused.false (applies 12 _ c.line_Refused.ensures c.if-line_refused.true)
+    skips 11 _ c.rank_refused.ensures c.if-rank_refused.false (applies 12 _ c.line_refused.ensures c.if-line_refused.true)
 
 pub returns-else-line_refused : goal.returns-else-line_refused
 returns-else-line_refused c =
     let x = c.args in
     skips 11 _ c.rank_refused.ensures c.if-rank_refused.false
-    (skips 12 (move_tests x.limits x.f.nest x.written x.f.stream) c.line_Refused.ensures c.if-line_refused.false
+    (skips 12 (move_tests x.limits x.f.nest x.written x.f.stream) c.line_refused.ensures c.if-line_refused.false
     c.move_refusal.ensures)

@@ -1,6 +1,5 @@
 -- `sound_rows::end_holds` meets its contract. Assumes nothing.
 use borrow.Author.Tests.{le-leb, lt-leb}
-use borrow.Author.Rules.{rules}
 use Rattle.sound_rows.specs.Sound.{end_holds}
 use Rattle.sound_rows.proofs.end_holds.Goals as goal
 

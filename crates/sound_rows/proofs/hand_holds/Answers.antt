@@ -1,6 +1,5 @@
 -- `sound_rows::hand_holds` meets its contract. Assumes nothing.
 use borrow.Author.Tests.{eq-eqb, ne_eqb}
-use borrow.Author.Rules.{rules}
 use Rattle.sound_rows.specs.Sound.{hand_holds}
 use Rattle.sound_rows.proofs.hand_holds.Goals as goal
 

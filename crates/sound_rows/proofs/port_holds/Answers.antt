@@ -1,6 +1,5 @@
 -- `sound_rows::port_holds` meets its contract. Assumes nothing.
 use borrow.Author.Tests.{le-leb, lt-leb}
-use borrow.Author.Rules.{rules}
 use Rattle.sound_rows.specs.Sound.{port_holds}
 use Rattle.sound_rows.proofs.port_holds.Goals as goal
 

@@ -1,5 +1,4 @@
 -- `sound_rows::sound_firings` meets its contract. Assumes nothing.
-use borrow.Author.Rules.{rules}
 use Rattle.sound_rows.proofs.sound_firings.Goals as goal
 
 pub returns : goal.returns

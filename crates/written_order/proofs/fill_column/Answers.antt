@@ -1,9 +1,8 @@
 -- `written_order::fill_column` meets its contract: the first k entries of the column are set. Assumes nothing.
 use mathlib.Core.Path.{◌≡◌, refl, sym, ◌∙◌, ap}
-use Prim.Native.Nat.{ℕ, ◌+◌, ◌≤◌, ◌-◌}
+use Prim.Native.Nat.{ℕ, ◌+◌}
 use native.Mathlib.Omega.{arith}
 use lib.ListN.{length}
-use borrow.Author.Rules.{rules}
 use Rattle.integers.specs.Differences.{up}
 use Rattle.integers.specs.declared.V3.{V3}
 use Rattle.meaning.specs.Loops.{instances}

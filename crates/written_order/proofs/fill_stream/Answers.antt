@@ -1,7 +1,6 @@
 -- `written_order::fill_stream` meets its contract: the elements of stream i begin where those before it end, and all their numbers are
 -- below 24,576. Assumes nothing.
 use native.Mathlib.Omega.{arith}
-use borrow.Author.Rules.{rules}
 use Rattle.written_order.specs.Places.{filling, column_is}
 use Rattle.written_order.proofs.fill_stream.Goals as goal
 

@@ -1,9 +1,8 @@
 -- `written_order::fill_table` meets its contract: the first i columns are filled. Assumes nothing.
 use mathlib.Core.Path.{◌≡◌, refl, sym, ◌∙◌, ap}
-use Prim.Native.Nat.{ℕ, ◌≤◌, ◌-◌}
+use Prim.Native.Nat.{ℕ}
 use native.Mathlib.Omega.{arith}
 use lib.ListN.{length}
-use borrow.Author.Rules.{rules}
 use Rattle.meaning.specs.Loops.{instances}
 use Rattle.written_order.specs.Columns.{column}
 use Rattle.written_order.specs.Places.{place, columns, columns_next}

@@ -1,12 +1,7 @@
 -- `written_order::fill_table` meets its contract: the first i columns are filled. Assumes nothing.
-use mathlib.Core.Path.{◌≡◌, refl, sym, ◌∙◌, ap}
-use Prim.Native.Nat.{ℕ, ◌≤◌, ◌-◌}
-use native.Mathlib.Omega.{arith}
-use lib.ListN.{length}
-use borrow.Author.Rules.{rules}
-use Rattle.meaning.specs.Loops.{instances}
-use Rattle.written_order.specs.Columns.{column}
-use Rattle.written_order.specs.Places.{place, columns, columns_next}
+use mathlib.Core.Path.{◌≡◌}
+use Prim.Native.Nat.{◌≤◌, ◌-◌}
+use Rattle.written_order.specs.Places.{columns}
 use Rattle.written_order.proofs.fill_table.Given as goal
 
 abbrev pub invariant-loop-i : goal.invariant-loop-i

@@ -1,7 +1,6 @@
 -- `written_order::run_instance` meets its contract: row k of the table holds the elements that instance k touches, so that its lines run on
 -- these. Assumes nothing.
 use mathlib.Core.Path.{sym, subst₂}
-use borrow.Author.Rules.{rules}
 use Rattle.body.specs.Fit.{Runnable}
 use Rattle.written_order.specs.Places.{lent, runnable}
 use Rattle.written_order.specs.Run.{executed}

@@ -1,15 +1,11 @@
 -- `written_order::run_instances` meets its contract: what is left of the instances leads to the final values. Assumes nothing.
-use mathlib.Core.Path.{◌≡◌, refl, sym, ◌∙◌, ap}
-use Prim.Native.Nat.{◌+◌, ◌≤◌, ◌<◌, ◌-◌}
-use native.Mathlib.Omega.{arith}
+use mathlib.Core.Path.{◌≡◌}
+use Prim.Native.Nat.{◌+◌, ◌≤◌, ◌-◌}
 use lib.ListN.{length, drop}
-use borrow.Author.Rules.{rules}
 use Rattle.meaning.specs.Loops.{instances}
 use Rattle.meaning.specs.Body.{execute_all, final_values}
 use Rattle.meaning.specs.Calls.{length_of}
-use Rattle.counting.specs.Course.{next_of, after, after_zero, after_next, reached, reached_small}
-use Rattle.survey.specs.InRange.{nest_bounded}
-use Rattle.written_order.specs.Run.{some_instance, run_next, run_end}
+use Rattle.counting.specs.Course.{after}
 use Rattle.written_order.proofs.run_instances.Given as goal
 
 abbrev pub invariant-loop-k : goal.invariant-loop-k

@@ -3,7 +3,6 @@
 use mathlib.Core.Path.{sym, ◌∙◌, ap, subst}
 use Prim.Native.Nat.{ℕ}
 use lib.ListN.{length, length-replicate}
-use borrow.Author.Rules.{rules}
 use Rattle.written_order.specs.Places.{Table, columns_length, columns_table}
 use Rattle.written_order.proofs.run_loops.Goals as goal
 
