@@ -1,5 +1,5 @@
 -- `compare::print_instances` is safe and ends. Assumes nothing.
-use Rattle.std.proofs.Common.{◌-◌, ◌*◌, ◌≤◌, length, arith, rules}
+use Rattle.std.proofs.Common.{◌-◌, ◌*◌, ◌≤◌, length}
 use Rattle.compare.proofs.print_instances.Given as goal
 
 abbrev pub invariant-loop-k : goal.invariant-loop-k

@@ -1,5 +1,5 @@
 -- `compare::print_words` is safe and ends. Assumes nothing.
-use Rattle.std.proofs.Common.{◌-◌, ◌≤◌, length, rules}
+use Rattle.std.proofs.Common.{◌-◌, ◌≤◌, length}
 use Rattle.compare.proofs.print_words.Given as goal
 
 abbrev pub invariant-loop-i : goal.invariant-loop-i

@@ -1,5 +1,5 @@
 -- `compare::walk_lines` is safe and ends. Assumes nothing.
-use Rattle.std.proofs.Common.{sym, arith, rules}
+use Rattle.std.proofs.Common.{sym, arith}
 use Rattle.compare.proofs.walk_lines.Goals as goal
 
 pub slice_bounds-print_visits-end : goal.slice_bounds-print_visits-end

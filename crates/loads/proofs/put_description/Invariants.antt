@@ -1,6 +1,5 @@
 -- `loads::put_description` is safe and ends. Assumes nothing.
 use Prim.Native.Nat.{◌≤◌, ◌-◌}
-use borrow.Author.Rules.{rules}
 use Rattle.loads.proofs.put_description.Given as goal
 
 abbrev pub invariant-loop-k : goal.invariant-loop-k

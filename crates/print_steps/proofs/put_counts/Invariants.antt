@@ -2,7 +2,6 @@
 use mathlib.Core.Path.{◌≡◌}
 use Prim.Native.Nat.{◌≤◌, ◌-◌}
 use lib.ListN.{length}
-use borrow.Author.Rules.{rules}
 use Rattle.print_steps.proofs.put_counts.Given as goal
 
 abbrev pub invariant-loop-a : goal.invariant-loop-a

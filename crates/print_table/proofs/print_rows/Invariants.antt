@@ -2,7 +2,6 @@
 use mathlib.Core.Path.{◌≡◌}
 use Prim.Native.Nat.{◌≤◌, ◌-◌}
 use lib.ListN.{length}
-use borrow.Author.Rules.{rules}
 use Rattle.print_table.proofs.print_rows.Given as goal
 
 abbrev pub invariant-loop-p : goal.invariant-loop-p

@@ -1,9 +1,5 @@
 -- `print_walk::print_visits` is safe and ends. Assumes nothing.
-use mathlib.Core.Path.{sym, subst}
 use Prim.Native.Nat.{◌-◌, ◌≤◌}
-use native.Mathlib.Omega.{arith}
-use borrow.Author.Rules.{rules}
-use Rattle.vectors.specs.Within.{Within}
 use Rattle.print_walk.proofs.print_visits.Given as goal
 
 abbrev pub invariant-loop-k : goal.invariant-loop-k

@@ -1,6 +1,5 @@
 -- `print_walk::print_walk` is safe and ends. Assumes nothing.
 use mathlib.Core.Path.{sym, ◌∙◌, subst}
-use borrow.Author.Rules.{rules}
 use Rattle.meaning.specs.declared.Description.{Description}
 use Rattle.numbering.specs.Ranges.{Bounded}
 use Rattle.survey.specs.InRange.{nest_bounded}

@@ -1,5 +1,4 @@
 -- `print_walk::print_whole` is safe and ends. Assumes nothing.
-use borrow.Author.Rules.{rules}
 use Rattle.walk.specs.Walked.{readable}
 use Rattle.print_walk.proofs.print_whole.Goals as goal
 

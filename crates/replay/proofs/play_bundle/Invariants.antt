@@ -1,6 +1,5 @@
 -- `replay::play_bundle` is safe and ends. Assumes nothing.
 use Prim.Native.Nat.{◌-◌, ◌≤◌}
-use borrow.Author.Rules.{rules}
 use Rattle.replay.proofs.play_bundle.Given as goal
 
 abbrev pub invariant-loop-number : goal.invariant-loop-number

@@ -1,7 +1,6 @@
 -- `replay::play_calls` is safe and ends. Assumes nothing.
 use mathlib.Core.Path.{◌≡◌}
 use lib.ListN.{length}
-use borrow.Author.Rules.{rules}
 use Rattle.replay.proofs.play_calls.Given as goal
 
 abbrev pub invariant-loop-left : goal.invariant-loop-left
