@@ -1,8 +1,10 @@
 -- What was read stands behind what was there, and nothing of it is written over.
-use Rattle.std.proofs.Common.{◌≡◌, ℕ, ◌+◌, ◌-◌, ◌≤◌, List, ◌++◌, rules, arith, length, take, slice_range, sym, ap, ◌∙◌, subst, le_refl, drop_at, length-take-le}
+use Rattle.std.proofs.Common.{◌≡◌, ℕ, ◌+◌, ◌-◌, ◌≤◌, List, ◌++◌, rules, arith, length, take, slice_range, sym, ap, ◌∙◌, subst, le_refl, drop_at, length-take-le, OnErr}
 use Rattle.std.proofs.lemmas.Slice.{take-put_mid_below}
+use Rattle.std.specs.declared.result.Result.{Result}
+use Rattle.std.specs.declared.result.Result.TheVariants.{Ok, Err}
 use Rattle.std.specs.Io.KnownBytes.{Consumes}
-use Rattle.std.proofs.KnownBytes.{Consumes-trans}
+use Rattle.std.proofs.KnownBytes.{Consumes-trans, Consumes-kept}
 use borrow.Rule.Slice.PartMut.{put_mid, post_of}
 use lib.Seq.{take-add, take-append-le}
 use Rattle.reading.proofs.read_full.Goals as goal
@@ -34,3 +36,15 @@ loop-done-preserved g c =
       as_long = search rules;
       read = subst (Consumes _ _) (ap (λ l. take from c.loop-done.buf ++ l) (sym part) ∙ joined) (Consumes-trans _ _ _ _ _ c.loop-done.invariant.read c.in_ok-n.ensures.bytes.0);
     }
+
+-- what holds in any case
+on_err : {E P : Type 0} (r : Result ℕ E) → P → OnErr r P
+on_err (Ok n) p = tt
+on_err (Err e) p = p
+
+-- the read that failed left what stood there
+pub returns-in_err-n-clause-err : goal.returns-in_err-n-clause-err
+returns-in_err-n-clause-err g c =
+    let kept = Consumes-kept _ _ _ _ c.loop-done.invariant.read c.in_err-n.ensures.bytes in
+    let front = take-put_mid_below _ _ _ _ _ (le_refl _) c.loop-done.invariant.within in
+    on_err c.from_residual.result (c.loop-done.done, subst (Consumes _ _) (sym front) kept)

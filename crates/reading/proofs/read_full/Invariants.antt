@@ -1,3 +1,4 @@
+-- `reading::read_full` ends, since each read but the last gives a byte; what it read stands at the start of the buffer. Assumes nothing.
 use Rattle.std.proofs.Common.{length, ◌-◌, ◌≤◌, take, ◌≡◌}
 use Rattle.std.specs.Io.KnownBytes.{Consumes}
 use Rattle.reading.proofs.read_full.Given as goal
