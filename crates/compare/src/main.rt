@@ -225,7 +225,8 @@ fn within(x: u32, most: usize) -> usize
 }
 
 fn accept_line(rt: &impl Print, board: u32, s: &[u8]) -> io::Result<Extents>
-    ensures { IfOk result (λ e. (1 ≤ e.processes) × (e.processes ≤ gauge_limits.processes) × (1 ≤ e.elements) × (e.elements ≤ elements_most)) }
+    ensures { IfOk result (λ e. (1 ≤ e.processes) × (e.processes ≤ gauge_limits.processes)
+        × (1 ≤ e.elements) × (e.elements ≤ elements_most)) }
 {
     let answer = accept::accept(board, s);
     match answer {
