@@ -5,7 +5,7 @@ use Rattle.std.proofs.Common.{◌∙◌, ap₂, inl, inr, arith}
 use Prim.Native.Nat.{ℕ, suc, ◌<◌}
 use Rattle.std.proofs.Math.Decide.{ℕ_discrete}
 use Rattle.abstract_network.specs.Cases.{Equal, same, other, equal}
-use Rattle.abstract_network.specs.Counters.{Kind, through, keep, hand, Step, put, fire, Counts, Guard, Inv, inv_start, inv_step}
+use Rattle.abstract_network.specs.Counters.{Kind, through, keep, Step, put, fire, Counts, Guard, Inv, inv_start, inv_step}
 use Rattle.abstract_network.specs.Counters.{OneMore}
 use Rattle.abstract_network.specs.Counters.{get_elements}
 use Rattle.abstract_network.specs.Ranks.{rank_zero}

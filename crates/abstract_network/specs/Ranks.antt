@@ -3,7 +3,7 @@
 use Rattle.std.specs.Prelude.{◌≡◌, cond, ◌⊎◌, ℕ, zero, suc, ◌+◌, ◌-◌, ◌≤◌, ◌<◌, min, ltb}
 use Rattle.std.proofs.Common.{inl, inr, le_refl, arith, lt-ltb, le-ltb}
 use Rattle.abstract_network.specs.Cases.{Order, less, at_least, order}
-use Rattle.abstract_network.specs.Counters.{Kind, through, keep, some, AtStop, passing, fresh, holding, gone, stop_order, held, put}
+use Rattle.abstract_network.specs.Counters.{Kind, through, keep, AtStop, passing, fresh, holding, gone, stop_order, put}
 use Rattle.abstract_network.specs.Counters.{get}
 use Rattle.abstract_network.specs.Counters.{Counts, Net, Inv, along}
 

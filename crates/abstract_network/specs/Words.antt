@@ -4,7 +4,7 @@ use Rattle.std.proofs.Common.{sym, ◌∙◌, ap, subst, le_refl, arith}
 use Rattle.abstract_network.specs.Cases.{Equal, same, other, equal}
 use Rattle.abstract_network.specs.Counters.{Kind, through, keep, AtStop, passing, stop_order, Hand, empty, first, free, Offer, soaked}
 use Rattle.abstract_network.specs.Counters.{drained}
-use Rattle.abstract_network.specs.Counters.{used, passed, kept, hand, Step, put, get, Counts, Net, Guard, Inv, OneMore, Hit, hit}
+use Rattle.abstract_network.specs.Counters.{used, passed, kept, Step, put, get, Counts, Net, Guard, Inv, OneMore, Hit, hit}
 use Rattle.abstract_network.specs.Counters.{miss, hit?}
 use Rattle.abstract_network.specs.Counters.{put≢get, below_head}
 use Rattle.abstract_network.specs.Ranks.{wrap, Wrap, low, high, wrapped, Next, level, rise, Ranked, rank_keep, wrap_end}

@@ -2,7 +2,7 @@
 -- it. Assumes an accepted stream that does not move.
 use Rattle.std.specs.Prelude.{◌≡◌, refl, Bool, true, false, not, cond, ℕ, suc, ◌+◌, ◌-◌, ◌≤◌, ◌<◌, T, length, get_or, set, take}
 use Rattle.std.proofs.Common.{sym, ◌∙◌, ap, ap₂, subst, add-one, arith, length-take}
-use mathlib.Core.List.{List, map, Memᴰ as In}
+use mathlib.Core.List.{List, Memᴰ as In}
 use Rattle.std.proofs.Math.Seq.{take-length}
 use Rattle.integers.specs.Vectors.{zero2, image}
 use Rattle.integers.specs.declared.V2.{V2}

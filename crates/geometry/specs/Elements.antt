@@ -1,6 +1,6 @@
 -- The pipes' elements are the stream's elements, each once: every element of the box is on one pipe at one index, and pipe order is a
 -- rearrangement of element order. Assumes an accepted stream.
-use Rattle.std.specs.Prelude.{◌≡◌, refl, Bool, true, false, not, cond, ◌&&◌, ℕ, zero, suc, ◌+◌, ◌≤◌, ◌<◌, T, eqb, length, get_or, take, ℤ}
+use Rattle.std.specs.Prelude.{◌≡◌, refl, Bool, true, false, not, cond, ◌&&◌, ℕ, zero, suc, ◌≤◌, ◌<◌, T, eqb, length, get_or, take, ℤ}
 use Rattle.std.specs.Prelude.{pos, negsuc, neg_ℤ, ◌+ℤ◌}
 use Rattle.std.proofs.Common.{sym, ◌∙◌, ap, subst, arith, eqb→eq}
 use mathlib.Core.List.{List, reverse, Memᴰ as In}

@@ -11,7 +11,7 @@ use Rattle.meaning.specs.declared.Nest.{Nest}
 use Rattle.meaning.specs.declared.Stream.{Stream}
 use Rattle.meaning.specs.Lists.{any}
 use Rattle.meaning.specs.Loops.{place_of, increment}
-use Rattle.meaning.specs.Space.{inside, box_of, first}
+use Rattle.meaning.specs.Space.{box_of, first}
 use Rattle.meaning.specs.Streams.{stationary, pass}
 use Rattle.meaning.specs.Pipes.{reach, line_in, pipe, uses, used_on, backward, pipe_elements}
 use Rattle.meaning.specs.Points.{Inside, RowOrder as Row}

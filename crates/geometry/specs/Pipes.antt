@@ -15,7 +15,7 @@ use Rattle.meaning.specs.declared.Nest.{Nest}
 use Rattle.meaning.specs.declared.Stream.{Stream}
 use Rattle.meaning.specs.Lists.{filter, any}
 use Rattle.meaning.specs.Loops.{place_of, increment}
-use Rattle.meaning.specs.Space.{inside, box_of, space, instances_at, first, computing}
+use Rattle.meaning.specs.Space.{box_of, space, instances_at, first, computing}
 use Rattle.meaning.specs.Streams.{line, stationary, move, elements, touches, pass}
 use Rattle.meaning.specs.Pipes.{pipe, is_pipe, uses, used_on, backward, pipe_elements}
 use Rattle.meaning.specs.Points.{IsLine as Line, Inside, At}

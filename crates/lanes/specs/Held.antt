@@ -20,7 +20,7 @@ use Rattle.meaning.specs.Space.{eq2, row_index, space, processes, computing}
 use Rattle.meaning.specs.Streams.{stationary, move}
 use Rattle.meaning.specs.Pipes.{line_in, pipe, backward, soak}
 use Rattle.meaning.specs.Points.{Inside, RowOrder as Row}
-use Rattle.meaning.specs.Sorted.{Sorted, Sorted.more, Distinct}
+use Rattle.meaning.specs.Sorted.{Sorted, Sorted.none, Sorted.more, Distinct}
 use Rattle.lists.specs.Members.{in_filter, filter_in, in_reverse, reverse_in}
 use Rattle.geometry.specs.Numbers.{yes_cond, no_cond, and_left, and_right, eq2_eq, eq_eq2}
 use Rattle.geometry.specs.Sorting.{sorted_filter, sorted_reverse, sorted_unique}
@@ -45,6 +45,7 @@ unfolding position
 ahead_same y x l e = yes_cond (eq2 x y) 0 (suc (ahead y l)) (eq_eq2 x y e)
 
 ahead_back : (y : V2) {l : List V2} (m : List V2) → Distinct l → In y l → ahead y (reverse_aux l m) + suc (ahead y l) ≡ length l
+ahead_back y m none i = elim i [ ]
 ahead_back y m (more {x} {l} f s) (here e) =
     let a = position_past (λ p. eq2 p y) l (x ∷ m) (λ z i t. f z i (sym e ∙ sym (eq2_eq z y t))) in
     omega (arith, a, ahead_same y x m (sym e), ahead_same y x l (sym e))

@@ -10,7 +10,7 @@ use Rattle.meaning.specs.Body.{gather, final_values}
 use Rattle.meaning.specs.Accept.{total_steps}
 use Rattle.meaning.specs.Array.{array_of, pipe_number, pipe_at, elements_on, pipe_order, part_of}
 use Rattle.meaning.specs.State.{words}
-use Rattle.meaning.specs.Rules.{Step, Receive, Send, Take, Fire, Give, Memory, ready, any_ready, Found, at, nothing, run_steps, total_of}
+use Rattle.meaning.specs.Rules.{Step, Receive, Send, Take, Fire, Give, Memory, any_ready, Found, at, nothing, run_steps, total_of}
 use Rattle.meaning.specs.Answers.{answer_number, ran_number, ready_number}
 use Rattle.meaning.specs.Alike.{Serves}
 use Rattle.meaning.specs.Calls.{start, step, run, ready_call, window, result, step_of, length_of, state_length}

@@ -1,7 +1,7 @@
 -- Request 2.1, "fixed point products": what Accept answers to an operation word of 6 beside what it answered before, and that the plain run
 -- and the network both come to what the loops leave when every line that runs puts into its target what its operation says (`fixed-point`
 -- of requests).
-use Rattle.std.specs.Prelude.{◌≡◌, ◌↔◌, Bool, ℕ, ◌+◌, ◌<◌, eqb, length, pos}
+use Rattle.std.specs.Prelude.{◌≡◌, ◌↔◌, Bool, ℕ, ◌<◌, eqb, length, pos}
 use mathlib.Core.List.{List, [], ◌∷◌, ◌++◌, Memᴰ as In}
 use Rattle.integers.specs.Bytes.{bits_at, word_at}
 use Rattle.meaning.specs.declared.Limits.{Limits}

@@ -1,6 +1,6 @@
 -- Request 2.3, "a generated load": the generator, and its two calls, for any seed, sizes and lists: the answer, and the lent list
 -- afterwards.
-use Rattle.std.specs.Prelude.{cond, List, [], ◌∷◌, ◌++◌, map, ℕ, zero, suc, ◌+◌, ◌*◌, ◌-◌, ◌/◌, ◌%◌, ◌^◌, eqb, ltb, length, drop, ℤ, pos}
+use Rattle.std.specs.Prelude.{cond, List, [], ◌∷◌, ◌++◌, map, ℕ, zero, suc, ◌*◌, ◌-◌, ◌/◌, ◌%◌, ◌^◌, eqb, ltb, length, drop, ℤ, pos}
 use Rattle.std.specs.Prelude.{negsuc, nat_abs, ◌+ℤ◌, ◌-ℤ◌}
 use Rattle.std.specs.Int.Bits.{bit_xor}
 use Rattle.meaning.specs.declared.Range.{Range}

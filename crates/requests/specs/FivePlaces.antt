@@ -46,6 +46,7 @@ module _ {i : ℕ} (m : ℕ) where
   of_stream_lem j h (there (there (there (there (here e))))) = other e (λ k. omega arith)
   of_stream_lem j h (there (there (there (there (there (here e)))))) = other e (λ k. omega arith)
   of_stream_lem j h (there (there (there (there (there (there (here e))))))) = other e (λ k. omega arith)
+  of_stream_lem j h (there (there (there (there (there (there (there e))))))) = elim e [ ]
 
   listed_hop : In (Hop i) (conditions m) → i < m
   listed_hop (here e) = other e (λ k. omega arith)

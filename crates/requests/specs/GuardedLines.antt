@@ -63,6 +63,7 @@ module _ (l : Limits) (s : List ℕ) where
       held c (here p) = subst (Asks l s) (sym p) known
       held c (there (here p)) = subst (Asks l s) (sym p) (omega arith)
       held c (there (there (here p))) = subst (Asks l s) (sym p) f
+      held c (there (there (there p))) = elim p [ ]
 
   covered : ((c : Condition) → In c conditions_before → Asks l s c) → (i : ℕ) → i < z.lines → (GuardFits s z i → ⊥) → accept l s ≡ Refused 4
   covered held i h n =

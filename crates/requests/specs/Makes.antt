@@ -98,6 +98,7 @@ by_sizes l s known long = (
     held : (c : Condition) → In c (Board ∷ Begins ∷ []) → Asks l s c
     held c (here p) = subst (Asks l s) (sym p) known
     held c (there (here p)) = subst (Asks l s) (sym p) long
+    held c (there (there p)) = elim p [ ]
 
 module _ (seed : ℕ) (z : Sizes) (out : List ℕ) where
   -- ---- a call is declined and changes nothing, or it makes
@@ -207,6 +208,7 @@ module _ (seed : ℕ) (z : Sizes) (out : List ℕ) where
       go (there (there (here e))) =
           by Long (made_length z seed ∙ ap (λ (k : ℕ). 4 * k) (total_is z) ∙ ap (λ (y : Sizes). 4 * word_total y) (sym sizes)) e
       go (there (there (there (here e)))) = by Words-fit (subst (WordsFit s) (sym sizes) words) e
+      go (there (there (there (there e)))) = elim e [ ]
 
   meets : MadeWhole seed z out → (l : Limits) (c : Condition) → In c conditions_before → Asks l (description_from seed z out) c
   meets d l c i = subst (λ (s : List ℕ). Asks l s c) (sym (description_is d)) (made_meets (is_made d).fits l c i)

@@ -55,6 +55,7 @@ words_gather store es w v k = go (Memᴰ.append_cases (gather store es) k)
     go (inl j) = let r = map_in (λ e. get_or store e 0) es j in omega (arith, word_at store w r.from, r.is)
     go (inr (here e)) = omega arith
     go (inr (there (here e))) = omega arith
+    go (inr (there (there e))) = elim e [ ]
 
 -- ---- lines
 

@@ -1,14 +1,10 @@
 -- `element_places::fill_places` meets its contract: the places of the elements of the first i streams stand. Assumes nothing.
-use borrow.Author.Rules.{rules}
 use mathlib.Core.Path.{◌≡◌}
-use Prim.Native.Nat.{ℕ, ◌+◌, ◌*◌, ◌-◌, ◌≤◌, ◌<◌}
+use Prim.Native.Nat.{◌+◌, ◌*◌, ◌-◌}
 use native.Mathlib.Omega.{arith}
-use lib.ListN.{length, get_or}
-use Rattle.meaning.specs.Description.{streams_of}
-use Rattle.meaning.specs.Body.{stream_start}
 use Rattle.lanes.specs.All.{part_lanes}
 use Rattle.figures.specs.Shares.{start_all}
-use Rattle.element_places.specs.Order.{place_of_element, none_before}
+use Rattle.element_places.specs.Order.{none_before}
 use Rattle.element_places.specs.Lent.{saying_at, right_at_lem}
 use Rattle.element_places.proofs.fill_places.Goals as goal
 
@@ -25,27 +21,20 @@ elements_in-first-requires c =
     let p = c.requires in
     (p.0.described.few, p.1, omega (arith, c.loop-i-test.true))
 
--- stream i is one of six
-stream_lt : (c : goal.After-elements_in-first) → c.loop-i.i < 6
-stream_lt c =
-    let p = c.requires.0 in
-    omega (arith, c.loop-i-test.true, p.described.few.ranged.sized.most_streams)
-
 pub overflow_cast-a : goal.overflow_cast-a
-overflow_cast-a c = omega (arith, stream_lt c)
+overflow_cast-a c = omega (arith, c.loop-i-test.true, c.requires.0.described.few.ranged.sized.most_streams)
 
 pub overflow_mul-a : goal.overflow_mul-a
-overflow_mul-a c = omega (arith, stream_lt c)
+overflow_mul-a c = omega (arith, c.loop-i-test.true, c.requires.0.described.few.ranged.sized.most_streams)
 
 pub overflow_add-e : goal.overflow_add-e
-overflow_add-e c = omega (arith, stream_lt c)
+overflow_add-e c = omega (arith, c.loop-i-test.true, c.requires.0.described.few.ranged.sized.most_streams)
 
 pub offset_bounds-lanes-a : goal.offset_bounds-lanes-a
-offset_bounds-lanes-a c = omega (arith, stream_lt c)
+offset_bounds-lanes-a c = omega (arith, c.loop-i-test.true, c.requires.0.described.few.ranged.sized.most_streams)
 
--- OLD NEED slice-bounds-fill-stream-end
-part_fill_stream_end : tie.Need-slice-bounds-fill-stream-end invariant_loop decreases_loop
-part_fill_stream_end c = omega (arith, stream_lt c, c.requires.4.words)
+pub slice_bounds-fill_stream-end : goal.slice_bounds-fill_stream-end
+slice_bounds-fill_stream-end c = omega (arith, c.loop-i-test.true, c.requires.0.described.few.ranged.sized.most_streams, c.requires.4.words)
 
 pub fill_stream-requires : goal.fill_stream-requires
 fill_stream-requires c =

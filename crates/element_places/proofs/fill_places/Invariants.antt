@@ -1,15 +1,10 @@
 -- `element_places::fill_places` meets its contract: the places of the elements of the first i streams stand. Assumes nothing.
-use borrow.Author.Rules.{rules}
 use mathlib.Core.Path.{◌≡◌}
-use Prim.Native.Nat.{ℕ, ◌+◌, ◌*◌, ◌-◌, ◌≤◌, ◌<◌}
-use native.Mathlib.Omega.{arith}
+use Prim.Native.Nat.{ℕ, ◌-◌, ◌≤◌, ◌<◌}
 use lib.ListN.{length, get_or}
 use Rattle.meaning.specs.Description.{streams_of}
 use Rattle.meaning.specs.Body.{stream_start}
-use Rattle.lanes.specs.All.{part_lanes}
-use Rattle.figures.specs.Shares.{start_all}
-use Rattle.element_places.specs.Order.{place_of_element, none_before}
-use Rattle.element_places.specs.Lent.{saying_at, right_at_lem}
+use Rattle.element_places.specs.Order.{place_of_element}
 use Rattle.element_places.proofs.fill_places.Given as goal
 
 abbrev pub invariant-loop-i : goal.invariant-loop-i

@@ -1,11 +1,9 @@
 -- `element_places::fill_stream` meets its contract: the pipes that enter at the first p processes have said where their elements wait, and
 -- the next one's part begins at the start. Assumes nothing.
-use borrow.Author.Rules.{rules}
 use mathlib.Core.Path.{◌≡◌, refl, sym, ◌∙◌, ap, ap₂}
 use mathlib.Core.List.{List}
-use Prim.Native.Nat.{ℕ, suc, ◌+◌, ◌-◌, ◌≤◌}
+use Prim.Native.Nat.{ℕ, suc, ◌+◌}
 use native.Mathlib.Omega.{arith}
-use lib.ListN.{length}
 use Rattle.layout.specs.Spans.{process_of}
 use Rattle.pipe_parts.specs.Starts.{entering_length, start_at, start_zero, start_next, start_most}
 use Rattle.element_places.specs.Spread.{spreads_zero, spreads_step}

@@ -1,15 +1,10 @@
 -- `element_places::fill_stream` meets its contract: the pipes that enter at the first p processes have said where their elements wait, and
 -- the next one's part begins at the start. Assumes nothing.
-use borrow.Author.Rules.{rules}
-use mathlib.Core.Path.{◌≡◌, refl, sym, ◌∙◌, ap, ap₂}
-use mathlib.Core.List.{List}
-use Prim.Native.Nat.{ℕ, suc, ◌+◌, ◌-◌, ◌≤◌}
-use native.Mathlib.Omega.{arith}
+use mathlib.Core.Path.{◌≡◌}
+use Prim.Native.Nat.{◌-◌, ◌≤◌}
 use lib.ListN.{length}
-use Rattle.layout.specs.Spans.{process_of}
-use Rattle.pipe_parts.specs.Starts.{entering_length, start_at, start_zero, start_next, start_most}
-use Rattle.element_places.specs.Spread.{spreads_zero, spreads_step}
-use Rattle.element_places.specs.Order.{said_on, said}
+use Rattle.pipe_parts.specs.Starts.{start_at}
+use Rattle.element_places.specs.Order.{said}
 use Rattle.element_places.proofs.fill_stream.Given as goal
 
 abbrev pub invariant-loop-p : goal.invariant-loop-p

@@ -1,6 +1,5 @@
 -- `element_places::number_after` meets its contract: so many strides on from a number below 24,576 one is at another such number.
 -- Assumes nothing.
-use borrow.Author.Rules.{rules}
 use mathlib.Core.Path.{◌∙◌, ap}
 use lib.IntN.{nat_abs}
 use Rattle.integers.specs.Words.{at, box, add, fits, cast_of}

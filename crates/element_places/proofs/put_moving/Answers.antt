@@ -1,5 +1,4 @@
 -- `element_places::put_moving` meets its contract: the line has one that computes, and its pipe is the pipe of the entry. Assumes nothing.
-use borrow.Author.Rules.{rules}
 use native.Mathlib.Omega.{arith}
 use Rattle.element_places.specs.Lent.{somebody, running, run_here, fitting, run_said}
 use Rattle.element_places.proofs.put_moving.Goals as goal

@@ -1,5 +1,4 @@
 -- `element_places::put_pipe` meets its contract. Assumes nothing.
-use borrow.Author.Rules.{rules}
 use mathlib.Core.Path.{sym, ◌∙◌, subst}
 use lib.Dec.{T}
 use Rattle.element_places.specs.Lent.{said_entering, said_none}

@@ -1,9 +1,8 @@
 -- `element_places::put_run` meets its contract: the first k elements have their places. Assumes nothing.
-use borrow.Author.Rules.{rules}
 use mathlib.Core.Path.{◌≡◌, refl, sym, ◌∙◌, ap}
-use Prim.Native.Nat.{ℕ, ◌+◌, ◌-◌, ◌≤◌}
+use Prim.Native.Nat.{ℕ, ◌+◌}
 use native.Mathlib.Omega.{arith}
-use lib.ListN.{length, length-set}
+use lib.ListN.{length-set}
 use Rattle.integers.specs.Differences.{up}
 use Rattle.element_places.specs.Spread.{spread, spread_zero, spread_step}
 use Rattle.element_places.specs.Runs.{number_after, counts}

@@ -1,12 +1,10 @@
 -- `element_places::put_still` meets its contract: the processes passed so far have said where their elements wait. Assumes nothing.
-use borrow.Author.Rules.{rules}
-use mathlib.Core.Path.{◌≡◌, refl}
-use Prim.Native.Nat.{suc, ◌-◌, ◌≤◌}
+use mathlib.Core.Path.{refl}
+use Prim.Native.Nat.{◌≤◌}
 use native.Mathlib.Omega.{arith}
-use lib.ListN.{length}
 use Rattle.layout.specs.Spans.{process_of}
 use Rattle.lanes.specs.Flow.{spanning, point_lt, going_on}
-use Rattle.element_places.specs.Walked.{Gone, gone_zero, one_most, next_most}
+use Rattle.element_places.specs.Walked.{gone_zero, one_most, next_most}
 use Rattle.element_places.specs.Lines.{owning, lined, walk_next, walk_all}
 use Rattle.element_places.proofs.put_still.Goals as goal
 

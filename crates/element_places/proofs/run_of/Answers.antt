@@ -1,6 +1,5 @@
 -- `element_places::run_of` meets its contract: the first element of the pipe lies as far back as one can go, and its number is below 24,576
 -- as well, so that the product fits. Assumes nothing.
-use borrow.Author.Rules.{rules}
 use mathlib.Core.Path.{refl, ◌∙◌}
 use Prim.Native.Nat.{◌+◌, ◌≤◌}
 use native.Mathlib.Omega.{arith}

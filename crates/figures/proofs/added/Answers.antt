@@ -1,6 +1,5 @@
 -- `figures::added` meets its contract: an entry adds its pipe and any other process nothing; sums over a part of the entries are no more
 -- than those over all. Assumes nothing.
-use borrow.Author.Rules.{rules}
 use mathlib.Core.Path.{sym, ◌∙◌, ap}
 use Prim.Native.Nat.{◌+◌}
 use native.Mathlib.Omega.{arith}

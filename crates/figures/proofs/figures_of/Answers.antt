@@ -1,6 +1,5 @@
 -- `figures::figures_of` meets its contract: the limits on the processes and on the words of each keep their product within 32 bits. Assumes
 -- nothing.
-use borrow.Author.Rules.{rules}
 use mathlib.Core.Path.{refl, sym, ◌∙◌}
 use native.Mathlib.Omega.{arith}
 use Rattle.lanes.specs.All.{zero_words}

@@ -1,6 +1,5 @@
 -- `figures::pipe_steps` meets its contract: from its entry a pipe goes on as far as the box does, so that it has one process more than the
 -- reach there. Assumes nothing.
-use borrow.Author.Rules.{rules}
 use mathlib.Core.Path.{ap₂}
 use Prim.Native.Nat.{ℕ, ◌*◌, ◌+◌, ◌≤◌}
 use native.Mathlib.Nat.{mul-le-mul}

@@ -1,8 +1,7 @@
 -- `figures::sums_of` meets its contract: the sums are those of the pipes that begin before process p. Assumes nothing.
 use mathlib.Core.Path.{◌≡◌, ◌∙◌, ap}
-use Prim.Native.Nat.{suc, ◌+◌, ◌-◌, ◌≤◌}
+use Prim.Native.Nat.{suc, ◌+◌}
 use native.Mathlib.Omega.{arith}
-use borrow.Author.Rules.{rules}
 use Rattle.figures.specs.Sums.{sums_at, sums_zero, sums_all}
 use Rattle.figures.proofs.sums_of.Goals as goal
 

@@ -1,8 +1,7 @@
 -- `figures::totals_of` meets its contract: the totals are those of the first i streams, and their blocks hold their lanes. Assumes nothing.
 use mathlib.Core.Path.{◌≡◌, sym, ◌∙◌, ap, subst}
-use Prim.Native.Nat.{ℕ, ◌+◌, ◌*◌, ◌-◌, ◌≤◌, ◌<◌}
+use Prim.Native.Nat.{ℕ, ◌+◌, ◌*◌, ◌-◌, ◌<◌}
 use native.Mathlib.Omega.{arith}
-use borrow.Author.Rules.{rules}
 use Rattle.meaning.specs.Description.{streams_of}
 use Rattle.lanes.specs.All.{LanesOf, zero_words, lanes_none, lanes_next, part_zeros, part_length}
 use Rattle.figures.specs.Shares.{Room, totals_of, totals_zero, totals_room, sharing_at, share_at, share_next, lanes_at}
@@ -27,12 +26,10 @@ offset_bounds-lanes-a c = record {
     c.loop-i-test.true,
     c.requires.0.few.ranged.sized.most_streams,
   );
-
 }
 
--- OLD NEED slice-bounds-share-of-end
-part_share_of_end : tie.Need-slice-bounds-share-of-end invariant_loop decreases_loop
-part_share_of_end c = omega (
+pub slice_bounds-share_of-end : goal.slice_bounds-share_of-end
+slice_bounds-share_of-end c = omega (
   arith,
   c.loop-i-test.true,
   c.loop-i.invariant.2.words,
@@ -66,7 +63,6 @@ overflow_add-i c = record {
     c.loop-i-test.true,
     c.requires.0.few.ranged.sized.most_streams,
   );
-
 }
 
 pub loop-i-preserved : goal.loop-i-preserved

@@ -1,11 +1,9 @@
 -- `figures::totals_of` meets its contract: the totals are those of the first i streams, and their blocks hold their lanes. Assumes nothing.
-use mathlib.Core.Path.{◌≡◌, sym, ◌∙◌, ap, subst}
-use Prim.Native.Nat.{ℕ, ◌+◌, ◌*◌, ◌-◌, ◌≤◌, ◌<◌}
-use native.Mathlib.Omega.{arith}
-use borrow.Author.Rules.{rules}
+use mathlib.Core.Path.{◌≡◌}
+use Prim.Native.Nat.{◌-◌, ◌≤◌}
 use Rattle.meaning.specs.Description.{streams_of}
-use Rattle.lanes.specs.All.{LanesOf, zero_words, lanes_none, lanes_next, part_zeros, part_length}
-use Rattle.figures.specs.Shares.{Room, totals_of, totals_zero, totals_room, sharing_at, share_at, share_next, lanes_at}
+use Rattle.lanes.specs.All.{LanesOf}
+use Rattle.figures.specs.Shares.{totals_of}
 use Rattle.figures.proofs.totals_of.Given as goal
 
 abbrev pub invariant-loop-i : goal.invariant-loop-i

@@ -1,6 +1,5 @@
 -- `integers::bits_at` meets its contract: four bytes, each below 256, at their places make less than 2^32. Assumes nothing.
 use Rattle.integers.specs.Bytes.{bits_at}
-use borrow.Author.Rules.{rules}
 use Rattle.integers.proofs.bits_at.Goals as goal
 
 pub returns : goal.returns

@@ -4,7 +4,6 @@ use mathlib.Core.Path.{refl, ◌∙◌, ap}
 use Prim.Native.Nat.{ℕ, ◌-◌}
 use native.Mathlib.Omega.{arith}
 use lib.IntN.{nat_abs}
-use borrow.Author.Rules.{rules}
 use Rattle.integers.specs.Words.{tower, less_of, not_less_of, size_positive, bits_negative, bits_other}
 use Rattle.integers.proofs.bits_of.Goals as goal
 

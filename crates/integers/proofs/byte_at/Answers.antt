@@ -4,7 +4,6 @@ use lib.ListN.{get_or-eq_default}
 use Prim.Native.Nat.{◌≤◌}
 use native.Mathlib.Omega.{arith}
 use lib.ListN.{length}
-use borrow.Author.Rules.{rules}
 use Rattle.integers.proofs.byte_at.Goals as goal
 
 pub returns-else-i-s : goal.returns-else-i-s

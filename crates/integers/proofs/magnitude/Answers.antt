@@ -5,7 +5,6 @@ use native.Mathlib.Omega.{arith}
 use lib.IntN.{ℤ, pos, negsuc, neg_ℤ, nat_abs, neg_ℤ-neg_ℤ, ◌+ℤ◌, ◌-ℤ◌}
 use mir.Syntax.{w32}
 use mir.Val.{to_z, of_z}
-use borrow.Author.Rules.{rules}
 use lib.Signed.{mag, ◌<ℤ◌, ◌≤ℤ◌}
 use Rattle.integers.specs.Differences.{Abs, lt_out, le_out, le_in}
 use Rattle.integers.specs.Words.{Holds, box, minus, fits, up_one, next, cast_of, less_of, not_less_of, tower}

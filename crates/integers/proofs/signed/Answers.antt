@@ -10,7 +10,6 @@ use mir.Val.{to_z}
 use mir.Facts.{to_z-of_z}
 use mir.ValLaws.{to_z-neg}
 use Rattle.integers.specs.Words.{bits, box, minus, fits, neg_one}
-use borrow.Author.Rules.{rules}
 use Rattle.integers.proofs.signed.Goals as goal
 
 -- −m − 1, with m the bits below half

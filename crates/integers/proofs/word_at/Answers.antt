@@ -2,7 +2,6 @@
 use mathlib.Core.Path.{◌∙◌, ap}
 use mir.Syntax.{w32}
 use mir.Val.{to_z}
-use borrow.Author.Rules.{rules}
 use Rattle.integers.specs.Bytes.{word_at}
 use Rattle.integers.specs.Words.{held}
 use Rattle.integers.proofs.word_at.Goals as goal

@@ -2,14 +2,11 @@
 -- Assumes nothing.
 use mathlib.Core.Path.{◌≡◌, ap, subst, ◌∙◌}
 use mathlib.Core.Bool.{Bool, not}
-use Prim.Native.Nat.{ℕ, ◌≤◌, ◌<◌, ◌-◌}
+use Prim.Native.Nat.{ℕ}
 use native.Mathlib.Omega.{arith}
 use lib.Dec.{eqb}
-use lib.ListN.{length, get_or}
-use borrow.Author.Rules.{rules}
-use Rattle.integers.specs.Vectors.{zero2}
-use Rattle.meaning.specs.Space.{points, processes}
-use Rattle.numbering.specs.Extents.{boxed}
+use lib.ListN.{length}
+use Rattle.meaning.specs.Space.{processes}
 use Rattle.layout.specs.Points.{first_point_lem, points_next}
 use Rattle.lanes.specs.Lanes.{Lanes, lanes_start, lanes_step, held_le}
 use Rattle.lanes.specs.Held.{entry_number, computes}

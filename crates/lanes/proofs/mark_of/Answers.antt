@@ -1,5 +1,4 @@
 -- `lanes::mark_of` meets its contract: a number below 1,024 and one more fit a word of 16 bits. Assumes nothing.
-use borrow.Author.Rules.{rules}
 use mathlib.Core.Path.{refl}
 use Rattle.lanes.proofs.mark_of.Goals as goal
 

@@ -4,7 +4,6 @@ use mathlib.Core.Path.{refl, ap₂}
 use Prim.Native.Nat.{ℕ, ◌+◌}
 use native.Mathlib.Omega.{arith}
 use lib.ListN.{get_or, set, length-set}
-use borrow.Author.Rules.{rules}
 use Rattle.lanes.proofs.visit.Goals as goal
 
 pub bounds-lanes-i : goal.bounds-lanes-i

@@ -3,7 +3,6 @@ use mathlib.Core.Path.{◌∙◌, ap, ap₂}
 use lib.IntN.{nat_abs}
 use Rattle.integers.specs.Words.{tower}
 use Rattle.lattice.specs.Gcd.{gcd_of}
-use borrow.Author.Rules.{rules}
 use Rattle.lattice.proofs.divisor.Goals as goal
 
 pub returns : goal.returns

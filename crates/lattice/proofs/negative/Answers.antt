@@ -6,7 +6,6 @@ use lib.IntN.{pos, neg_ℤ}
 use mir.Syntax.{w32}
 use mir.Val.{to_z}
 use mir.ValLaws.{to_z-neg}
-use borrow.Author.Rules.{rules}
 use Rattle.integers.specs.Words.{held}
 use Rattle.lattice.proofs.negative.Goals as goal
 

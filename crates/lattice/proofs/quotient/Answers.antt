@@ -8,7 +8,6 @@ use lib.Signed.{mag, nat_abs-le, quot_z, ◌≤ℤ◌, ◌<ℤ◌}
 use mir.Syntax.{w32}
 use mir.Val.{to_z}
 use mir.ValLaws.{to_z_pos}
-use borrow.Author.Rules.{rules}
 use Rattle.integers.specs.Differences.{lt_out, le_out}
 use Rattle.integers.specs.Words.{tower, held, less_of, not_less_of}
 use Rattle.lattice.proofs.quotient.Goals as goal

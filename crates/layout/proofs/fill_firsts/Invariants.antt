@@ -18,7 +18,8 @@ code_in n firsts p = code_of (numbered n (get_or firsts p 0))
 
 abbrev pub invariant-loop-p : goal.invariant-loop-p
 invariant-loop-p l =
-    (l.p ≤ l.processes) × (length l.firsts ≡ length l.initial.firsts) × (l.firsts ≡ fill_by (code_in l.n l.initial.firsts) l.p l.initial.firsts)
+    (l.p ≤ l.processes) × (length l.firsts ≡ length l.initial.firsts)
+    × (l.firsts ≡ fill_by (code_in l.n l.initial.firsts) l.p l.initial.firsts)
 
 abbrev pub decreases-loop-p : goal.decreases-loop-p
 decreases-loop-p l = l.processes - l.p

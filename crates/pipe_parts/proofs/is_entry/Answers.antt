@@ -1,5 +1,4 @@
 -- `pipe_parts::is_entry` meets its contract. Assumes nothing.
-use borrow.Author.Rules.{rules}
 use Rattle.pipe_parts.specs.Entries.{entry_test, no_entry, pipe_test}
 use Rattle.pipe_parts.proofs.is_entry.Goals as goal
 

@@ -2,7 +2,6 @@
 use mathlib.Core.Path.{refl}
 use native.Mathlib.Omega.{arith}
 use lib.ListN.{length-set}
-use borrow.Author.Rules.{rules}
 use Rattle.pipe_parts.proofs.put_head.Goals as goal
 
 pub bounds-heads-p-2 : goal.bounds-heads-p-2

@@ -1,5 +1,4 @@
 -- `pipes::drain_at` meets its contract. Assumes nothing.
-use borrow.Author.Rules.{rules}
 use Rattle.pipes.specs.Elements.{going_last, drain_moving}
 use Rattle.pipes.proofs.drain_at.Goals as goal
 

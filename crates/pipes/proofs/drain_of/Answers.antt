@@ -1,6 +1,5 @@
 -- `pipes::drain_of` meets its contract: of a stationary stream soak, one and drain make the number that compute on the line, so that
 -- nothing underflows. Assumes nothing.
-use borrow.Author.Rules.{rules}
 use mathlib.Core.Path.{sym, ◌∙◌, subst}
 use native.Mathlib.Omega.{arith}
 use lib.Dec.{T}

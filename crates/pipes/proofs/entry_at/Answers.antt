@@ -1,5 +1,4 @@
 -- `pipes::entry_at` meets its contract. Assumes nothing.
-use borrow.Author.Rules.{rules}
 use mathlib.Core.Path.{refl}
 use native.Mathlib.Omega.{arith}
 use Rattle.pipes.specs.Elements.{entry_lt, few}

@@ -1,10 +1,8 @@
 -- `pipes::fill_soaks` meets its contract: the first p entries are filled. Assumes nothing.
-use mathlib.Core.Path.{◌≡◌, refl, sym}
+use mathlib.Core.Path.{◌≡◌}
 use Prim.Native.Nat.{◌≤◌, ◌-◌}
-use native.Mathlib.Omega.{arith}
-use lib.ListN.{length, length-set}
-use borrow.Author.Rules.{rules}
-use Rattle.integers.specs.Fill.{fill_by, fill_zero, fill_step, fill_done}
+use lib.ListN.{length}
+use Rattle.integers.specs.Fill.{fill_by}
 use Rattle.meaning.specs.Array.{row_soak}
 use Rattle.layout.specs.Spans.{process_of}
 use Rattle.pipes.proofs.fill_soaks.Given as goal

@@ -1,6 +1,5 @@
 -- `pipes::fill_stream` meets its contract: soaks and drains are two parts of 1,024 words, and filling the second leaves the first as it
 -- was. Assumes nothing.
-use borrow.Author.Rules.{rules}
 use mathlib.Core.Path.{refl}
 use native.Mathlib.Omega.{arith}
 use Rattle.lists.specs.Stores.{replicated}

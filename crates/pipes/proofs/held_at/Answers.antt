@@ -1,5 +1,4 @@
 -- `pipes::held_at` meets its contract: an entry is below 1,024, so that its word is one of the third 1,024 of the lanes. Assumes nothing.
-use borrow.Author.Rules.{rules}
 use mathlib.Core.Path.{ap}
 use Prim.Native.Nat.{ℕ, ◌+◌}
 use native.Mathlib.Omega.{arith}

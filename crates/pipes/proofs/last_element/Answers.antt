@@ -1,6 +1,5 @@
 -- `pipes::last_element` meets its contract: a computing process has a last instance, so that the word of its number plus one is not 0.
 -- Assumes nothing.
-use borrow.Author.Rules.{rules}
 use mathlib.Core.Path.{◌∙◌, ap}
 use native.Mathlib.Omega.{arith}
 use Rattle.integers.specs.Vectors.{image}

@@ -1,6 +1,5 @@
 -- `pipes::length_at` meets its contract: the elements of the pipe are the first instance's and those that one reaches back and on from it.
 -- Assumes nothing.
-use borrow.Author.Rules.{rules}
 use native.Mathlib.Omega.{arith}
 use Rattle.pipes.specs.Elements.{going_against, going_first, length_moving}
 use Rattle.pipes.proofs.length_at.Goals as goal

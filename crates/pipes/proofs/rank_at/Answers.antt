@@ -1,6 +1,5 @@
 -- `pipes::rank_at` meets its contract: the running count is of those on its line with lower numbers, fewer than all; where the move leads
 -- back, those with higher ones come before it. Assumes nothing.
-use borrow.Author.Rules.{rules}
 use mathlib.Core.Path.{sym}
 use mathlib.Core.Bool.{true, false}
 use native.Mathlib.Omega.{arith}

@@ -1,5 +1,4 @@
 -- `pipes::soak_at` meets its contract. Assumes nothing.
-use borrow.Author.Rules.{rules}
 use Rattle.pipes.specs.Elements.{going_against, soak_moving}
 use Rattle.pipes.proofs.soak_at.Goals as goal
 

@@ -1,5 +1,4 @@
 -- `port_fill::fill_ports` meets its contract. Assumes nothing.
-use borrow.Author.Rules.{rules}
 use Rattle.port_fill.proofs.fill_ports.Goals as goal
 
 pub stride_of-stride-requires : goal.stride_of-stride-requires

@@ -1,6 +1,5 @@
 -- `port_fill::fill_stream` meets its contract: the heads are filled at all processes before the rows that are made of them, and the first
 -- rows leave the table its length. Assumes nothing.
-use borrow.Author.Rules.{rules}
 use mathlib.Core.Path.{refl}
 use native.Mathlib.Omega.{arith}
 use Prim.Native.Nat.{ℕ}

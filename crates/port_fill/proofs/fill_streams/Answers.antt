@@ -1,11 +1,10 @@
 -- `port_fill::fill_streams` meets its contract: the rows of the first i streams are written, and the sums are those of these streams.
 -- Assumes nothing.
-use borrow.Author.Rules.{rules}
 use mathlib.Core.Path.{◌≡◌, ◌∙◌}
-use Prim.Native.Nat.{◌+◌, ◌*◌, ◌-◌, ◌≤◌, ◌<◌}
+use Prim.Native.Nat.{◌+◌, ◌*◌, ◌-◌}
 use native.Mathlib.Omega.{arith}
 use Rattle.lanes.specs.All.{part_lanes}
-use Rattle.port_fill.specs.Filled.{Filled, sums_of, sums_zero, six, filled_zero, ports_is}
+use Rattle.port_fill.specs.Filled.{sums_zero, six, filled_zero, ports_is}
 use Rattle.port_fill.specs.Filled.{slack, hop_few, processes_few, lanes_here, entries_few, joined_next, stringing, filled_next}
 use Rattle.port_fill.proofs.fill_streams.Goals as goal
 
@@ -34,30 +33,24 @@ pub elements_in-first-requires : goal.elements_in-first-requires
 elements_in-first-requires c =
     (c.requires.0.described.few, c.requires.1, c.loop-i.invariant.0)
 
--- stream i is one of six
-stream_lt : (c : goal.After-elements_in-first) → c.loop-i.i < 6
-stream_lt c =
-    omega (arith, c.loop-i-test.true, six c.args.v.description c.requires.0.described)
-
 pub overflow_cast-a : goal.overflow_cast-a
-overflow_cast-a c = omega (arith, stream_lt c)
+overflow_cast-a c = omega (arith, c.loop-i-test.true, six c.args.v.description c.requires.0.described)
 
 pub overflow_mul-a : goal.overflow_mul-a
-overflow_mul-a c = omega (arith, stream_lt c)
+overflow_mul-a c = omega (arith, c.loop-i-test.true, six c.args.v.description c.requires.0.described)
 
 pub overflow_add-e : goal.overflow_add-e
-overflow_add-e c = omega (arith, stream_lt c)
+overflow_add-e c = omega (arith, c.loop-i-test.true, six c.args.v.description c.requires.0.described)
 
 pub overflow_cast-i-in-loop-i : goal.overflow_cast-i-in-loop-i
-overflow_cast-i-in-loop-i c = omega (arith, stream_lt c)
+overflow_cast-i-in-loop-i c = omega (arith, c.loop-i-test.true, six c.args.v.description c.requires.0.described)
 
 pub offset_bounds-lanes-a : goal.offset_bounds-lanes-a
-offset_bounds-lanes-a c = omega (arith, stream_lt c)
+offset_bounds-lanes-a c = omega (arith, c.loop-i-test.true, six c.args.v.description c.requires.0.described)
 
--- OLD NEED slice-bounds-fill-stream-end
-part_fill_stream_end : tie.Need-slice-bounds-fill-stream-end invariant_loop decreases_loop
-part_fill_stream_end c =
-    omega (arith, stream_lt c, c.requires.2.words)
+pub slice_bounds-fill_stream-end : goal.slice_bounds-fill_stream-end
+slice_bounds-fill_stream-end c =
+    omega (arith, c.loop-i-test.true, six c.args.v.description c.requires.0.described, c.requires.2.words)
 
 pub fill_stream-pipes-requires : goal.fill_stream-pipes-requires
 fill_stream-pipes-requires c =

@@ -1,12 +1,8 @@
 -- `port_fill::fill_streams` meets its contract: the rows of the first i streams are written, and the sums are those of these streams.
 -- Assumes nothing.
-use borrow.Author.Rules.{rules}
-use mathlib.Core.Path.{◌≡◌, ◌∙◌}
-use Prim.Native.Nat.{◌+◌, ◌*◌, ◌-◌, ◌≤◌, ◌<◌}
-use native.Mathlib.Omega.{arith}
-use Rattle.lanes.specs.All.{part_lanes}
-use Rattle.port_fill.specs.Filled.{Filled, sums_of, sums_zero, six, filled_zero, ports_is}
-use Rattle.port_fill.specs.Filled.{slack, hop_few, processes_few, lanes_here, entries_few, joined_next, stringing, filled_next}
+use mathlib.Core.Path.{◌≡◌}
+use Prim.Native.Nat.{◌-◌, ◌≤◌}
+use Rattle.port_fill.specs.Filled.{Filled, sums_of}
 use Rattle.port_fill.proofs.fill_streams.Given as goal
 
 abbrev pub invariant-loop-i : goal.invariant-loop-i

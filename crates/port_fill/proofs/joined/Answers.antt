@@ -1,6 +1,5 @@
 -- `port_fill::joined` meets its contract: the limits on a stream's pipes and on its hop bound their product, so that the sums fit 32 bits.
 -- Assumes nothing.
-use borrow.Author.Rules.{rules}
 use native.Mathlib.Omega.{arith}
 use Rattle.survey.specs.StateWords.{end_words_lem}
 use Rattle.port_fill.proofs.joined.Goals as goal

@@ -1,6 +1,5 @@
 -- `port_fill::put_end` meets its contract: at most 5,120 pipes of other streams and fewer than 1,024 of its own come before it, so that its
 -- row lies in the table. Assumes nothing.
-use borrow.Author.Rules.{rules}
 use mathlib.Core.Path.{sym, subst}
 use native.Mathlib.Omega.{arith}
 use Rattle.pipe_parts.specs.Starts.{one_yes, one_no}

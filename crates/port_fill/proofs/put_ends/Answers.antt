@@ -1,8 +1,7 @@
 -- `port_fill::put_ends` meets its contract: the heads of the first p processes and the rows of the pipes that enter there are written, the
 -- count is that of those pipes, and the start is where the part of the next one begins. Assumes nothing.
-use borrow.Author.Rules.{rules}
 use mathlib.Core.Path.{◌≡◌, refl, sym, ◌∙◌, ap, subst}
-use Prim.Native.Nat.{ℕ, suc, ◌+◌, ◌-◌, ◌≤◌, ◌<◌}
+use Prim.Native.Nat.{ℕ, suc, ◌+◌, ◌<◌}
 use native.Mathlib.Omega.{arith}
 use lib.ListN.{length}
 use Rattle.meaning.specs.Space.{processes}

@@ -1,15 +1,11 @@
 -- `port_fill::put_ends` meets its contract: the heads of the first p processes and the rows of the pipes that enter there are written, the
 -- count is that of those pipes, and the start is where the part of the next one begins. Assumes nothing.
-use borrow.Author.Rules.{rules}
-use mathlib.Core.Path.{◌≡◌, refl, sym, ◌∙◌, ap, subst}
-use Prim.Native.Nat.{ℕ, suc, ◌+◌, ◌-◌, ◌≤◌, ◌<◌}
-use native.Mathlib.Omega.{arith}
+use mathlib.Core.Path.{◌≡◌}
+use Prim.Native.Nat.{◌-◌, ◌≤◌}
 use lib.ListN.{length}
-use Rattle.meaning.specs.Space.{processes}
-use Rattle.pipe_parts.specs.Starts.{start_at, start_zero, start_next, entered_at, entered_zero, entered_next, entered_le}
-use Rattle.pipe_parts.specs.Heads.{Heads, heads_zero, heads_next}
-use Rattle.port_fill.specs.Marks.{marks_zero}
-use Rattle.port_fill.specs.Strung.{end_rows, start_few, end_fillable, ends_length, ends_turn, entered_all}
+use Rattle.pipe_parts.specs.Starts.{start_at, entered_at}
+use Rattle.pipe_parts.specs.Heads.{Heads}
+use Rattle.port_fill.specs.Strung.{end_rows}
 use Rattle.port_fill.proofs.put_ends.Given as goal
 
 abbrev pub invariant-loop-p : goal.invariant-loop-p

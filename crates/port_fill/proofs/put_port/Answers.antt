@@ -1,6 +1,5 @@
 -- `port_fill::put_port` meets its contract: p is below 1,024 and i below 6, so that its five words lie in the table, and each number of the
 -- row fits its part of a word. Assumes nothing.
-use borrow.Author.Rules.{rules}
 use mathlib.Core.Path.{sym, subst}
 use native.Mathlib.Omega.{arith}
 use Rattle.pipes.specs.Elements.{few}

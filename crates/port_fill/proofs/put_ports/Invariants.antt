@@ -1,11 +1,8 @@
 -- `port_fill::put_ports` meets its contract: the rows of the first p processes are written. Assumes nothing.
-use borrow.Author.Rules.{rules}
-use mathlib.Core.Path.{◌≡◌, refl, sym, ◌∙◌, ap}
-use Prim.Native.Nat.{ℕ, ◌+◌, ◌-◌, ◌≤◌}
-use native.Mathlib.Omega.{arith}
+use mathlib.Core.Path.{◌≡◌}
+use Prim.Native.Nat.{◌-◌, ◌≤◌}
 use lib.ListN.{length}
-use Rattle.port_fill.specs.Marks.{marks_zero}
-use Rattle.port_fill.specs.Strung.{port_rows, port_fillable, ports_length, ports_turn}
+use Rattle.port_fill.specs.Strung.{port_rows}
 use Rattle.port_fill.proofs.put_ports.Given as goal
 
 abbrev pub invariant-loop-p : goal.invariant-loop-p

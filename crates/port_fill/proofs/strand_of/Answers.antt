@@ -1,6 +1,5 @@
 -- `port_fill::strand_of` meets its contract: the words of all processes, with those of the ends before the stream's, are at most the most
 -- of a state, so their sum fits a word. Assumes nothing.
-use borrow.Author.Rules.{rules}
 use mathlib.Core.Path.{refl}
 use native.Mathlib.Omega.{arith}
 use Rattle.port_fill.specs.Strung.{strand_narrow}

@@ -1,12 +1,6 @@
 -- `port_fill::stride_of` meets its contract: after i streams the sum is that of their ports and the one word of firings. Assumes nothing.
-use borrow.Author.Rules.{rules}
 use mathlib.Core.Path.{◌≡◌, refl}
-use Prim.Native.Nat.{◌+◌, ◌-◌, ◌≤◌}
 use native.Mathlib.Omega.{arith}
-use lib.ListN.{take}
-use Rattle.meaning.specs.Lists.{total}
-use Rattle.meaning.specs.Description.{streams_of}
-use Rattle.addresses.specs.Indices.{port_words}
 use Rattle.survey.specs.Surveys.{flow_is}
 use Rattle.figures.specs.Shares.{stream_sharing}
 use Rattle.port_fill.specs.Filled.{six, sums_slack, stride_zero, stride_next, stride_all}

@@ -1,15 +1,10 @@
 -- `port_fill::stride_of` meets its contract: after i streams the sum is that of their ports and the one word of firings. Assumes nothing.
-use borrow.Author.Rules.{rules}
-use mathlib.Core.Path.{◌≡◌, refl}
+use mathlib.Core.Path.{◌≡◌}
 use Prim.Native.Nat.{◌+◌, ◌-◌, ◌≤◌}
-use native.Mathlib.Omega.{arith}
 use lib.ListN.{take}
 use Rattle.meaning.specs.Lists.{total}
 use Rattle.meaning.specs.Description.{streams_of}
 use Rattle.addresses.specs.Indices.{port_words}
-use Rattle.survey.specs.Surveys.{flow_is}
-use Rattle.figures.specs.Shares.{stream_sharing}
-use Rattle.port_fill.specs.Filled.{six, sums_slack, stride_zero, stride_next, stride_all}
 use Rattle.port_fill.proofs.stride_of.Given as goal
 
 abbrev pub invariant-loop-i : goal.invariant-loop-i

@@ -1,6 +1,5 @@
 -- `port_rows::before_of` meets its contract: a process is the entry of its line exactly if none stands before it there; before any other
 -- there is one to go back to. Assumes nothing.
-use borrow.Author.Rules.{rules}
 use mathlib.Core.Path.{refl, ◌∙◌, ap}
 use Prim.Native.Nat.{ℕ, ◌+◌, ◌*◌}
 use Rattle.pipe_parts.specs.Entries.{none_before, one_before}

@@ -1,5 +1,4 @@
 -- `port_rows::end_at` meets its contract. Assumes nothing.
-use borrow.Author.Rules.{rules}
 use mathlib.Core.Path.{refl}
 use native.Mathlib.Omega.{arith}
 use Rattle.survey.specs.StateWords.{end_words_lem}

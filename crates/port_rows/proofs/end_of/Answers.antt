@@ -1,5 +1,4 @@
 -- `port_rows::end_of` meets its contract: the last process of the pipe stands as far on as the box reaches. Assumes nothing.
-use borrow.Author.Rules.{rules}
 use mathlib.Core.Path.{refl, ◌∙◌, ap}
 use Prim.Native.Nat.{ℕ, ◌+◌}
 use native.Mathlib.Omega.{arith}

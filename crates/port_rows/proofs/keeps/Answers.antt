@@ -1,5 +1,4 @@
 -- `port_rows::keeps` meets its contract. Assumes nothing.
-use borrow.Author.Rules.{rules}
 use mathlib.Core.Path.{refl}
 use Rattle.port_rows.proofs.keeps.Goals as goal
 

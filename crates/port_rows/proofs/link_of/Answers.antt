@@ -1,6 +1,5 @@
 -- `port_rows::link_of` meets its contract: where the reach is 0 the link out is the end of the pipe; elsewhere it is at least 1, so the
 -- process one move on has a number. Assumes nothing.
-use borrow.Author.Rules.{rules}
 use mathlib.Core.Path.{sym, ◌∙◌}
 use native.Mathlib.Omega.{arith}
 use Rattle.lanes.specs.Flow.{spanning, point_lt, going_on, reach_on}

@@ -1,5 +1,4 @@
 -- `port_rows::number_back` meets its contract: the process before p has a number, one step back. Assumes nothing.
-use borrow.Author.Rules.{rules}
 use mathlib.Core.Path.{◌∙◌, ap}
 use native.Mathlib.Omega.{arith}
 use lib.IntN.{nat_abs}

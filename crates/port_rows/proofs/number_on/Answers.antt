@@ -1,6 +1,5 @@
 -- `port_rows::number_on` meets its contract: k is within the reach, so the process k moves on has a number, k steps from p.
 -- Assumes nothing.
-use borrow.Author.Rules.{rules}
 use mathlib.Core.Path.{◌∙◌, ap}
 use native.Mathlib.Omega.{arith}
 use lib.IntN.{nat_abs}

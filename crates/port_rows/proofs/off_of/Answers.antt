@@ -1,5 +1,4 @@
 -- `port_rows::off_of` meets its contract. Assumes nothing.
-use borrow.Author.Rules.{rules}
 use mathlib.Core.Path.{refl, ap}
 use Prim.Native.Nat.{ℕ, ◌+◌}
 use Rattle.ports.specs.Ports.{same_port}

@@ -1,5 +1,4 @@
 -- `port_rows::pipe_number` meets its contract. Assumes nothing.
-use borrow.Author.Rules.{rules}
 use mathlib.Core.Path.{◌∙◌}
 use native.Mathlib.Omega.{arith}
 use Rattle.port_rows.specs.Strands.{number_is}

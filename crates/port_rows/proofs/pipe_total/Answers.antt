@@ -1,5 +1,4 @@
 -- `port_rows::pipe_total` meets its contract. Assumes nothing.
-use borrow.Author.Rules.{rules}
 use mathlib.Core.Path.{◌∙◌}
 use Rattle.pipe_parts.specs.Heads.{pipe_elements_lem}
 use Rattle.port_rows.proofs.pipe_total.Goals as goal

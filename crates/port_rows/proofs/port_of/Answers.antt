@@ -1,6 +1,5 @@
 -- `port_rows::port_of` meets its contract: `sent` is the index of the ends of the process's own pipe, by which its links are found; a count
 -- is at most the instances, so it fits. Assumes nothing.
-use borrow.Author.Rules.{rules}
 use mathlib.Core.Path.{refl, ◌∙◌, ap}
 use native.Mathlib.Omega.{arith}
 use Rattle.pipes.specs.Elements.{few}

@@ -1,5 +1,4 @@
 -- `port_rows::row_of` meets its contract: a process is on a pipe exactly if its line has elements. Assumes nothing.
-use borrow.Author.Rules.{rules}
 use Rattle.port_rows.specs.Strands.{row_bare, row_held}
 use Rattle.port_rows.proofs.row_of.Goals as goal
 

@@ -1,5 +1,4 @@
 -- `port_rows::soak_of` meets its contract: a count of 0 is that of a null process, whose soak is its pipe's length. Assumes nothing.
-use borrow.Author.Rules.{rules}
 use mathlib.Core.Path.{◌∙◌}
 use Rattle.pipes.specs.Elements.{at_here, null_soak, row_soak_lem}
 use Rattle.port_rows.proofs.soak_of.Goals as goal

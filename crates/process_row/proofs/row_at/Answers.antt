@@ -1,5 +1,4 @@
 -- `process_row::row_at` meets its contract: p is below 1024, so the words of all six streams at it lie within the columns. Assumes nothing.
-use borrow.Author.Rules.{rules}
 use Rattle.process_row.proofs.row_at.Goals as goal
 
 pub returns : goal.returns

@@ -11,12 +11,6 @@ use Rattle.prospect.proofs.answer_to.Goals as goal
 pub dot_of-requires : goal.dot_of-requires
 dot_of-requires c = (c.requires.vector, c.requires.increment)
 
--- the increment moves
-moves : (c : goal.Else-dot_of-eq0) → let a = c.args in eq_z (dot a.v a.p.increment) (pos 0) ≡ false
-moves c =
-    let d = c.dot_of in
-    sym (zero_bits tt d.ensures.1 ∙ ap (λ (z : ℤ). eq_z z (pos 0)) d.ensures.0) ∙ ne_eqb _ _ c.if-dot_of-eq0.false
-
 pub streams_answer-requires : goal.streams_answer-requires
 streams_answer-requires c =
     (c.requires.vector, c.requires.few, c.requires.lines c.if-p.false)
@@ -26,8 +20,19 @@ returns-then-dot_of-eq0 c =
     let d = c.dot_of in
     rw (sym (zero_bits tt d.ensures.1 ∙ ap (λ (z : ℤ). eq_z z (pos 0)) d.ensures.0) ∙ eq-eqb _ _ c.if-dot_of-eq0.true) refl
 
+-- the increment moves
 pub returns-then-p : goal.returns-then-p
-returns-then-p c = rw (moves c, c.if-p.true) refl
+returns-then-p c =
+    let d = c.dot_of in
+    rw (
+      sym (zero_bits tt d.ensures.1 ∙ ap (λ (z : ℤ). eq_z z (pos 0)) d.ensures.0) ∙ ne_eqb _ _ c.if-dot_of-eq0.false,
+      c.if-p.true,
+    ) refl
 
 pub returns-else-p : goal.returns-else-p
-returns-else-p c = rw (moves c, c.if-p.false) c.streams_answer.ensures
+returns-else-p c =
+    let d = c.dot_of in
+    rw (
+      sym (zero_bits tt d.ensures.1 ∙ ap (λ (z : ℤ). eq_z z (pos 0)) d.ensures.0) ∙ ne_eqb _ _ c.if-dot_of-eq0.false,
+      c.if-p.false,
+    ) c.streams_answer.ensures

@@ -23,22 +23,19 @@ unit : {v : V3} → Abs v.x 1 → Abs v.y 1 → Abs v.z 1 → Within 1 v
 unit a b c = record { xs = a; ys = b; zs = c }
 
 pub returns-then-u-ne0 : goal.returns-then-u-ne0
-returns-then-u-ne0 c =
-    (
-      unit (record { abs = omega arith }) (record { abs = omega arith }) (record { abs = omega arith }),
-      along_first c.args.u (some c.requires.xs c.if-u-ne0.true),
-    )
+returns-then-u-ne0 c = (
+  unit (record { abs = omega arith }) (record { abs = omega arith }) (record { abs = omega arith }),
+  along_first c.args.u (some c.requires.xs c.if-u-ne0.true),
+)
 
 pub returns-then-u-ne0-2 : goal.returns-then-u-ne0-2
-returns-then-u-ne0-2 c =
-    (
-      unit (record { abs = omega arith }) (record { abs = omega arith }) (record { abs = omega arith }),
-      along_second c.args.u (some c.requires.ys c.if-u-ne0-2.true),
-    )
+returns-then-u-ne0-2 c = (
+  unit (record { abs = omega arith }) (record { abs = omega arith }) (record { abs = omega arith }),
+  along_second c.args.u (some c.requires.ys c.if-u-ne0-2.true),
+)
 
 pub returns-else-u-ne0-2 : goal.returns-else-u-ne0-2
-returns-else-u-ne0-2 c =
-    (
-      unit (record { abs = omega arith }) (record { abs = omega arith }) (record { abs = omega arith }),
-      along_third c.args.u (none c.requires.xs c.if-u-ne0.false) (none c.requires.ys c.if-u-ne0-2.false),
-    )
+returns-else-u-ne0-2 c = (
+  unit (record { abs = omega arith }) (record { abs = omega arith }) (record { abs = omega arith }),
+  along_third c.args.u (none c.requires.xs c.if-u-ne0.false) (none c.requires.ys c.if-u-ne0-2.false),
+)

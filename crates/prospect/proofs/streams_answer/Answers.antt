@@ -7,6 +7,7 @@ use lib.ListN.{length, get_or, drop}
 use Rattle.outlook.specs.declared.Outlook.{Outlook}
 use Rattle.outlook.specs.Outlooks.{no_outlook}
 use Rattle.vectors.specs.Within.{Within}
+use Rattle.prospect.specs.declared.Prospect.{Prospect}
 use Rattle.prospect.specs.Prospects.{first_by, used, used_length, used_at_lem, first_end, first_here, first_next}
 use borrow.Author.Rules.{rules}
 use Rattle.prospect.proofs.streams_answer.Goals as goal
@@ -18,27 +19,25 @@ pub outlook_at-requires : goal.outlook_at-requires
 outlook_at-requires c = omega (arith, c.loop-i-test.true, c.requires.1)
 
 pub answer_to-a-requires : goal.answer_to-a-requires
-answer_to-a-requires c =
-    (
-      subst (λ (o : Outlook). Within 200 o.line) (sym c.outlook_at.ensures)
-          (c.requires.2 c.loop-i.i c.loop-i-test.true),
-      c.requires.0,
-    )
+answer_to-a-requires c = (
+  subst (λ (o : Outlook). Within 200 o.line) (sym c.outlook_at.ensures)
+      (c.requires.2 c.loop-i.i c.loop-i-test.true),
+  c.requires.0,
+)
 
 -- stream i is one in use, and its outlook was read
-module _ (c : goal.After-answer_to-a) where
-  in_use : c.loop-i.i < length (used c.args.p)
-  in_use =
-      omega (arith, c.loop-i-test.true, used_length c.args.p)
+in_use : (p : Prospect) (i : ℕ) → i < p.streams → i < length (used p)
+in_use p i h = omega (arith, used_length p)
 
-  was_read : c.outlook_at.result ≡ get_or (used c.args.p) c.loop-i.i no_outlook
-  was_read =
-      c.outlook_at.ensures ∙ sym (used_at_lem c.args.p c.loop-i.i c.loop-i-test.true)
+was_read : (p : Prospect) (i : ℕ) {o : Outlook} → i < p.streams → o ≡ get_or p.outlooks i no_outlook
+    → o ≡ get_or (used p) i no_outlook
+was_read p i h e = e ∙ sym (used_at_lem p i h)
 
 pub returns-then-a-ne0 : goal.returns-then-a-ne0
 returns-then-a-ne0 c =
     let l = c.loop-i in
-    first_here c.args.p.hop c.args.v (used c.args.p) l.i (in_use c) (was_read c)
+    first_here c.args.p.hop c.args.v (used c.args.p) l.i (in_use c.args.p l.i c.loop-i-test.true)
+    (was_read c.args.p l.i c.loop-i-test.true c.outlook_at.ensures)
     c.answer_to-a.ensures c.if-a-ne0.true
     ∙ l.invariant
 
@@ -51,7 +50,8 @@ loop-i-preserved c =
     let l = c.loop-i in
     let a = c.args in
     ap (λ (k : ℕ). first_by a.p.hop a.v (drop k (used a.p))) (add-one l.i)
-    ∙ first_next a.p.hop a.v (used a.p) l.i (in_use c) (was_read c) c.answer_to-a.ensures
+    ∙ first_next a.p.hop a.v (used a.p) l.i (in_use c.args.p l.i c.loop-i-test.true)
+    (was_read c.args.p l.i c.loop-i-test.true c.outlook_at.ensures) c.answer_to-a.ensures
     c.if-a-ne0.false
     ∙ l.invariant
 

@@ -1,13 +1,8 @@
 -- `refuse_nest::nest_refusal` meets its contract: the first of the tests 6, 7, 8 and 10 that applies gives the number; one that does not
 -- leaves it to those after it. Assumes nothing.
-use mathlib.Core.Path.{◌≡◌}
-use mathlib.Core.List.{[], ◌∷◌}
-use Prim.Native.Nat.{ℕ}
-use Rattle.meaning.specs.Tests.{◌if◌, refusal}
-use Rattle.meaning.specs.Accept.{refused10}
 use Rattle.decode.specs.Refusals.{accepts}
 use Rattle.survey.specs.Grounds.{six, seven, eight, ten}
-use Rattle.survey.specs.Stages.{layout_tests, applies, skips}
+use Rattle.survey.specs.Stages.{applies, skips}
 use borrow.Author.Rules.{rules}
 use Rattle.refuse_nest.proofs.nest_refusal.Goals as goal
 
@@ -27,22 +22,19 @@ returns-then-still c =
     (applies 8 _ (eight c.requires.1 c.still.ensures) c.if-still.true))
 
 -- none of 6, 7 and 8 applies: 10 decides
-to_ten : {r : ℕ} (c : goal.After-processes_refused)
-    → let s = c.args in
-    r ≡ refusal ((10 if refused10 s.limits s.n) ∷ []) → r ≡ refusal (layout_tests s.limits s.n)
-to_ten c e =
-    let s = c in
-    skips 6 _ (six s.requires.1 s.args.limits c.instances_refused.ensures) c.if-instances_refused.false
-    (skips 7 _ (seven s.requires.1 c.low_rank.ensures) c.if-low_rank.false
-    (skips 8 _ (eight s.requires.1 c.still.ensures) c.if-still.false e))
-
 pub returns-then-processes_refused : goal.returns-then-processes_refused
 returns-then-processes_refused c =
-    to_ten c (applies 10 _ (ten c.requires.1 c.args.limits c.processes_refused.ensures) c.if-processes_refused.true)
+    skips 6 _ (six c.requires.1 c.args.limits c.instances_refused.ensures) c.if-instances_refused.false
+    (skips 7 _ (seven c.requires.1 c.low_rank.ensures) c.if-low_rank.false
+    (skips 8 _ (eight c.requires.1 c.still.ensures) c.if-still.false
+    (applies 10 _ (ten c.requires.1 c.args.limits c.processes_refused.ensures) c.if-processes_refused.true)))
 
 pub returns-else-processes_refused : goal.returns-else-processes_refused
 returns-else-processes_refused c =
-    to_ten c (skips 10 _ (ten c.requires.1 c.args.limits c.processes_refused.ensures) c.if-processes_refused.false accepts)
+    skips 6 _ (six c.requires.1 c.args.limits c.instances_refused.ensures) c.if-instances_refused.false
+    (skips 7 _ (seven c.requires.1 c.low_rank.ensures) c.if-low_rank.false
+    (skips 8 _ (eight c.requires.1 c.still.ensures) c.if-still.false
+    (skips 10 _ (ten c.requires.1 c.args.limits c.processes_refused.ensures) c.if-processes_refused.false accepts)))
 
 pub still-requires : goal.still-requires
 still-requires c = (c.requires.0.step, c.requires.1.increment_small)

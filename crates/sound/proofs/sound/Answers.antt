@@ -1,5 +1,4 @@
 -- `sound::sound` meets its contract. Assumes nothing.
-use borrow.Author.Rules.{rules}
 use Rattle.sound.proofs.sound.Goals as goal
 
 pub returns-then-sound_processes : goal.returns-then-sound_processes

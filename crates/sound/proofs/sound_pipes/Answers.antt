@@ -1,10 +1,8 @@
 -- `sound::sound_pipes` meets its contract: the pipes from q on say what all say. Assumes nothing.
-use mathlib.Core.Path.{◌≡◌, sym, ◌∙◌, ap}
-use Prim.Native.Nat.{◌≤◌, ◌<◌, ◌-◌}
+use mathlib.Core.Path.{sym, ◌∙◌, ap}
+use Prim.Native.Nat.{◌≤◌, ◌<◌}
 use native.Mathlib.Omega.{arith}
-use borrow.Author.Rules.{rules}
-use Rattle.meaning.specs.Lists.{every, numbers}
-use Rattle.lists.specs.Loops.{every_left, every_start, every_turn, every_stop, every_end}
+use Rattle.lists.specs.Loops.{every_start, every_turn, every_stop, every_end}
 use Rattle.sound_rows.specs.Sound.{end_sound}
 use Rattle.sound.specs.States.{pipe_sound}
 use Rattle.sound.proofs.sound_pipes.Goals as goal

@@ -1,11 +1,8 @@
 -- `sound::sound_pipes` meets its contract: the pipes from q on say what all say. Assumes nothing.
-use mathlib.Core.Path.{◌≡◌, sym, ◌∙◌, ap}
-use Prim.Native.Nat.{◌≤◌, ◌<◌, ◌-◌}
-use native.Mathlib.Omega.{arith}
-use borrow.Author.Rules.{rules}
+use mathlib.Core.Path.{◌≡◌}
+use Prim.Native.Nat.{◌≤◌, ◌-◌}
 use Rattle.meaning.specs.Lists.{every, numbers}
-use Rattle.lists.specs.Loops.{every_left, every_start, every_turn, every_stop, every_end}
-use Rattle.sound_rows.specs.Sound.{end_sound}
+use Rattle.lists.specs.Loops.{every_left}
 use Rattle.sound.specs.States.{pipe_sound}
 use Rattle.sound.proofs.sound_pipes.Given as goal
 

@@ -1,19 +1,10 @@
 -- `sound::sound_ports` meets its contract: the ports from i on say what all say. Assumes nothing.
-use mathlib.Core.Path.{◌≡◌, sym, ◌∙◌, ap}
-use mathlib.Core.Bool.{Bool}
-use mathlib.Core.List.{List}
-use Prim.Native.Nat.{ℕ, ◌≤◌, ◌-◌}
+use mathlib.Core.Path.{sym, ◌∙◌, ap}
 use native.Mathlib.Omega.{arith}
-use borrow.Author.Rules.{rules}
 use Rattle.sound_rows.specs.Sound.{port_sound}
-use Rattle.port_table.specs.PortsOf.{port_at}
-use Rattle.lists.specs.Loops.{every_left, every_start, every_turn, every_stop, every_end}
-use Rattle.sound.specs.States.{ports_sound}
+use Rattle.lists.specs.Loops.{every_start, every_turn, every_stop, every_end}
+use Rattle.sound.proofs.sound_ports.Invariants.{one}
 use Rattle.sound.proofs.sound_ports.Goals as goal
-
--- whether port i is sound
-abbrev one : List ℕ → List ℕ → ℕ → ℕ → Bool
-one b st p i = port_sound st (port_at b p i)
 
 pub loop-i-init : goal.loop-i-init
 loop-i-init c = (omega arith, every_start _ _)

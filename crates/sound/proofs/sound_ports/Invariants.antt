@@ -1,15 +1,17 @@
 -- `sound::sound_ports` meets its contract: the ports from i on say what all say. Assumes nothing.
-use mathlib.Core.Path.{◌≡◌, sym, ◌∙◌, ap}
+use mathlib.Core.Path.{◌≡◌}
 use mathlib.Core.Bool.{Bool}
 use mathlib.Core.List.{List}
 use Prim.Native.Nat.{ℕ, ◌≤◌, ◌-◌}
-use native.Mathlib.Omega.{arith}
-use borrow.Author.Rules.{rules}
 use Rattle.sound_rows.specs.Sound.{port_sound}
 use Rattle.port_table.specs.PortsOf.{port_at}
-use Rattle.lists.specs.Loops.{every_left, every_start, every_turn, every_stop, every_end}
+use Rattle.lists.specs.Loops.{every_left}
 use Rattle.sound.specs.States.{ports_sound}
 use Rattle.sound.proofs.sound_ports.Given as goal
+
+-- whether port i is sound
+abbrev pub one : List ℕ → List ℕ → ℕ → ℕ → Bool
+one b st p i = port_sound st (port_at b p i)
 
 abbrev pub invariant-loop-i : goal.invariant-loop-i
 invariant-loop-i l = let ports = l.ports in let state = l.state in let z = l.z in let i = l.i in (i ≤ z.streams) × (ports_sound ports state z.streams l.p ≡ every_left (one ports state l.p) z.streams i)

@@ -3,7 +3,6 @@
 use mathlib.Core.Path.{◌≡◌, sym, ◌∙◌, ap}
 use mathlib.Core.Bool.{true, false}
 use lib.Dec.{leb}
-use borrow.Author.Rules.{rules}
 use Rattle.ports.specs.declared.Port.{Port}
 use Rattle.ports.specs.Links.{word}
 use Rattle.sound.specs.States.{firings_sound}

@@ -1,10 +1,7 @@
 -- `sound::sound_processes` meets its contract: the processes from p on say what all say. Assumes nothing.
-use mathlib.Core.Path.{◌≡◌, sym, ◌∙◌}
-use Prim.Native.Nat.{◌≤◌, ◌-◌}
+use mathlib.Core.Path.{sym, ◌∙◌}
 use native.Mathlib.Omega.{arith}
-use borrow.Author.Rules.{rules}
-use Rattle.meaning.specs.Lists.{every, numbers}
-use Rattle.lists.specs.Loops.{every_left, every_start, every_turn, every_stop, every_end}
+use Rattle.lists.specs.Loops.{every_start, every_turn, every_stop, every_end}
 use Rattle.sound.specs.States.{process_sound}
 use Rattle.sound.proofs.sound_processes.Goals as goal
 

@@ -1,10 +1,8 @@
 -- `sound::sound_processes` meets its contract: the processes from p on say what all say. Assumes nothing.
-use mathlib.Core.Path.{◌≡◌, sym, ◌∙◌}
+use mathlib.Core.Path.{◌≡◌}
 use Prim.Native.Nat.{◌≤◌, ◌-◌}
-use native.Mathlib.Omega.{arith}
-use borrow.Author.Rules.{rules}
 use Rattle.meaning.specs.Lists.{every, numbers}
-use Rattle.lists.specs.Loops.{every_left, every_start, every_turn, every_stop, every_end}
+use Rattle.lists.specs.Loops.{every_left}
 use Rattle.sound.specs.States.{process_sound}
 use Rattle.sound.proofs.sound_processes.Given as goal
 

@@ -69,7 +69,7 @@ pub receive-requires : goal.receive-requires
 unfolding can_by
 receive-requires c =
     let p = c.requires in
-    let k : 3 < c.args.kind = omega (arith, c.in_default.rest) in
+    let k : 3 < c.args.kind = omega arith in
     let h = p.2.pipe (inr k) in
     rw c.end-in_default.ensures (p.0.ends _ h, p.4 _ h, sym (by_last c.args.kind k _ _ _ _ _) ∙ p.5)
 

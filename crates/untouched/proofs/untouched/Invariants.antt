@@ -12,14 +12,16 @@ use Rattle.untouched.proofs.untouched.Given as goal
 
 abbrev pub invariant-loop-marks : goal.invariant-loop-marks
 invariant-loop-marks l =
-    (l.found ≡ false) × (l.k ≤ l.instances) × (length l.marks ≡ length l.initial.marks) × (Marked (number_on l.f l.walk) l.k l.elements l.marks)
+    (l.found ≡ false) × (l.k ≤ l.instances) × (length l.marks ≡ length l.initial.marks)
+    × (Marked (number_on l.f l.walk) l.k l.elements l.marks)
 
 abbrev pub decreases-loop-marks : goal.decreases-loop-marks
 decreases-loop-marks l = l.instances - l.k
 
 abbrev pub invariant-elements : goal.invariant-elements
 invariant-elements l =
-    (l.found ≡ false) × (l.k ≤ l.instances) × (length l.marks ≡ length l.initial.marks) × (Marked (number_on l.f l.walk) l.k l.elements l.marks)
+    (l.found ≡ false) × (l.k ≤ l.instances) × (length l.marks ≡ length l.initial.marks)
+    × (Marked (number_on l.f l.walk) l.k l.elements l.marks)
     × (l.q ≤ l.elements) × ((i : ℕ) → i < l.q → Touch (number_on l.f l.walk) l.instances i)
 
 abbrev pub decreases-elements : goal.decreases-elements

@@ -15,7 +15,8 @@ use Rattle.walk.proofs.fill_walk.Given as goal
 
 abbrev pub invariant-loop-p : goal.invariant-loop-p
 invariant-loop-p l =
-    (l.p ≤ l.processes) × (length l.walk ≡ length l.initial.walk) × (l.from ≡ passed l.n l.p) × ((k : ℕ) → k < l.from → vector_at l.walk k ≡ get_or (walk_of l.n) k zero3)
+    (l.p ≤ l.processes) × (length l.walk ≡ length l.initial.walk) × (l.from ≡ passed l.n l.p)
+    × ((k : ℕ) → k < l.from → vector_at l.walk k ≡ get_or (walk_of l.n) k zero3)
 
 abbrev pub decreases-loop-p : goal.decreases-loop-p
 decreases-loop-p l = l.processes - l.p

@@ -12,7 +12,8 @@ use Rattle.walk.proofs.put_instances.Given as goal
 
 abbrev pub invariant-loop-k : goal.invariant-loop-k
 invariant-loop-k l =
-    (l.k ≤ l.count) × (length l.walk ≡ length l.initial.walk) × (Lined (λ i. shift3 l.first (pos i) l.increment) l.from l.k l.initial.walk l.walk)
+    (l.k ≤ l.count) × (length l.walk ≡ length l.initial.walk)
+    × (Lined (λ i. shift3 l.first (pos i) l.increment) l.from l.k l.initial.walk l.walk)
 
 abbrev pub decreases-loop-k : goal.decreases-loop-k
 decreases-loop-k l = l.count - l.k

@@ -1,10 +1,8 @@
 -- `words::store` meets its contract: the first i values are there. Assumes nothing.
-use mathlib.Core.Path.{◌≡◌, refl, sym, ◌∙◌, ap}
-use Prim.Native.Nat.{ℕ, ◌-◌, ◌≤◌}
-use native.Mathlib.Omega.{arith}
-use lib.ListN.{length, length-set}
-use borrow.Author.Rules.{rules}
-use Rattle.words.specs.Stored.{stored, stored_zero, stored_step}
+use mathlib.Core.Path.{◌≡◌}
+use Prim.Native.Nat.{◌-◌, ◌≤◌}
+use lib.ListN.{length}
+use Rattle.words.specs.Stored.{stored}
 use Rattle.words.proofs.store.Given as goal
 
 abbrev pub invariant-loop-i : goal.invariant-loop-i
