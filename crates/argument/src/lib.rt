@@ -6,6 +6,8 @@
 ghost use Rattle.std.specs.Prelude.{◌≡◌, min};
 ghost use Rattle.argument.specs.Numeral.{with_digit, value_of, numeral_of};
 
+use std::env::{Env, FillError};
+
 fn capped(x: u64) -> u32
     ensures { result ≡ min x 4294967295 }
 {
@@ -49,16 +51,18 @@ pub fn numeral_of(digits: &[u8]) -> u32
 }
 
 // The word of argument i.
-pub fn word_argument(i: usize) -> u32 {
+pub fn word_argument(rt: &impl Env, i: usize) -> u32 {
     let mut digits = [0u8; 10];
-    let n = os::arg(i, &mut digits);
-    numeral_of(&digits[..n])
+    match rt.arg(i, &mut digits) {
+        Ok(n) => numeral_of(&digits[..n]),
+        Err(_) => 4294967295,
+    }
 }
 
 // The board of argument i, request 2.9; the gauge, 0, where there is none.
-pub fn board(i: usize) -> u32 {
-    if os::arg_count() <= i {
+pub fn board(rt: &impl Env, i: usize) -> u32 {
+    if matches!(rt.arg(i, &mut []), Err(FillError::NotPresent)) {
         return 0;
     }
-    word_argument(i)
+    word_argument(rt, i)
 }

@@ -9,13 +9,14 @@
 
 #![tactic(auto)]
 
-ghost use Rattle.std.specs.Prelude.{◌+◌, ◌*◌, ◌<◌, ◌≤◌, length};
+ghost use Rattle.std.specs.Prelude.{◌+◌, ◌*◌, ◌<◌, ◌≤◌, length, IfOk};
 ghost use Rattle.meaning.specs.Limits.{gauge_limits, elements_most};
 
 use integers::V3;
 use layout::SPANS;
-use libc::{STDIN_FILENO, STDOUT_FILENO};
 use meaning::{Acceptance, Answer, Divisors, ELEMENTS, Figures, PROCESSES, Row};
+use std::io;
+use std::io::Read;
 use walk::WALK;
 
 // ---- sums
@@ -88,115 +89,118 @@ fn mark(output: &mut [u32], count: usize)
 
 // ---- text
 
-fn print(text: &[u8]) {
-    io::write_all(STDOUT_FILENO, text);
+fn print(rt: &impl Print, text: &[u8]) -> io::Result<()> {
+    rt.write_all(text)
 }
 
-fn print_number(x: u32) {
-    print(b" ");
-    io::print_decimal(STDOUT_FILENO, words::wide(x));
+fn print_number(rt: &impl Print, x: u32) -> io::Result<()> {
+    print(rt, b" ")?;
+    rt.print(x)
 }
 
-fn print_signed(z: i32) {
+fn print_signed(rt: &impl Print, z: i32) -> io::Result<()> {
     let size = integers::magnitude(z);
     if z < 0 {
-        print(b" -");
-        io::print_decimal(STDOUT_FILENO, words::wide(size));
+        print(rt, b" -")?;
+        rt.print(size)
     } else {
-        print_number(size);
+        print_number(rt, size)
     }
 }
 
-fn print_vector(v: V3) {
-    print_signed(v.x);
-    print_signed(v.y);
-    print_signed(v.z);
+fn print_vector(rt: &impl Print, v: V3) -> io::Result<()> {
+    print_signed(rt, v.x)?;
+    print_signed(rt, v.y)?;
+    print_signed(rt, v.z)
 }
 
-fn print_words(words: &[u32], count: usize)
+fn print_words(rt: &impl Print, words: &[u32], count: usize) -> io::Result<()>
     requires { count ≤ length words.now }
 {
     let mut i: usize = 0;
     while i < count {
-        print_number(words[i]);
+        print_number(rt, words[i])?;
         i += 1;
     }
+    Ok(())
 }
 
-fn print_instances(walk: &[i8], instances: usize)
+fn print_instances(rt: &impl Print, walk: &[i8], instances: usize) -> io::Result<()>
     requires { 3 * instances ≤ length walk.now }
 {
     let mut k: usize = 0;
     while k < instances {
-        print_vector(walk::instance_at(walk, k));
+        print_vector(rt, walk::instance_at(walk, k))?;
         k += 1;
     }
+    Ok(())
 }
 
-fn print_streams(words: [u32; 6]) {
-    print_words(&words, 6);
+fn print_streams(rt: &impl Print, words: [u32; 6]) -> io::Result<()> {
+    print_words(rt, &words, 6)
 }
 
-fn print_row(r: Row) {
-    print(b"row");
+fn print_row(rt: &impl Print, r: Row) -> io::Result<()> {
+    print(rt, b"row")?;
     let y = r.point;
-    print_signed(y.a);
-    print_signed(y.b);
-    print_number(r.count);
-    print_vector(r.first);
-    print_vector(r.last);
+    print_signed(rt, y.a)?;
+    print_signed(rt, y.b)?;
+    print_number(rt, r.count)?;
+    print_vector(rt, r.first)?;
+    print_vector(rt, r.last)?;
     let soak = r.soak;
-    print_streams(soak);
+    print_streams(rt, soak)?;
     let drain = r.drain;
-    print_streams(drain);
-    print(b"\n");
+    print_streams(rt, drain)?;
+    print(rt, b"\n")
 }
 
-fn print_rows(rows: [Row; PROCESSES], count: usize) {
+fn print_rows(rt: &impl Print, rows: [Row; PROCESSES], count: usize) -> io::Result<()> {
     let mut p: usize = 0;
     while p < PROCESSES {
         if count <= p {
-            return;
+            return Ok(());
         }
-        print_row(rows[p]);
+        print_row(rt, rows[p])?;
         p += 1;
     }
+    Ok(())
 }
 
-fn print_list(name: &[u8], words: &[u32], count: usize)
+fn print_list(rt: &impl Print, name: &[u8], words: &[u32], count: usize) -> io::Result<()>
     requires { count ≤ length words.now }
 {
-    print(name);
-    print_words(words, count);
-    print(b"\n");
+    print(rt, name)?;
+    print_words(rt, words, count)?;
+    print(rt, b"\n")
 }
 
-fn print_call(answer: Answer, sum: u32) {
-    print_number(answer_words::number_of(answer));
-    print_number(sum);
+fn print_call(rt: &impl Print, answer: Answer, sum: u32) -> io::Result<()> {
+    print_number(rt, answer_words::number_of(answer))?;
+    print_number(rt, sum)
 }
 
-fn print_figures(f: Figures, g: Divisors) {
-    io::print_decimal(STDOUT_FILENO, words::wide(f.processes));
-    print_number(f.instances);
-    print_number(f.elements);
-    print_number(f.pipes);
-    print_number(f.words);
-    print_number(f.steps);
-    print_number(g.place);
-    print_number(g.stream0);
-    print_number(g.stream1);
-    print_number(g.stream2);
-    print_number(g.stream3);
-    print_number(g.stream4);
-    print_number(g.stream5);
-    print(b"\n");
+fn print_figures(rt: &impl Print, f: Figures, g: Divisors) -> io::Result<()> {
+    rt.print(f.processes)?;
+    print_number(rt, f.instances)?;
+    print_number(rt, f.elements)?;
+    print_number(rt, f.pipes)?;
+    print_number(rt, f.words)?;
+    print_number(rt, f.steps)?;
+    print_number(rt, g.place)?;
+    print_number(rt, g.stream0)?;
+    print_number(rt, g.stream1)?;
+    print_number(rt, g.stream2)?;
+    print_number(rt, g.stream3)?;
+    print_number(rt, g.stream4)?;
+    print_number(rt, g.stream5)?;
+    print(rt, b"\n")
 }
 
-fn print_refusal(number: u32) {
-    print(b"refused");
-    print_number(number);
-    print(b"\n");
+fn print_refusal(rt: &impl Print, number: u32) -> io::Result<()> {
+    print(rt, b"refused")?;
+    print_number(rt, number)?;
+    print(rt, b"\n")
 }
 
 // ---- the calls
@@ -220,81 +224,85 @@ fn within(x: u32, most: usize) -> usize
     if x as usize <= most { x as usize } else { most }
 }
 
-fn accept_line(board: u32, s: &[u8]) -> Extents
-    ensures { (1 ≤ result.processes) × (result.processes ≤ gauge_limits.processes) × (1 ≤ result.elements) × (result.elements ≤ elements_most) }
+fn accept_line(rt: &impl Print, board: u32, s: &[u8]) -> io::Result<Extents>
+    ensures { IfOk result (λ e. (1 ≤ e.processes) × (e.processes ≤ gauge_limits.processes)
+        × (1 ≤ e.elements) × (e.elements ≤ elements_most)) }
 {
     let answer = accept::accept(board, s);
     match answer {
         Acceptance::Accepted(f, g) => {
-            print_figures(f, g);
-            Extents {
+            print_figures(rt, f, g)?;
+            Ok(Extents {
                 processes: within(f.processes, PROCESSES),
                 elements: within(f.elements, ELEMENTS),
                 small: f.elements <= 12,
-            }
+            })
         }
         Acceptance::Refused(number) => {
-            print_refusal(number);
-            Extents {
+            print_refusal(rt, number)?;
+            Ok(Extents {
                 processes: 1,
                 elements: 1,
                 small: false,
-            }
+            })
         }
     }
 }
 
 // Of the walk's first instances the sum, and all of them if the array is small.
-fn print_visits(walk: &[i8], instances: usize, small: bool)
+fn print_visits(rt: &impl Print, walk: &[i8], instances: usize, small: bool) -> io::Result<()>
     requires { 3 * instances ≤ length walk.now }
 {
-    print_number(sum_of_walk(walk, instances));
-    print(b"\n");
+    print_number(rt, sum_of_walk(walk, instances))?;
+    print(rt, b"\n")?;
     if small {
-        print(b"along");
-        print_instances(walk, instances);
-        print(b"\n");
+        print(rt, b"along")?;
+        print_instances(rt, walk, instances)?;
+        print(rt, b"\n")?;
     }
+    Ok(())
 }
 
-fn walk_lines(board: u32, s: &[u8], small: bool) {
+fn walk_lines(rt: &impl Print, board: u32, s: &[u8], small: bool) -> io::Result<()> {
     let mut spans = [0u32; SPANS];
     let mut walk = [0i8; WALK];
     let v = walkable::walk_of(board, s, &mut spans, &mut walk);
     let refusal = v.refusal;
-    print(b"walk");
-    print_number(refusal);
+    print(rt, b"walk")?;
+    print_number(rt, refusal)?;
     if refusal == 0 {
-        print_visits(&walk, v.ground.instances as usize, small);
+        print_visits(rt, &walk, v.ground.instances as usize, small)
     } else {
-        print(b" 0\n");
+        print(rt, b" 0\n")
     }
 }
 
-fn table_call(board: u32, s: &[u8], lent: usize, seen: usize) {
+fn table_call(rt: &impl Print, board: u32, s: &[u8], lent: usize, seen: usize) -> io::Result<()> {
     let listed = table_rows::table(s, lent, board);
     let answer = listed.answer;
     let rows = listed.rows;
-    print_call(answer, sum_of_rows(rows, seen));
+    print_call(rt, answer, sum_of_rows(rows, seen))
 }
 
-fn table_lines(board: u32, s: &[u8], e: Extents)
+fn table_lines(rt: &impl Print, board: u32, s: &[u8], e: Extents) -> io::Result<()>
     requires { (1 ≤ e.processes) × (e.processes ≤ gauge_limits.processes) }
 {
     let processes = e.processes;
-    print(b"table");
-    table_call(board, s, processes - 1, processes + 1);
-    table_call(board, s, processes, processes + 1);
-    table_call(board, s, PROCESSES, processes + 1);
-    print(b"\n");
+    print(rt, b"table")?;
+    table_call(rt, board, s, processes - 1, processes + 1)?;
+    table_call(rt, board, s, processes, processes + 1)?;
+    table_call(rt, board, s, PROCESSES, processes + 1)?;
+    print(rt, b"\n")?;
     if e.small {
         let listed = table_rows::table(s, processes, board);
         let rows = listed.rows;
-        print_rows(rows, processes);
+        print_rows(rt, rows, processes)?;
     }
+    Ok(())
 }
 
 fn plain_call(
+    rt: &impl Print,
     board: u32,
     s: &[u8],
     values: &[u32],
@@ -302,89 +310,99 @@ fn plain_call(
     output: &mut [u32],
     lent: usize,
     seen: usize,
-)
+) -> io::Result<()>
     requires { (given ≤ length values.now) × (lent ≤ length output.old) × (seen ≤ length output.old) }
 {
     mark(output, seen);
     let answer = plain::plain_run(board, s, &values[..given], &mut output[..lent]);
-    print_call(answer, sums::sum_of(0, output, seen));
+    print_call(rt, answer, sums::sum_of(0, output, seen))
 }
 
-fn plain_calls(board: u32, s: &[u8], values: &[u32], output: &mut [u32], elements: usize)
+fn plain_calls(
+    rt: &impl Print,
+    board: u32,
+    s: &[u8],
+    values: &[u32],
+    output: &mut [u32],
+    elements: usize,
+) -> io::Result<()>
     requires { (1 ≤ elements) × (elements + 1 ≤ length values.now) × (elements + 1 ≤ length output.old) }
 {
     let fewer = elements - 1;
     let more = elements + 1;
-    plain_call(board, s, values, fewer, output, elements, more);
-    plain_call(board, s, values, elements, output, more, more);
-    plain_call(board, s, values, more, output, fewer, more);
-    plain_call(board, s, values, elements, output, elements, more);
+    plain_call(rt, board, s, values, fewer, output, elements, more)?;
+    plain_call(rt, board, s, values, elements, output, more, more)?;
+    plain_call(rt, board, s, values, more, output, fewer, more)?;
+    plain_call(rt, board, s, values, elements, output, elements, more)
 }
 
 // The values of the description of a number are those of Fill from the next number.
-fn plain_lines(board: u32, s: &[u8], e: Extents, number: u32)
+fn plain_lines(rt: &impl Print, board: u32, s: &[u8], e: Extents, number: u32) -> io::Result<()>
     requires { (1 ≤ e.elements) × (e.elements ≤ elements_most) × (number < 65536) }
 {
     let elements = e.elements;
     let mut values = [0u32; ELEMENTS + 1];
     let mut output = [0u32; ELEMENTS + 1];
     fill::fill(number + 1, elements + 1, &mut values);
-    print(b"plain");
-    plain_calls(board, s, &values, &mut output, elements);
-    print(b"\n");
+    print(rt, b"plain")?;
+    plain_calls(rt, board, s, &values, &mut output, elements)?;
+    print(rt, b"\n")?;
     if e.small {
-        print_list(b"values", &values, elements);
-        print_list(b"final", &output, elements);
+        print_list(rt, b"values", &values, elements)?;
+        print_list(rt, b"final", &output, elements)?;
     }
+    Ok(())
 }
 
-fn compare(board: u32, s: &[u8], number: u32)
+fn compare(rt: &impl Print, board: u32, s: &[u8], number: u32) -> io::Result<()>
     requires { number < 65536 }
 {
-    let e = accept_line(board, s);
-    walk_lines(board, s, e.small);
-    table_lines(board, s, e);
-    plain_lines(board, s, e, number);
+    let e = accept_line(rt, board, s)?;
+    walk_lines(rt, board, s, e.small)?;
+    table_lines(rt, board, s, e)?;
+    plain_lines(rt, board, s, e, number)
 }
 
 // ---- the input
 
 // The number of bytes of the next description.
-fn bytes_in(words: &[u8]) -> isize {
+fn bytes_in(words: &[u8]) -> usize {
     let n = integers::bits_at(words, 0);
-    if n < 508 { n as isize } else { 508 }
+    if n < 508 { n as usize } else { 508 }
 }
 
-fn read(bytes: &mut [u8], wanted: isize) {
-    let n = io::count(wanted, bytes);
-    io::read_full(STDIN_FILENO, &mut bytes[..n]);
+fn read(input: &mut impl Read, bytes: &mut [u8], wanted: usize) -> io::Result<()> {
+    let n = bytes.len().min(wanted);
+    reading::read_full(input, &mut bytes[..n])?;
+    Ok(())
 }
 
 // Whether there was a description.
-fn compare_next(number: u32) -> bool
+fn compare_next(rt: &impl Print, input: &mut impl Read, number: u32) -> io::Result<bool>
     requires { number < 65536 }
 {
     let mut words = [0u8; 8];
-    let got = io::read_full(STDIN_FILENO, &mut words);
+    let got = reading::read_full(input, &mut words)?;
     if got < 8 {
-        return false;
+        return Ok(false);
     }
     let wanted = bytes_in(&words);
     let board = integers::bits_at(&words, 1);
     let mut bytes = [0u8; 508];
-    read(&mut bytes, wanted);
-    let n = io::count(wanted, &bytes);
-    compare(board, &bytes[..n], number);
-    true
+    read(input, &mut bytes, wanted)?;
+    let n = bytes.len().min(wanted);
+    compare(rt, board, &bytes[..n], number)?;
+    Ok(true)
 }
 
-fn main() {
+fn main(rt: HostRuntime) -> io::Result<()> {
     let mut number: u32 = 0;
     while number < 65536 {
-        if compare_next(number) {
+        if compare_next(&rt, &mut rt.stdin(), number)? {
             number += 1;
         } else {
-            return;
+            return Ok(());
         }
     }
+    Ok(())
 }

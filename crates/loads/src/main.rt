@@ -10,8 +10,9 @@
 
 ghost use Rattle.std.specs.Prelude.{◌<◌};
 
-use libc::STDIN_FILENO;
 use meaning::{Answer, Made, Sizes};
+use std::io;
+use std::io::Read;
 use text::PAGE;
 
 // The places of Fill's list and of Make's.
@@ -60,11 +61,12 @@ fn back(seed: u32, values: &[u32]) -> u32 {
     rounds_back(values[n - 1], n)
 }
 
-fn print_filled(seed: u32, values: &[u32], sum: u32) {
-    text::print_words(b"fill", &[0, sum, back(seed, values)]);
+fn print_filled(rt: &impl Print, seed: u32, values: &[u32], sum: u32) -> io::Result<()> {
+    text::print_words(rt, b"fill", &[0, sum, back(seed, values)])?;
     if values.len() <= 8 {
-        text::print_words(b"values", values);
+        text::print_words(rt, b"values", values)?;
     }
+    Ok(())
 }
 
 fn fill_call(seed: u32, n: u32, list: &mut [u32], lent: u32) -> Answer {
@@ -72,7 +74,7 @@ fn fill_call(seed: u32, n: u32, list: &mut [u32], lent: u32) -> Answer {
     fill::fill(seed, n as usize, &mut list[..k])
 }
 
-fn fill_lines(r: Record) {
+fn fill_lines(rt: &impl Print, r: Record) -> io::Result<()> {
     let lent = within(r.lent, WORDS);
     let mut list = [7u32; WORDS as usize];
     let answer = fill_call(r.seed, r.a, &mut list, lent);
@@ -80,47 +82,54 @@ fn fill_lines(r: Record) {
     match answer {
         Answer::Done => {
             let n = script::part_of(&list, r.a);
-            print_filled(r.seed, &list[..n], sum);
+            print_filled(rt, r.seed, &list[..n], sum)
         }
-        Answer::Refused(number) => text::print_words(b"fill", &[number, sum, 0]),
+        Answer::Refused(number) => text::print_words(rt, b"fill", &[number, sum, 0]),
     }
 }
 
 // ---- Make
 
 // The words of a description, each behind a blank.
-fn put_description(page: &mut [u8; PAGE], at: usize, bytes: &[u8], words: u32) -> usize {
+fn put_description(
+    rt: &impl Print,
+    page: &mut [u8; PAGE],
+    at: usize,
+    bytes: &[u8],
+    words: u32,
+) -> io::Result<usize> {
     let mut next = at;
     let mut k: u32 = 0;
     while k < words {
-        next = text::put_signed(page, next, integers::word_at(bytes, k));
+        next = text::put_signed(rt, page, next, integers::word_at(bytes, k))?;
         k += 1;
     }
-    next
+    Ok(next)
 }
 
-fn print_description(bytes: &[u8], words: u32) {
+fn print_description(rt: &impl Print, bytes: &[u8], words: u32) -> io::Result<()> {
     let mut page = [0u8; PAGE];
-    let name = text::put_text(&mut page, 0, b"words");
-    let end = put_description(&mut page, name, bytes, words);
-    let all = text::put(&mut page, end, b'\n');
-    text::print_page(page, all);
+    let name = text::put_text(rt, &mut page, 0, b"words")?;
+    let end = put_description(rt, &mut page, name, bytes, words)?;
+    let all = text::put(rt, &mut page, end, b'\n')?;
+    text::print_page(rt, page, all)
 }
 
-fn print_made(bytes: u32, output: &[u8], sum: u32) {
-    text::print_words(b"make", &[0, bytes, sum]);
+fn print_made(rt: &impl Print, bytes: u32, output: &[u8], sum: u32) -> io::Result<()> {
+    text::print_words(rt, b"make", &[0, bytes, sum])?;
     let words = bytes / 4;
     if words <= 36 {
-        print_description(output, words);
+        print_description(rt, output, words)?;
     }
+    Ok(())
 }
 
 fn make_call(seed: u32, z: Sizes, output: &mut [u8], lent: u32) -> Made {
-    let k = io::count(lent as isize, output);
+    let k = output.len().min(lent as usize);
     make::make(seed, z, &mut output[..k])
 }
 
-fn make_lines(r: Record) {
+fn make_lines(rt: &impl Print, r: Record) -> io::Result<()> {
     let z = Sizes {
         loops: r.a,
         streams: r.b,
@@ -131,8 +140,8 @@ fn make_lines(r: Record) {
     let answer = make_call(r.seed, z, &mut output, lent);
     let sum = sums::sum_of_bytes(0, &output, lent as usize + 1);
     match answer {
-        Made::Made { bytes } => print_made(bytes, &output, sum),
-        Made::Refused(number) => text::print_words(b"make", &[number, 0, sum]),
+        Made::Made { bytes } => print_made(rt, bytes, &output, sum),
+        Made::Refused(number) => text::print_words(rt, b"make", &[number, 0, sum]),
     }
 }
 
@@ -149,32 +158,33 @@ fn record_of(bytes: &[u8]) -> Record {
     }
 }
 
-fn print_lines(r: Record) {
+fn print_lines(rt: &impl Print, r: Record) -> io::Result<()> {
     if r.call == 0 {
-        fill_lines(r);
+        fill_lines(rt, r)
     } else {
-        make_lines(r);
+        make_lines(rt, r)
     }
 }
 
 // Whether there was a call.
-fn next_call() -> bool {
+fn next_call(rt: &impl Print, input: &mut impl Read) -> io::Result<bool> {
     let mut bytes = [0u8; 24];
-    let got = io::read_full(STDIN_FILENO, &mut bytes);
+    let got = reading::read_full(input, &mut bytes)?;
     if got < 24 {
-        return false;
+        return Ok(false);
     }
-    print_lines(record_of(&bytes));
-    true
+    print_lines(rt, record_of(&bytes))?;
+    Ok(true)
 }
 
-fn main() {
+fn main(rt: HostRuntime) -> io::Result<()> {
     let mut number: u32 = 0;
     while number < 65536 {
-        if next_call() {
+        if next_call(&rt, &mut rt.stdin())? {
             number += 1;
         } else {
-            return;
+            return Ok(());
         }
     }
+    Ok(())
 }

@@ -5,44 +5,45 @@
 #![tactic(auto)]
 
 use meaning::Answer;
+use std::io;
 use text::PAGE;
 
 const PLACES: usize = 65536;
 
-fn put_value(page: &mut [u8; PAGE], at: usize, value: u32) -> usize {
-    let end = text::put_number(page, at, b"", value);
-    text::put(page, end, b'\n')
+fn put_value(rt: &impl Print, page: &mut [u8; PAGE], at: usize, value: u32) -> io::Result<usize> {
+    let end = text::put_number(rt, page, at, b"", value)?;
+    text::put(rt, page, end, b'\n')
 }
 
-fn put_values(page: &mut [u8; PAGE], values: &[u32]) -> usize {
+fn put_values(rt: &impl Print, page: &mut [u8; PAGE], values: &[u32]) -> io::Result<usize> {
     let mut next: usize = 0;
     let mut i: usize = 0;
     while i < values.len() {
-        next = put_value(page, next, values[i]);
+        next = put_value(rt, page, next, values[i])?;
         i += 1;
     }
-    next
+    Ok(next)
 }
 
 // Lines with the first n words of a list.
-fn print_values(list: &[u32], n: u32) {
+fn print_values(rt: &impl Print, list: &[u32], n: u32) -> io::Result<()> {
     let k = script::part_of(list, n);
     let mut page = [0u8; PAGE];
-    let end = put_values(&mut page, &list[..k]);
-    text::print_page(page, end);
+    let end = put_values(rt, &mut page, &list[..k])?;
+    text::print_page(rt, page, end)
 }
 
-fn print_fill(seed: u32, n: u32) {
+fn print_fill(rt: &impl Print, seed: u32, n: u32) -> io::Result<()> {
     let mut list = [0u32; PLACES];
     let answer = fill::fill(seed, n as usize, &mut list);
     match answer {
-        Answer::Done => print_values(&list, n),
-        Answer::Refused(number) => text::print_refusal(number),
+        Answer::Done => print_values(rt, &list, n),
+        Answer::Refused(number) => text::print_refusal(rt, number),
     }
 }
 
-fn main() {
-    let seed = argument::word_argument(1);
-    let n = argument::word_argument(2);
-    print_fill(seed, n);
+fn main(rt: HostRuntime) -> io::Result<()> {
+    let seed = argument::word_argument(&rt, 1);
+    let n = argument::word_argument(&rt, 2);
+    print_fill(&rt, seed, n)
 }

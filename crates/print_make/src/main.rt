@@ -4,38 +4,36 @@
 
 #![tactic(auto)]
 
-use libc::{STDERR_FILENO, STDOUT_FILENO};
 use meaning::{Made, Sizes};
+use std::io;
 
 // More bytes than any description has.
 const BYTES: usize = 512;
 
-fn print_bytes(out: &[u8], bytes: u32) {
-    let n = io::count(bytes as isize, out);
-    io::write_all(STDOUT_FILENO, &out[..n]);
+fn print_bytes(rt: &impl Print, out: &[u8], bytes: u32) -> io::Result<()> {
+    let n = out.len().min(bytes as usize);
+    rt.write_all(&out[..n])
 }
 
-fn print_refusal(number: u32) {
-    io::write_all(STDERR_FILENO, b"refused ");
-    io::print_decimal(STDERR_FILENO, words::wide(number));
-    io::write_all(STDERR_FILENO, b"\n");
+fn print_refusal(rt: &impl Eprint, number: u32) -> io::Result<()> {
+    eprintln!(rt; "refused {number}")
 }
 
-fn print_make(seed: u32, z: Sizes) {
+fn print_make(rt: &(impl Print + Eprint), seed: u32, z: Sizes) -> io::Result<()> {
     let mut out = [0u8; BYTES];
     let answer = make::make(seed, z, &mut out);
     match answer {
-        Made::Made { bytes } => print_bytes(&out, bytes),
-        Made::Refused(number) => print_refusal(number),
+        Made::Made { bytes } => print_bytes(rt, &out, bytes),
+        Made::Refused(number) => print_refusal(rt, number),
     }
 }
 
-fn main() {
-    let seed = argument::word_argument(1);
+fn main(rt: HostRuntime) -> io::Result<()> {
+    let seed = argument::word_argument(&rt, 1);
     let z = Sizes {
-        loops: argument::word_argument(2),
-        streams: argument::word_argument(3),
-        lines: argument::word_argument(4),
+        loops: argument::word_argument(&rt, 2),
+        streams: argument::word_argument(&rt, 3),
+        lines: argument::word_argument(&rt, 4),
     };
-    print_make(seed, z);
+    print_make(&rt, seed, z)
 }

@@ -12,80 +12,98 @@ ghost use Rattle.walk.specs.Walked.{Along, Readable};
 
 use integers::V3;
 use layout::SPANS;
-use libc::STDIN_FILENO;
 use meaning::Nest;
+use std::io;
 use survey::Survey;
 use text::PAGE;
 use walk::WALK;
 
-fn put_visit(page: &mut [u8; PAGE], n: Nest, x: V3, loops: u32) -> usize
+fn put_visit(
+    rt: &impl Print,
+    page: &mut [u8; PAGE],
+    n: Nest,
+    x: V3,
+    loops: u32,
+) -> io::Result<usize>
     requires { (Bounded n) × (Within 64 x) }
 {
     let place = n.place;
     let step = n.step;
-    let y = text::put(page, 0, b'y');
-    let point = text::put_point(page, y, vectors::image_of(place, x), loops);
-    let t = text::put_text(page, point, b" t");
-    let time = text::put_signed(page, t, vectors::dot_of(step, x));
-    let i = text::put_text(page, time, b" x");
-    let end = text::put_instance(page, i, x, loops);
-    text::put(page, end, b'\n')
+    let y = text::put(rt, page, 0, b'y')?;
+    let point = text::put_point(rt, page, y, vectors::image_of(place, x), loops)?;
+    let t = text::put_text(rt, page, point, b" t")?;
+    let time = text::put_signed(rt, page, t, vectors::dot_of(step, x))?;
+    let i = text::put_text(rt, page, time, b" x")?;
+    let end = text::put_instance(rt, page, i, x, loops)?;
+    text::put(rt, page, end, b'\n')
 }
 
-fn print_visit(n: Nest, x: V3, loops: u32)
+fn print_visit(rt: &impl Print, n: Nest, x: V3, loops: u32) -> io::Result<()>
     requires { (Bounded n) × (Within 64 x) }
 {
     let mut page = [0u8; PAGE];
-    let end = put_visit(&mut page, n, x, loops);
-    text::print_page(page, end);
+    let end = put_visit(rt, &mut page, n, x, loops)?;
+    text::print_page(rt, page, end)
 }
 
-fn print_visits(n: Nest, walk: &[i8], instances: usize, loops: u32)
+fn print_visits(
+    rt: &impl Print,
+    n: Nest,
+    walk: &[i8],
+    instances: usize,
+    loops: u32,
+) -> io::Result<()>
     requires { Readable n walk.now instances }
 {
     let mut k: usize = 0;
     while k < instances {
-        print_visit(n, walk::instance_at(walk, k), loops);
+        print_visit(rt, n, walk::instance_at(walk, k), loops)?;
         k += 1;
     }
+    Ok(())
 }
 
-fn put_figures(page: &mut [u8; PAGE], processes: u32, instances: u32) -> usize {
-    let first = text::put_number(page, 0, b"processes ", processes);
-    let second = text::put_number(page, first, b" instances ", instances);
-    text::put(page, second, b'\n')
+fn put_figures(
+    rt: &impl Print,
+    page: &mut [u8; PAGE],
+    processes: u32,
+    instances: u32,
+) -> io::Result<usize> {
+    let first = text::put_number(rt, page, 0, b"processes ", processes)?;
+    let second = text::put_number(rt, page, first, b" instances ", instances)?;
+    text::put(rt, page, second, b'\n')
 }
 
-fn print_figures(processes: u32, instances: u32) {
+fn print_figures(rt: &impl Print, processes: u32, instances: u32) -> io::Result<()> {
     let mut page = [0u8; PAGE];
-    let end = put_figures(&mut page, processes, instances);
-    text::print_page(page, end);
+    let end = put_figures(rt, &mut page, processes, instances)?;
+    text::print_page(rt, page, end)
 }
 
-fn print_whole(v: Survey, walk: &[i8])
+fn print_whole(rt: &impl Print, v: Survey, walk: &[i8]) -> io::Result<()>
     requires { (Bounded v.description.nest) × (Surveyed v) × (Along v.description.nest walk.now) }
 {
     let n = v.description.nest;
     let instances = v.ground.instances;
-    print_figures(v.ground.processes, instances);
-    print_visits(n, walk, instances as usize, v.description.sizes.loops);
+    print_figures(rt, v.ground.processes, instances)?;
+    print_visits(rt, n, walk, instances as usize, v.description.sizes.loops)
 }
 
-fn print_walk(board: u32, s: &[u8]) {
+fn print_walk(rt: &impl Print, board: u32, s: &[u8]) -> io::Result<()> {
     let mut spans = [0u32; SPANS];
     let mut walk = [0i8; WALK];
     let v = walkable::walk_of(board, s, &mut spans, &mut walk);
     let refusal = v.refusal;
     if refusal == 0 {
-        print_whole(v, &walk);
+        print_whole(rt, v, &walk)
     } else {
-        text::print_refusal(refusal);
+        text::print_refusal(rt, refusal)
     }
 }
 
-fn main() {
-    let board = argument::board(1);
-    let mut space = io::large_buffer();
-    let n = io::read_full(STDIN_FILENO, &mut space);
-    print_walk(board, &space[..n]);
+fn main(rt: HostRuntime) -> io::Result<()> {
+    let board = argument::board(&rt, 1);
+    let mut space = [0u8; 65536];
+    let n = reading::read_full(&mut rt.stdin(), &mut space)?;
+    print_walk(&rt, board, &space[..n])
 }

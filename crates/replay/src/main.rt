@@ -8,6 +8,8 @@
 
 use meaning::{Acceptance, Answer, Divisors, Figures, Ran, Readiness};
 use script::{Call, KEPT, Lent, Rest};
+use std::io;
+use std::io::Read;
 
 // The lengths of the lists that a script is lent at most: more values and words than any description asks for that is not declined.
 const VALUES: usize = 32768;
@@ -19,23 +21,29 @@ const BUNDLE: u32 = 4294967295;
 
 // ---- answers
 
-fn print_answer(name: &[u8], answer: Answer) {
+fn print_answer(rt: &impl Print, name: &[u8], answer: Answer) -> io::Result<()> {
     match answer {
-        Answer::Done => text::print_text(name),
-        Answer::Refused(number) => text::print_refusal(number),
+        Answer::Done => text::print_text(rt, name),
+        Answer::Refused(number) => text::print_refusal(rt, number),
     }
 }
 
 // As many words as there are, at most so many.
-fn print_part(name: &[u8], list: &[u32], words: u32) {
+fn print_part(rt: &impl Print, name: &[u8], list: &[u32], words: u32) -> io::Result<()> {
     let n = script::part_of(list, words);
-    text::print_words(name, &list[..n]);
+    text::print_words(rt, name, &list[..n])
 }
 
-fn print_list(name: &[u8], answer: Answer, list: &[u32], words: u32) {
+fn print_list(
+    rt: &impl Print,
+    name: &[u8],
+    answer: Answer,
+    list: &[u32],
+    words: u32,
+) -> io::Result<()> {
     match answer {
-        Answer::Done => print_part(name, list, words),
-        Answer::Refused(number) => text::print_refusal(number),
+        Answer::Done => print_part(rt, name, list, words),
+        Answer::Refused(number) => text::print_refusal(rt, number),
     }
 }
 
@@ -44,7 +52,7 @@ fn shown(streams: u32) -> u32 {
     if streams <= 6 { 7 + streams } else { 13 }
 }
 
-fn print_figures(f: Figures, g: Divisors, streams: u32) {
+fn print_figures(rt: &impl Print, f: Figures, g: Divisors, streams: u32) -> io::Result<()> {
     let words = [
         f.processes,
         f.instances,
@@ -60,48 +68,49 @@ fn print_figures(f: Figures, g: Divisors, streams: u32) {
         g.stream4,
         g.stream5,
     ];
-    print_part(b"accept", &words, shown(streams));
+    print_part(rt, b"accept", &words, shown(streams))
 }
 
-fn print_ran(answer: Ran) {
+fn print_ran(rt: &impl Print, answer: Ran) -> io::Result<()> {
     match answer {
         Ran::Ran { steps, ready } => {
             let words = [steps, words::flag(ready)];
-            text::print_words(b"run", &words);
+            text::print_words(rt, b"run", &words)
         }
-        Ran::Refused(number) => text::print_refusal(number),
+        Ran::Refused(number) => text::print_refusal(rt, number),
     }
 }
 
 // The first 16 of the lent words are those of the call.
-fn print_readiness(answer: Readiness, words: &[u64]) {
+fn print_readiness(rt: &impl Print, answer: Readiness, words: &[u64]) -> io::Result<()> {
     match answer {
         Readiness::Ready { count, lowest } => {
             let n = script::part_of_masks(words, 16);
-            text::print_masks(b"ready", count, lowest, &words[..n]);
+            text::print_masks(rt, b"ready", count, lowest, &words[..n])
         }
-        Readiness::Refused(number) => text::print_refusal(number),
+        Readiness::Refused(number) => text::print_refusal(rt, number),
     }
 }
 
 // ---- the calls
 
-fn accept_line(board: u32, s: &[u8]) -> Lent {
+fn accept_line(rt: &impl Print, board: u32, s: &[u8]) -> io::Result<Lent> {
     let answer = accept::accept(board, s);
     match answer {
         Acceptance::Accepted(f, g) => {
             let z = decode::sizes(s);
-            print_figures(f, g, z.streams);
-            script::lent_by(f.elements, f.words)
+            print_figures(rt, f, g, z.streams)?;
+            Ok(script::lent_by(f.elements, f.words))
         }
         Acceptance::Refused(number) => {
-            text::print_refusal(number);
-            script::lent_by(0, 0)
+            text::print_refusal(rt, number)?;
+            Ok(script::lent_by(0, 0))
         }
     }
 }
 
 fn start_line(
+    rt: &impl Print,
     board: u32,
     s: &[u8],
     values: &[u32],
@@ -109,7 +118,7 @@ fn start_line(
     waiting: &mut [u32],
     received: &mut [u32],
     state: &mut [u32],
-) {
+) -> io::Result<()> {
     let w = script::part_of(waiting, l.waiting);
     let r = script::part_of(received, l.received);
     let n = script::part_of(state, l.state);
@@ -121,31 +130,33 @@ fn start_line(
         &mut received[..r],
         &mut state[..n],
     );
-    print_answer(b"start", answer);
+    print_answer(rt, b"start", answer)
 }
 
 fn step_line(
+    rt: &impl Print,
     board: u32,
     s: &[u8],
     c: Call,
     waiting: &[u32],
     received: &mut [u32],
     state: &mut [u32],
-) {
+) -> io::Result<()> {
     let answer = step::step(board, s, c.a, c.b, c.c, waiting, received, state);
-    print_answer(b"step", answer);
+    print_answer(rt, b"step", answer)
 }
 
 fn run_line(
+    rt: &impl Print,
     board: u32,
     s: &[u8],
     steps: u32,
     waiting: &[u32],
     received: &mut [u32],
     state: &mut [u32],
-) {
+) -> io::Result<()> {
     let answer = run::run(board, s, steps, waiting, received, state);
-    print_ran(answer);
+    print_ran(rt, answer)
 }
 
 fn ready_call(
@@ -161,26 +172,35 @@ fn ready_call(
     ready::ready(board, s, &mut words[..k], waiting, received, state)
 }
 
-fn ready_line(board: u32, s: &[u8], length: u32, waiting: &[u32], received: &[u32], state: &[u32]) {
+fn ready_line(
+    rt: &impl Print,
+    board: u32,
+    s: &[u8],
+    length: u32,
+    waiting: &[u32],
+    received: &[u32],
+    state: &[u32],
+) -> io::Result<()> {
     let mut words = [7u64; 32];
     let answer = ready_call(board, s, length, &mut words, waiting, received, state);
-    print_readiness(answer, &words);
+    print_readiness(rt, answer, &words)
 }
 
 fn window_line<'a>(
+    rt: &impl Print,
     board: u32,
     s: &[u8],
     pipe: u32,
     side: u32,
     waiting: &'a [u32],
     received: &'a [u32],
-) {
+) -> io::Result<()> {
     let mut number: u32 = 0;
     let part = window::window(board, s, pipe, side, waiting, received, &mut number);
     if number == 0 {
-        text::print_words(b"window", part);
+        text::print_words(rt, b"window", part)
     } else {
-        text::print_refusal(number);
+        text::print_refusal(rt, number)
     }
 }
 
@@ -198,16 +218,17 @@ fn result_call(
 }
 
 fn result_line(
+    rt: &impl Print,
     board: u32,
     s: &[u8],
     length: u32,
     waiting: &[u32],
     received: &[u32],
     state: &[u32],
-) {
+) -> io::Result<()> {
     let mut output = [7u32; VALUES];
     let answer = result_call(board, s, length, &mut output, waiting, received, state);
-    print_list(b"result", answer, &output, length);
+    print_list(rt, b"result", answer, &output, length)
 }
 
 // A word of the lent state is written, if there is one.
@@ -222,6 +243,7 @@ fn poke(word: u32, value: u32, state: &mut [u32]) {
 
 // The calls that write no list of the network.
 fn ask<'a>(
+    rt: &impl Print,
     board: u32,
     s: &[u8],
     c: Call,
@@ -229,21 +251,22 @@ fn ask<'a>(
     waiting: &'a [u32],
     received: &'a [u32],
     state: &[u32],
-) {
+) -> io::Result<()> {
     let number = c.number;
     match number {
-        2 => ready_line(board, s, l.ready, waiting, received, state),
-        3 => window_line(board, s, c.a, c.b, waiting, received),
-        4 => result_line(board, s, l.output, waiting, received, state),
-        5 => text::print_words(b"state", state),
-        6 => text::print_words(b"received", received),
-        8 => text::print_text(b"lend"),
-        _ => {}
+        2 => ready_line(rt, board, s, l.ready, waiting, received, state),
+        3 => window_line(rt, board, s, c.a, c.b, waiting, received),
+        4 => result_line(rt, board, s, l.output, waiting, received, state),
+        5 => text::print_words(rt, b"state", state),
+        6 => text::print_words(rt, b"received", received),
+        8 => text::print_text(rt, b"lend"),
+        _ => Ok(()),
     }
 }
 
 // A call on the lists that are lent.
 fn call_on(
+    rt: &impl Print,
     board: u32,
     s: &[u8],
     c: Call,
@@ -251,26 +274,24 @@ fn call_on(
     waiting: &[u32],
     received: &mut [u32],
     state: &mut [u32],
-) {
+) -> io::Result<()> {
     let number = c.number;
     if number == 0 {
-        step_line(board, s, c, waiting, received, state);
-        return;
+        return step_line(rt, board, s, c, waiting, received, state);
     }
     if number == 1 {
-        run_line(board, s, c.a, waiting, received, state);
-        return;
+        return run_line(rt, board, s, c.a, waiting, received, state);
     }
     if number == 7 {
         poke(c.a, c.b, state);
-        text::print_text(b"poke");
-        return;
+        return text::print_text(rt, b"poke");
     }
-    ask(board, s, c, l, waiting, received, state);
+    ask(rt, board, s, c, l, waiting, received, state)
 }
 
 // The same on as much of the lists as is lent.
 fn play_call(
+    rt: &impl Print,
     board: u32,
     s: &[u8],
     c: Call,
@@ -278,11 +299,12 @@ fn play_call(
     waiting: &[u32],
     received: &mut [u32],
     state: &mut [u32],
-) {
+) -> io::Result<()> {
     let w = script::part_of(waiting, l.waiting);
     let r = script::part_of(received, l.received);
     let n = script::part_of(state, l.state);
     call_on(
+        rt,
         board,
         s,
         c,
@@ -290,7 +312,7 @@ fn play_call(
         &waiting[..w],
         &mut received[..r],
         &mut state[..n],
-    );
+    )
 }
 
 // The lengths after a call.
@@ -307,6 +329,8 @@ fn ends(c: Call) -> bool {
 
 // Plays the calls in so many bytes; the answer is how many bytes are left.
 fn play_calls(
+    rt: &impl Print,
+    input: &mut impl Read,
     board: u32,
     s: &[u8],
     first: Lent,
@@ -314,78 +338,114 @@ fn play_calls(
     waiting: &[u32],
     received: &mut [u32],
     state: &mut [u32],
-) -> u64 {
+) -> io::Result<u64> {
     let mut l = first;
     let mut left = bytes;
     while 16 <= left {
-        let c = script::read_call();
+        let c = script::read_call(input)?;
         left -= 16;
         if ends(c) {
-            return left;
+            return Ok(left);
         }
-        play_call(board, s, c, l, waiting, received, state);
+        play_call(rt, board, s, c, l, waiting, received, state)?;
         l = lent_after(c, l);
     }
-    left
+    Ok(left)
 }
 
-fn play_whole(board: u32, s: &[u8], values: &[u32], bytes: u64) -> u64 {
-    let l = accept_line(board, s);
+fn play_whole(
+    rt: &impl Print,
+    input: &mut impl Read,
+    board: u32,
+    s: &[u8],
+    values: &[u32],
+    bytes: u64,
+) -> io::Result<u64> {
+    let l = accept_line(rt, board, s)?;
     let mut waiting = [0u32; VALUES];
     let mut received = [0u32; VALUES];
     let mut state = [0u32; STATE];
-    start_line(board, s, values, l, &mut waiting, &mut received, &mut state);
-    play_calls(board, s, l, bytes, &waiting, &mut received, &mut state)
+    start_line(
+        rt,
+        board,
+        s,
+        values,
+        l,
+        &mut waiting,
+        &mut received,
+        &mut state,
+    )?;
+    play_calls(
+        rt,
+        input,
+        board,
+        s,
+        l,
+        bytes,
+        &waiting,
+        &mut received,
+        &mut state,
+    )
 }
 
 // Plays a script with a description of so many bytes.
-fn play_script(length: u32, r: Rest) -> u64 {
+fn play_script(rt: &impl Print, input: &mut impl Read, length: u32, r: Rest) -> io::Result<u64> {
     let mut bytes = [0u8; KEPT];
     let mut values = [0u32; VALUES];
-    let described = script::read_description(r, length, &mut bytes);
-    let board = script::read_word(described);
-    let count = script::read_word(board.rest);
-    let calls = script::read_values(count.rest, count.value, &mut values);
+    let described = script::read_description(input, r, length, &mut bytes)?;
+    let board = script::read_word(input, described)?;
+    let count = script::read_word(input, board.rest)?;
+    let calls = script::read_values(input, count.rest, count.value, &mut values)?;
     if calls.whole {
-        let n = io::count(length as isize, &bytes);
+        let n = bytes.len().min(length as usize);
         let m = script::part_of(&values, count.value);
-        return play_whole(board.value, &bytes[..n], &values[..m], calls.left);
+        return play_whole(
+            rt,
+            input,
+            board.value,
+            &bytes[..n],
+            &values[..m],
+            calls.left,
+        );
     }
-    text::print_text(b"short script");
-    calls.left
+    text::print_text(rt, b"short script")?;
+    Ok(calls.left)
 }
 
 // ---- the input
 
 // Whether there may be another script.
-fn next_script(number: u32) -> bool {
-    let head = script::read_word(script::endless());
+fn next_script(rt: &impl Print, input: &mut impl Read, number: u32) -> io::Result<bool> {
+    let head = script::read_word(input, script::endless())?;
     let r = head.rest;
     if r.whole {
-        text::print_number(b"script", number);
-        let first = script::read_word(script::script_of(head.value));
-        let left = play_script(first.value, first.rest);
-        return script::skipped(left);
+        text::print_number(rt, b"script", number)?;
+        let first = script::read_word(input, script::script_of(head.value))?;
+        let left = play_script(rt, input, first.value, first.rest)?;
+        return script::skipped(input, left);
     }
-    false
+    Ok(false)
 }
 
-fn play_bundle() {
+fn play_bundle(rt: &impl Print, input: &mut impl Read) -> io::Result<()> {
     let mut number: u32 = 0;
     while number < 4294967295 {
-        if next_script(number) {
+        if next_script(rt, input, number)? {
             number += 1;
         } else {
-            return;
+            return Ok(());
         }
     }
+    Ok(())
 }
 
-fn main() {
-    let head = script::read_word(script::endless());
+fn main(rt: HostRuntime) -> io::Result<()> {
+    let mut input = rt.stdin();
+    let head = script::read_word(&mut input, script::endless())?;
     if head.value == BUNDLE {
-        play_bundle();
+        play_bundle(&rt, &mut input)
     } else {
-        play_script(head.value, head.rest);
+        play_script(&rt, &mut input, head.value, head.rest)?;
+        Ok(())
     }
 }

@@ -3,10 +3,10 @@
 
 #![tactic(auto)]
 
-ghost use Rattle.std.specs.Prelude.{◌≤◌, ◌<◌, length};
-ghost use Rattle.io.specs.Counts.{IsPrefixLen};
+ghost use Rattle.std.specs.Prelude.{◌≡◌, ◌≤◌, ◌<◌, length, take};
 
-use libc::STDIN_FILENO;
+use std::io;
+use std::io::Read;
 
 // The bytes of a description that are kept, more than any good one has.
 pub const KEPT: usize = 512;
@@ -96,38 +96,38 @@ fn behind(r: Rest, bytes: u64) -> Rest {
 // ---- reading
 
 // Reads so many bytes, as many as there is space for; whether they were there.
-fn filled(bytes: &mut [u8], wanted: isize) -> bool {
-    let n = io::count(wanted, bytes);
-    let got = io::read_full(STDIN_FILENO, &mut bytes[..n]);
-    n <= got
+fn filled(input: &mut impl Read, bytes: &mut [u8], wanted: usize) -> io::Result<bool> {
+    let n = wanted.min(bytes.len());
+    let got = reading::read_full(input, &mut bytes[..n])?;
+    Ok(n <= got)
 }
 
-pub fn read_word(r: Rest) -> Word {
+pub fn read_word(input: &mut impl Read, r: Rest) -> io::Result<Word> {
     let next = behind(r, 4);
     let mut bytes = [0u8; 4];
     if next.whole {
-        let found = filled(&mut bytes, 4);
-        return Word {
+        let found = filled(input, &mut bytes, 4)?;
+        return Ok(Word {
             value: integers::bits_at(&bytes, 0),
-            rest: passed(next, found, 0),
-        };
+            rest: passed(input, next, found, 0)?,
+        });
     }
-    Word {
+    Ok(Word {
         value: 0,
         rest: next,
-    }
+    })
 }
 
-pub fn read_call() -> Call {
+pub fn read_call(input: &mut impl Read) -> io::Result<Call> {
     let mut bytes = [0u8; 16];
-    let found = filled(&mut bytes, 16);
-    Call {
+    let found = filled(input, &mut bytes, 16)?;
+    Ok(Call {
         number: integers::bits_at(&bytes, 0),
         a: integers::bits_at(&bytes, 1),
         b: integers::bits_at(&bytes, 2),
         c: integers::bits_at(&bytes, 3),
         found: found,
-    }
+    })
 }
 
 // How many bytes are read at once.
@@ -138,77 +138,87 @@ fn chunk_of(left: u64) -> u64
     if left < CHUNK { left } else { CHUNK }
 }
 
-fn skip_chunk(bytes: u64) -> bool
+fn skip_chunk(input: &mut impl Read, bytes: u64) -> io::Result<bool>
     requires { bytes ≤ 4096 }
 {
-    let mut space = io::buffer();
-    filled(&mut space, bytes as isize)
+    let mut space = [0u8; CHUNK as usize];
+    filled(input, &mut space, bytes as usize)
 }
 
 // Reads so many bytes, which nobody looks at; whether they were there.
-pub fn skipped(bytes: u64) -> bool {
+pub fn skipped(input: &mut impl Read, bytes: u64) -> io::Result<bool> {
     let mut left = bytes;
     while 0 < left {
         let n = chunk_of(left);
-        if skip_chunk(n) {
+        if skip_chunk(input, n)? {
             left -= n;
         } else {
-            return false;
+            return Ok(false);
         }
     }
-    true
+    Ok(true)
 }
 
 // The script behind something that was found, or not, and behind so many bytes, which nobody looks at.
-fn passed(next: Rest, found: bool, bytes: u64) -> Rest {
+fn passed(input: &mut impl Read, next: Rest, found: bool, bytes: u64) -> io::Result<Rest> {
     if found {
-        return Rest {
+        return Ok(Rest {
             left: next.left,
-            whole: skipped(bytes),
-        };
+            whole: skipped(input, bytes)?,
+        });
     }
-    cut(next)
+    Ok(cut(next))
 }
 
 // Reads a description of so many bytes. Of one that is longer than any good one the first 512 bytes are kept.
-pub fn read_description(r: Rest, length: u32, bytes: &mut [u8]) -> Rest {
+pub fn read_description(
+    input: &mut impl Read,
+    r: Rest,
+    length: u32,
+    bytes: &mut [u8],
+) -> io::Result<Rest> {
     let all = padded(length);
     let kept = least(all, MOST);
     let next = behind(r, all);
     if next.whole {
-        let found = filled(bytes, kept as isize);
-        return passed(next, found, all - kept);
+        let found = filled(input, bytes, kept as usize)?;
+        return passed(input, next, found, all - kept);
     }
-    next
+    Ok(next)
 }
 
 // Reads the first words of a list; whether they were there.
-fn words_filled(words: &mut [u32], count: usize) -> bool
+fn words_filled(input: &mut impl Read, words: &mut [u32], count: usize) -> io::Result<bool>
     requires { count ≤ length words.old }
 {
     let mut k: usize = 0;
     while k < count {
         let mut bytes = [0u8; 4];
-        if filled(&mut bytes, 4) {
+        if filled(input, &mut bytes, 4)? {
             words[k] = integers::bits_at(&bytes, 0);
             k += 1;
         } else {
-            return false;
+            return Ok(false);
         }
     }
-    true
+    Ok(true)
 }
 
 // Reads so many values. Of more than there is space for the first are kept.
-pub fn read_values(r: Rest, count: u32, values: &mut [u32]) -> Rest {
+pub fn read_values(
+    input: &mut impl Read,
+    r: Rest,
+    count: u32,
+    values: &mut [u32],
+) -> io::Result<Rest> {
     let all = 4 * words::wide(count);
     let kept = part_of(values, count);
     let next = behind(r, all);
     if next.whole {
-        let found = words_filled(values, kept);
-        return passed(next, found, all - 4 * kept as u64);
+        let found = words_filled(input, values, kept)?;
+        return passed(input, next, found, all - 4 * kept as u64);
     }
-    next
+    Ok(next)
 }
 
 // ---- lent lists
@@ -250,7 +260,8 @@ pub fn lend(l: Lent, list: u32, length: u32) -> Lent {
 
 // How much of a list is lent: so many words, or all if there are fewer.
 pub fn part_of(list: &[u32], words: u32) -> usize
-    ensures prefix_len { IsPrefixLen result list.now }
+    ensures in_bounds { result ≤ length list.now }
+    ensures prefix_len { result ≡ length (take result list.now) }
     ensures upper_bound { result ≤ words }
 {
     least(words::wide(words), list.len() as u64) as usize
@@ -258,7 +269,8 @@ pub fn part_of(list: &[u32], words: u32) -> usize
 
 // The same for words of 64 bits.
 pub fn part_of_masks(list: &[u64], words: u32) -> usize
-    ensures { IsPrefixLen result list.now }
+    ensures in_bounds { result ≤ length list.now }
+    ensures prefix_len { result ≡ length (take result list.now) }
 {
     least(words::wide(words), list.len() as u64) as usize
 }

@@ -6,25 +6,25 @@
 ghost use Rattle.std.specs.Prelude.{◌<◌};
 
 use integers::V3;
-use libc::{STDIN_FILENO, STDOUT_FILENO};
+use std::io;
 
-fn show(z: i32) {
+fn show(rt: &impl Print, z: i32) -> io::Result<()> {
     if z < 0 {
-        io::write_all(STDOUT_FILENO, b" -");
+        rt.write_all(b" -")?;
     } else {
-        io::write_all(STDOUT_FILENO, b" ");
+        rt.write_all(b" ")?;
     }
-    io::print_decimal(STDOUT_FILENO, words::wide(integers::magnitude(z)));
+    rt.print(integers::magnitude(z))
 }
 
-fn line(v: V3) {
+fn line(rt: &impl Print, v: V3) -> io::Result<()> {
     let s = lattice::shorten(v);
-    io::print_decimal(STDOUT_FILENO, words::wide(s.divisor));
+    rt.print(s.divisor)?;
     let u = s.vector;
-    show(u.x);
-    show(u.y);
-    show(u.z);
-    io::write_all(STDOUT_FILENO, b"\n");
+    show(rt, u.x)?;
+    show(rt, u.y)?;
+    show(rt, u.z)?;
+    rt.write_all(b"\n")
 }
 
 // The vector from word k on.
@@ -38,16 +38,17 @@ fn vector(s: &[u8], k: u32) -> V3
     }
 }
 
-fn main() {
-    let mut space = io::large_buffer();
-    let n = io::read_full(STDIN_FILENO, &mut space);
+fn main(rt: HostRuntime) -> io::Result<()> {
+    let mut space = [0u8; 65536];
+    let n = reading::read_full(&mut rt.stdin(), &mut space)?;
     let whole = n / 12;
     let mut i: u32 = 0;
     while i < 5461 {
         if whole <= i as usize {
-            return;
+            return Ok(());
         }
-        line(vector(&space, 3 * i));
+        line(&rt, vector(&space, 3 * i))?;
         i += 1;
     }
+    Ok(())
 }

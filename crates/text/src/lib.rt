@@ -6,7 +6,7 @@
 ghost use Rattle.std.specs.Prelude.{◌≤◌};
 
 use integers::{V2, V3};
-use libc::STDOUT_FILENO;
+use std::io;
 
 // The bytes of a page.
 pub const PAGE: usize = 4096;
@@ -14,90 +14,126 @@ pub const PAGE: usize = 4096;
 // ---- into a page
 
 // The byte c at the place `at`; the answer is the next place.
-pub fn put(page: &mut [u8; PAGE], at: usize, c: u8) -> usize {
+pub fn put(rt: &impl Print, page: &mut [u8; PAGE], at: usize, c: u8) -> io::Result<usize> {
     if at < PAGE {
         page[at] = c;
-        at + 1
+        Ok(at + 1)
     } else {
-        io::write_all(STDOUT_FILENO, page);
+        rt.write_all(page)?;
         page[0] = c;
-        1
+        Ok(1)
     }
 }
 
-pub fn put_text(page: &mut [u8; PAGE], at: usize, text: &[u8]) -> usize {
+pub fn put_text(
+    rt: &impl Print,
+    page: &mut [u8; PAGE],
+    at: usize,
+    text: &[u8],
+) -> io::Result<usize> {
     let mut next = at;
     let mut i: usize = 0;
     while i < text.len() {
-        next = put(page, next, text[i]);
+        next = put(rt, page, next, text[i])?;
         i += 1;
     }
-    next
+    Ok(next)
 }
 
-fn put_decimal(page: &mut [u8; PAGE], at: usize, x: u64) -> usize {
-    let mut digits = [0u8; 20];
-    let n = io::decimal(x, &mut digits);
-    put_text(page, at, &digits[..n])
+fn put_decimal(rt: &impl Print, page: &mut [u8; PAGE], at: usize, x: u64) -> io::Result<usize> {
+    let next = if 9 < x {
+        put_decimal(rt, page, at, x / 10)?
+    } else {
+        at
+    };
+    put(rt, page, next, b'0' + (x % 10) as u8)
 }
 
-pub fn put_number(page: &mut [u8; PAGE], at: usize, name: &[u8], x: u32) -> usize {
-    let after = put_text(page, at, name);
-    put_decimal(page, after, words::wide(x))
+pub fn put_number(
+    rt: &impl Print,
+    page: &mut [u8; PAGE],
+    at: usize,
+    name: &[u8],
+    x: u32,
+) -> io::Result<usize> {
+    let after = put_text(rt, page, at, name)?;
+    put_decimal(rt, page, after, words::wide(x))
 }
 
 // A blank and a whole number.
-pub fn put_signed(page: &mut [u8; PAGE], at: usize, z: i32) -> usize {
+pub fn put_signed(rt: &impl Print, page: &mut [u8; PAGE], at: usize, z: i32) -> io::Result<usize> {
     let size = integers::magnitude(z);
     if z < 0 {
-        return put_number(page, at, b" -", size);
+        return put_number(rt, page, at, b" -", size);
     }
-    put_number(page, at, b" ", size)
+    put_number(rt, page, at, b" ", size)
 }
 
-pub fn put_point(page: &mut [u8; PAGE], at: usize, y: V2, loops: u32) -> usize {
-    let first = put_signed(page, at, y.a);
+pub fn put_point(
+    rt: &impl Print,
+    page: &mut [u8; PAGE],
+    at: usize,
+    y: V2,
+    loops: u32,
+) -> io::Result<usize> {
+    let first = put_signed(rt, page, at, y.a)?;
     if loops == 2 {
-        return first;
+        return Ok(first);
     }
-    put_signed(page, first, y.b)
+    put_signed(rt, page, first, y.b)
 }
 
-pub fn put_instance(page: &mut [u8; PAGE], at: usize, x: V3, loops: u32) -> usize {
-    let first = put_signed(page, at, x.x);
-    let second = put_signed(page, first, x.y);
+pub fn put_instance(
+    rt: &impl Print,
+    page: &mut [u8; PAGE],
+    at: usize,
+    x: V3,
+    loops: u32,
+) -> io::Result<usize> {
+    let first = put_signed(rt, page, at, x.x)?;
+    let second = put_signed(rt, page, first, x.y)?;
     if loops == 2 {
-        return second;
+        return Ok(second);
     }
-    put_signed(page, second, x.z)
+    put_signed(rt, page, second, x.z)
 }
 
 // A blank and a number.
-fn put_next(page: &mut [u8; PAGE], at: usize, x: u64) -> usize {
-    let after = put(page, at, b' ');
-    put_decimal(page, after, x)
+fn put_next(rt: &impl Print, page: &mut [u8; PAGE], at: usize, x: u64) -> io::Result<usize> {
+    let after = put(rt, page, at, b' ')?;
+    put_decimal(rt, page, after, x)
 }
 
 // Words, each behind a blank.
-pub fn put_words(page: &mut [u8; PAGE], at: usize, words: &[u32]) -> usize {
+pub fn put_words(
+    rt: &impl Print,
+    page: &mut [u8; PAGE],
+    at: usize,
+    words: &[u32],
+) -> io::Result<usize> {
     let mut next = at;
     let mut i: usize = 0;
     while i < words.len() {
-        next = put_next(page, next, words::wide(words[i]));
+        next = put_next(rt, page, next, words::wide(words[i]))?;
         i += 1;
     }
-    next
+    Ok(next)
 }
 
 // The same for words of 64 bits.
-fn put_masks(page: &mut [u8; PAGE], at: usize, words: &[u64]) -> usize {
+fn put_masks(
+    rt: &impl Print,
+    page: &mut [u8; PAGE],
+    at: usize,
+    words: &[u64],
+) -> io::Result<usize> {
     let mut next = at;
     let mut i: usize = 0;
     while i < words.len() {
-        next = put_next(page, next, words[i]);
+        next = put_next(rt, page, next, words[i])?;
         i += 1;
     }
-    next
+    Ok(next)
 }
 
 // ---- printed
@@ -109,43 +145,43 @@ fn written(end: usize) -> usize
     if end < PAGE { end } else { PAGE }
 }
 
-pub fn print_page(page: [u8; PAGE], at: usize) {
+pub fn print_page(rt: &impl Print, page: [u8; PAGE], at: usize) -> io::Result<()> {
     let n = written(at);
-    io::write_all(STDOUT_FILENO, &page[..n]);
+    rt.write_all(&page[..n])
 }
 
 // A line with a text.
-pub fn print_text(text: &[u8]) {
+pub fn print_text(rt: &impl Print, text: &[u8]) -> io::Result<()> {
     let mut page = [0u8; PAGE];
-    let end = put_text(&mut page, 0, text);
-    let all = put(&mut page, end, b'\n');
-    print_page(page, all);
+    let end = put_text(rt, &mut page, 0, text)?;
+    let all = put(rt, &mut page, end, b'\n')?;
+    print_page(rt, page, all)
 }
 
 // A line with a name and words.
-pub fn print_words(name: &[u8], words: &[u32]) {
+pub fn print_words(rt: &impl Print, name: &[u8], words: &[u32]) -> io::Result<()> {
     let mut page = [0u8; PAGE];
-    let after = put_text(&mut page, 0, name);
-    let end = put_words(&mut page, after, words);
-    let all = put(&mut page, end, b'\n');
-    print_page(page, all);
+    let after = put_text(rt, &mut page, 0, name)?;
+    let end = put_words(rt, &mut page, after, words)?;
+    let all = put(rt, &mut page, end, b'\n')?;
+    print_page(rt, page, all)
 }
 
 // A line with a name, two words, and words of 64 bits.
-pub fn print_masks(name: &[u8], a: u32, b: u32, words: &[u64]) {
+pub fn print_masks(rt: &impl Print, name: &[u8], a: u32, b: u32, words: &[u64]) -> io::Result<()> {
     let mut page = [0u8; PAGE];
-    let after = put_text(&mut page, 0, name);
-    let second = put_words(&mut page, after, &[a, b]);
-    let end = put_masks(&mut page, second, words);
-    let all = put(&mut page, end, b'\n');
-    print_page(page, all);
+    let after = put_text(rt, &mut page, 0, name)?;
+    let second = put_words(rt, &mut page, after, &[a, b])?;
+    let end = put_masks(rt, &mut page, second, words)?;
+    let all = put(rt, &mut page, end, b'\n')?;
+    print_page(rt, page, all)
 }
 
-pub fn print_number(name: &[u8], x: u32) {
-    print_words(name, &[x]);
+pub fn print_number(rt: &impl Print, name: &[u8], x: u32) -> io::Result<()> {
+    print_words(rt, name, &[x])
 }
 
 // `refused` and the number.
-pub fn print_refusal(number: u32) {
-    print_number(b"refused", number);
+pub fn print_refusal(rt: &impl Print, number: u32) -> io::Result<()> {
+    print_number(rt, b"refused", number)
 }

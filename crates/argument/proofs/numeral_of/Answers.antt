@@ -1,6 +1,5 @@
 -- `argument::numeral_of` meets its contract. Assumes nothing.
 use mathlib.Core.Path.{refl}
-use borrow.Author.Rules.{rules}
 use borrow.Author.Tests.{eq-eqb, ne_eqb}
 use Rattle.argument.proofs.numeral_of.Goals as goal
 

@@ -1,10 +1,8 @@
 -- `argument::value_of` meets its contract: the value so far, with the characters that are left, has the value of all. Assumes nothing.
-use mathlib.Core.Path.{◌≡◌, ◌∙◌, ap}
-use Prim.Native.Nat.{ℕ, ◌+◌, ◌-◌, ◌≤◌}
-use native.Mathlib.Omega.{arith}
+use mathlib.Core.Path.{◌≡◌}
+use Prim.Native.Nat.{◌-◌, ◌≤◌}
 use lib.ListN.{length, drop}
-use borrow.Author.Rules.{rules}
-use Rattle.argument.specs.Numeral.{value_of, value_next, value_end}
+use Rattle.argument.specs.Numeral.{value_of}
 use Rattle.argument.proofs.value_of.Given as goal
 
 abbrev pub invariant-loop-i : goal.invariant-loop-i

@@ -1,5 +1,5 @@
 -- `compare::main` is safe and ends. Assumes nothing.
-use Rattle.std.proofs.Common.{◌-◌, ◌≤◌, rules}
+use Rattle.std.proofs.Common.{◌-◌, ◌≤◌}
 use Rattle.compare.proofs.main.Given as goal
 
 abbrev pub invariant-loop-number : goal.invariant-loop-number

@@ -1,5 +1,5 @@
 -- `compare::mark` is safe and ends. Assumes nothing.
-use Rattle.std.proofs.Common.{◌≡◌, ◌-◌, ◌≤◌, length, rules}
+use Rattle.std.proofs.Common.{◌≡◌, ◌-◌, ◌≤◌, length}
 use Rattle.compare.proofs.mark.Given as goal
 
 abbrev pub invariant-loop-k : goal.invariant-loop-k

@@ -1,5 +1,5 @@
 -- `compare::sum_of_rows` is safe and ends. Assumes nothing.
-use Rattle.std.proofs.Common.{◌≡◌, ◌-◌, ◌≤◌, length, rules}
+use Rattle.std.proofs.Common.{◌≡◌, ◌-◌, ◌≤◌, length}
 use Rattle.compare.proofs.sum_of_rows.Given as goal
 
 abbrev pub invariant-loop-p : goal.invariant-loop-p

@@ -1,5 +1,5 @@
 -- `compare::sum_of_walk` is safe and ends. Assumes nothing.
-use Rattle.std.proofs.Common.{◌-◌, ◌*◌, ◌≤◌, length, arith, rules}
+use Rattle.std.proofs.Common.{arith}
 use Rattle.compare.proofs.sum_of_walk.Goals as goal
 
 pub instance_at-requires : goal.instance_at-requires

@@ -1,5 +1,5 @@
 -- `compare::sum_of_walk` is safe and ends. Assumes nothing.
-use Rattle.std.proofs.Common.{◌-◌, ◌*◌, ◌≤◌, length, arith, rules}
+use Rattle.std.proofs.Common.{◌-◌, ◌*◌, ◌≤◌, length}
 use Rattle.compare.proofs.sum_of_walk.Given as goal
 
 abbrev pub invariant-loop-k : goal.invariant-loop-k

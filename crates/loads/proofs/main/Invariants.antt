@@ -1,6 +1,5 @@
 -- `loads::main` is safe and ends. Assumes nothing.
 use Prim.Native.Nat.{◌≤◌, ◌-◌}
-use borrow.Author.Rules.{rules}
 use Rattle.loads.proofs.main.Given as goal
 
 abbrev pub invariant-loop-number : goal.invariant-loop-number

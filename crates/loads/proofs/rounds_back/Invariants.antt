@@ -1,6 +1,5 @@
 -- `loads::rounds_back` is safe and ends. Assumes nothing.
 use Prim.Native.Nat.{◌≤◌, ◌-◌}
-use borrow.Author.Rules.{rules}
 use Rattle.loads.proofs.rounds_back.Given as goal
 
 abbrev pub invariant-loop-i : goal.invariant-loop-i

@@ -2,11 +2,10 @@
 use mathlib.Core.Path.{◌≡◌}
 use Prim.Native.Nat.{◌≤◌, ◌-◌}
 use lib.ListN.{length}
-use borrow.Author.Rules.{rules}
 use Rattle.print_table.proofs.print_rows.Given as goal
 
 abbrev pub invariant-loop-p : goal.invariant-loop-p
-invariant-loop-p l = (l.p ≤ 1024) × (1024 ≡ length l.rows)
+invariant-loop-p g l = (l.p ≤ 1024) × (1024 ≡ length l.rows)
 
 abbrev pub decreases-loop-p : goal.decreases-loop-p
-decreases-loop-p l = 1024 - l.p
+decreases-loop-p g l = 1024 - l.p

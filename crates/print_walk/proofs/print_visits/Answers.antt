@@ -1,21 +1,19 @@
 -- `print_walk::print_visits` is safe and ends. Assumes nothing.
 use mathlib.Core.Path.{sym, subst}
-use Prim.Native.Nat.{◌-◌, ◌≤◌}
 use native.Mathlib.Omega.{arith}
-use borrow.Author.Rules.{rules}
 use Rattle.vectors.specs.Within.{Within}
 use Rattle.print_walk.proofs.print_visits.Goals as goal
 
 pub loop-k-init : goal.loop-k-init
-loop-k-init c = omega arith
+loop-k-init g c = omega arith
 
 pub instance_at-requires : goal.instance_at-requires
-instance_at-requires c = let p = c.requires in omega (arith, p.words)
+instance_at-requires g c = let p = c.requires in omega (arith, p.words)
 
 pub print_visit-requires : goal.print_visit-requires
-print_visit-requires c =
+print_visit-requires g c =
     let p = c.requires in
     (p.nest, subst (Within 64) (sym c.instance_at.ensures) (p.small c.loop-k.k (omega arith)))
 
 pub loop-k-preserved : goal.loop-k-preserved
-loop-k-preserved c = omega arith
+loop-k-preserved g c = omega arith

@@ -1,6 +1,5 @@
 -- `print_walk::print_walk` is safe and ends. Assumes nothing.
 use mathlib.Core.Path.{sym, ◌∙◌, subst}
-use borrow.Author.Rules.{rules}
 use Rattle.meaning.specs.declared.Description.{Description}
 use Rattle.numbering.specs.Ranges.{Bounded}
 use Rattle.survey.specs.InRange.{nest_bounded}
@@ -8,10 +7,10 @@ use Rattle.survey.specs.Accepted.{walk_within}
 use Rattle.print_walk.proofs.print_walk.Goals as goal
 
 pub slice_bounds-print_whole-end : goal.slice_bounds-print_whole-end
-slice_bounds-print_whole-end c = sym (c.walk_of-v.ensures.1 c.if-refusal-eq0.true).2.room
+slice_bounds-print_whole-end g c = sym (c.walk_of-v.ensures.1 c.if-refusal-eq0.true).2.room
 
 pub print_whole-requires : goal.print_whole-requires
-print_whole-requires c =
+print_whole-requires g c =
     let e = c.walk_of-v.ensures in
     let z = c.if-refusal-eq0.true in
     let h = e.1 z in

@@ -1,7 +1,6 @@
 -- `print_walk::print_whole` is safe and ends. Assumes nothing.
-use borrow.Author.Rules.{rules}
 use Rattle.walk.specs.Walked.{readable}
 use Rattle.print_walk.proofs.print_whole.Goals as goal
 
 pub print_visits-requires : goal.print_visits-requires
-print_visits-requires c = let p = c.requires in readable p.0 p.2 p.1.ground.instances_is
+print_visits-requires g c = let p = c.requires in readable p.0 p.2 p.1.ground.instances_is

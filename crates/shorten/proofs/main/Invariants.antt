@@ -2,7 +2,6 @@
 use mathlib.Core.Path.{◌≡◌}
 use Prim.Native.Nat.{◌≤◌, ◌-◌}
 use lib.ListN.{length}
-use borrow.Author.Rules.{rules}
 use Rattle.shorten.proofs.main.Given as goal
 
 abbrev pub invariant-loop-i : goal.invariant-loop-i

@@ -1,6 +1,5 @@
 -- `sums::sum_of_bytes` is safe and ends. Assumes nothing.
 use Prim.Native.Nat.{◌≤◌, ◌-◌}
-use borrow.Author.Rules.{rules}
 use Rattle.sums.proofs.sum_of_bytes.Given as goal
 
 abbrev pub invariant-loop-i : goal.invariant-loop-i

@@ -1,6 +1,5 @@
 -- `vector_counts::main` is safe and ends. Assumes nothing.
 use Prim.Native.Nat.{◌≤◌, ◌-◌}
-use borrow.Author.Rules.{rules}
 use Rattle.vector_counts.proofs.main.Given as goal
 
 abbrev pub invariant-loop-number : goal.invariant-loop-number
