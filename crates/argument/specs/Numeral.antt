@@ -20,7 +20,8 @@ numeral_of digits = cond (eqb (length digits) 0) 4294967295 (value_of 0 digits)
 -- ---- character by character
 
 module _ (digits : List ℕ) (i value : ℕ) where
-  pub value_next : i < length digits → value_of (with_digit value (get_or digits i 0)) (drop (i + 1) digits) ≡ value_of value (drop i digits)
+  pub value_next : i < length digits
+      → value_of (with_digit value (get_or digits i 0)) (drop (i + 1) digits) ≡ value_of value (drop i digits)
   unfolding value_of
   value_next h = rw (add-one, drop-cons digits i 0 h)
 

@@ -9,7 +9,8 @@ use Rattle.window.specs.Pieces.{piece_of}
 
 -- where the part of a pipe begins and how long it is, unless the call is refused by n
 abbrev pub window_values : List ℕ → ℕ → ℕ → List ℕ
-window_values s pipe n = cond (eqb n 0) (part_start (array_of (description_of s)) pipe ∷ elements_on (array_of (description_of s)) pipe ∷ []) []
+window_values s pipe n = cond (eqb n 0)
+    (part_start (array_of (description_of s)) pipe ∷ elements_on (array_of (description_of s)) pipe ∷ []) []
 
 -- of the piece that is found, where n is the call's number
 module _ (s : List ℕ) (pipe : ℕ) (words : List ℕ) {r : Piece} {m n : ℕ} (e : r ≡ piece_of (description_of s) pipe m)

@@ -1,6 +1,8 @@
 -- The sixteen words of a test of process numbers. Assumes nothing.
-use Rattle.std.specs.Prelude.{◌≡◌, refl, Bool, true, false, cond, ◌||◌, List, [], ◌∷◌, ◌++◌, map, ◌⊎◌, ℕ, zero, suc, ◌+◌, ◌*◌, ◌-◌, ◌/◌, ◌%◌, ◌^◌, ◌≤◌, ◌<◌, eqb, length, get_or, drop, set, replicate}
-use Rattle.std.proofs.Common.{sym, ◌∙◌, ap, ap₂, inl, inr, zero-add, add-zero, zero-lt-suc, div-lt_iff_lt-mul, eq-zero-or-pos, eq-or-lt_of_le, arith, eq-eqb, ne_eqb}
+use Rattle.std.specs.Prelude.{◌≡◌, refl, Bool, true, false, cond, ◌||◌, List, [], ◌∷◌, ◌++◌, map, ◌⊎◌, ℕ, zero, suc, ◌+◌, ◌*◌, ◌-◌, ◌/◌}
+use Rattle.std.specs.Prelude.{◌%◌, ◌^◌, ◌≤◌, ◌<◌, eqb, length, get_or, drop, set, replicate}
+use Rattle.std.proofs.Common.{sym, ◌∙◌, ap, ap₂, inl, inr, zero-add, add-zero, zero-lt-suc, div-lt_iff_lt-mul, eq-zero-or-pos}
+use Rattle.std.proofs.Common.{eq-or-lt_of_le, arith, eq-eqb, ne_eqb}
 use Rattle.std.specs.Int.Bits.{bit_or}
 use Rattle.std.specs.Int.Count.{ones, count_trailing_zeros}
 use Rattle.std.proofs.Math.ListN.{get_or-append}

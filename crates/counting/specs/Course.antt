@@ -1,5 +1,6 @@
 -- The instances counted on: the first one, and the one after another. Assumes nothing.
-use Rattle.std.specs.Prelude.{◌≡◌, refl, Bool, true, false, cond, ℕ, zero, suc, ◌+◌, ◌*◌, ◌-◌, ◌≤◌, ◌<◌, T, length, get_or, ℤ, pos, negsuc, ◌+ℤ◌, ◌*ℤ◌, ◌≤ℤ◌}
+use Rattle.std.specs.Prelude.{◌≡◌, refl, Bool, true, false, cond, ℕ, zero, suc, ◌+◌, ◌*◌, ◌-◌, ◌≤◌, ◌<◌, T, length, get_or, ℤ, pos, negsuc}
+use Rattle.std.specs.Prelude.{◌+ℤ◌, ◌*ℤ◌, ◌≤ℤ◌}
 use Rattle.std.proofs.Common.{sym, ◌∙◌, ap, subst, mul-le-mul_right, add-one, arith}
 use Rattle.std.proofs.Math.Decide.{dec_le}
 use Rattle.std.specs.Int.Signed.{lt_z}
@@ -144,7 +145,8 @@ module _ {n : Nest} (h : Bounded n) where
       (value_zero (inner_of n) h.directed.inner h.inner t.some_inner)
 
   -- the one after instance k
-  course_next : (k : ℕ) → k + 1 < length (instances n) → next_of (course_of n) (get_or (instances n) k zero3) ≡ get_or (instances n) (k + 1) zero3
+  course_next : (k : ℕ) → k + 1 < length (instances n)
+      → next_of (course_of n) (get_or (instances n) k zero3) ≡ get_or (instances n) (k + 1) zero3
   course_next k l = go _ (turned n k refl h (omega arith))
     where
       go : (u : Turns) → Turned n k u → next_of (course_of n) (get_or (instances n) k zero3) ≡ get_or (instances n) (k + 1) zero3

@@ -90,7 +90,8 @@ columns_most {a} {b} h = go a b h.low h.high h.ordered
     go = linear 0 2 _ λ p m. simp (gaps, parts) (omega arith)
 
 -- columns as the code counts them
-pub columns_are : {a b : ℤ} {r : ℕ} → Apart a b → r ≡ up (to_z w32 (of_z w32 b) -ℤ to_z w32 (of_z w32 a)) → to_z w32 (r + 1) ≡ pos (size a b)
+pub columns_are : {a b : ℤ} {r : ℕ} → Apart a b → r ≡ up (to_z w32 (of_z w32 b) -ℤ to_z w32 (of_z w32 a))
+    → to_z w32 (r + 1) ≡ pos (size a b)
 columns_are {a} {b} h e =
     ap (to_z w32) (size_words h e) ∙ (bits tt (columns_most h).abs).eq
 

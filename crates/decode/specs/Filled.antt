@@ -33,5 +33,6 @@ module _ {A : Type 0} (f : ℕ → A) where
 
       go : (b : Bool) → ltb i n ≡ b → P (get_or (fill_by f n (replicate k d)) i d)
       go true e =
-          subst P (sym (fill_at_lem f n i (replicate k d) d (ltb-true i n e) (omega (arith, length-replicate k d)))) (step i (ltb-true i n e))
+          subst P (sym (fill_at_lem f n i (replicate k d) d (ltb-true i n e) (omega (arith, length-replicate k d))))
+          (step i (ltb-true i n e))
       go false e = subst P (sym (fill_past f n i (replicate k d) d (ltb-false i n e) ∙ others (ltb i k) refl)) base

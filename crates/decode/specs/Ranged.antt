@@ -26,7 +26,8 @@ use Rattle.meaning.specs.Lists.{every, numbers_from}
 use Rattle.meaning.specs.Tests.{refusal}
 use Rattle.meaning.specs.Operations.{last_operation}
 use Rattle.meaning.specs.Guards.{last_comparison}
-use Rattle.meaning.specs.Description.{sizes_of, matrix_words, left_at, right_at, direction_at, step_at, place_at, map_at, loading_at, line_words}
+use Rattle.meaning.specs.Description.{sizes_of, matrix_words, left_at, right_at, direction_at, step_at, place_at, map_at, loading_at}
+use Rattle.meaning.specs.Description.{line_words}
 use Rattle.meaning.specs.Description.{line_at, words_of, ◌to◌, within, line_range, range_at, in_range}
 use Rattle.meaning.specs.Description.{vector_at, unit3, matrix_at, nest_of, loading_of, stream_of, body_line, no_stream}
 use Rattle.meaning.specs.Description.{no_line, description_of, refused1, refused2, refused3, refused4, refused5}

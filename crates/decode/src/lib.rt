@@ -11,7 +11,8 @@
 #![tactic(auto)]
 
 ghost use Rattle.std.specs.Prelude.{◌≡◌, ◌≤◌, ◌<◌, get_or};
-ghost use Rattle.meaning.specs.Description.{sizes_of, map_at, loading_at, line_at, stream_of, body_line, no_stream, no_line, description_of};
+ghost use Rattle.meaning.specs.Description.{sizes_of, map_at, loading_at, line_at, stream_of, body_line, no_stream, no_line};
+ghost use Rattle.meaning.specs.Description.{description_of};
 ghost use Rattle.meaning.specs.Description.{written};
 ghost use Rattle.decode.specs.Offsets.{Sized};
 ghost use Rattle.decode.specs.Filled.{filled};

@@ -197,6 +197,7 @@ module _ (board : ℕ) (s values ws : List ℕ) where
   promised L {r} {L'} a e d = (
     guarantee (limits_of board) s values L.memory (sym a ∙ d),
     ap (λ (L : Lent). L.memory) e
-        ∙ ap (λ (A : Answer). (cond (eqb (answer_number A) 0) (play_from s ws 0 (length ws / 5) (started L)) (started L)).memory) (sym a ∙ d)
+        ∙ ap (λ (A : Answer). (cond (eqb (answer_number A) 0) (play_from s ws 0 (length ws / 5) (started L)) (started L)).memory) (sym a
+        ∙ d)
         ∙ play_memory s ws 0 (length ws / 5) (started L),
   )

@@ -1,6 +1,7 @@
 -- Where the elements of a stream wait: its pipes say it one after the other, each for its own elements, from where its part begins.
 -- Assumes a description that is not refused.
-use Rattle.std.specs.Prelude.{◌≡◌, refl, Bool, true, false, cond, List, [], ◌∷◌, ℕ, suc, ◌+◌, ◌-◌, ◌≤◌, ◌<◌, eqb, pos, neg_ℤ, length, get_or}
+use Rattle.std.specs.Prelude.{◌≡◌, refl, Bool, true, false, cond, List, [], ◌∷◌, ℕ, suc, ◌+◌, ◌-◌, ◌≤◌, ◌<◌, eqb, pos, neg_ℤ, length}
+use Rattle.std.specs.Prelude.{get_or}
 use Rattle.std.proofs.Common.{sym, ◌∙◌, ap, subst, arith, eqb-true}
 use Rattle.std.proofs.Math.Decide.{dec_le}
 use Rattle.integers.specs.Vectors.{zero2, shift2}
@@ -175,7 +176,8 @@ module _ {d : Description} (l : Laid d) (i : ℕ) (hi : i < length (streams_of d
       → (e : ℕ) → e < first + length (elements n s) → get_or out e 0 ≡ place_of_element d e
   stream_right xs out o room h e b = ap (λ (m : List ℕ). get_or m e 0) o ∙ go (dec_le (suc e) first)
     where
-      right : Right (λ p. number_on n s first (process_of n p)) (λ p k. start_at n s first p + k) (entering_length n s) (place_of_element d) xs
+      right : Right (λ p. number_on n s first (process_of n p)) (λ p k. start_at n s first p + k) (entering_length n s)
+          (place_of_element d) xs
           (length (processes n))
       right =
           record {

@@ -13,7 +13,8 @@ use Rattle.survey.specs.Accepted.{accepted_within}
 use Rattle.elements.specs.Counts.{Few}
 
 pub elements_few : (l : Limits) (s : List ℕ) → refusal_of l s ≡ 0 → (i : ℕ) → i < length (streams_of (description_of s))
-    → length (elements (description_of s).nest (get_or (streams_of (description_of s)) i no_stream)) ≤ length (instances (description_of s).nest)
+    → length (elements (description_of s).nest (get_or (streams_of (description_of s)) i no_stream)) ≤ length
+    (instances (description_of s).nest)
 elements_few l s e i h = let a = (laid l s e).stream i h in touched_few _ a.layout.dirs a.full
 
 -- so a description accepted under the limits of document 01 has streams of few elements

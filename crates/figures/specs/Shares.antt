@@ -186,7 +186,8 @@ module _ (d : Description) where
         ∙ same_totals (on (λ s. 4 + hop d.nest s)) (on (λ s. length (entries d.nest s)))
         (on (λ s. length (entries d.nest s) * (2 + hop d.nest s))) (on (λ s. total (steps_on d.nest s) (entries d.nest s))))
       where
-        on : (f : Stream → ℕ) → total f (take (suc i) (streams_of d)) ≡ total f (take i (streams_of d)) + f (get_or (streams_of d) i no_stream)
+        on : (f : Stream → ℕ)
+            → total f (take (suc i) (streams_of d)) ≡ total f (take i (streams_of d)) + f (get_or (streams_of d) i no_stream)
         on f = total_next f (streams_of d) i no_stream (omega (arith, h.in_use))
 
     pub totals_room : (i : ℕ) → i ≤ d.sizes.streams → Room (totals_of d i)
@@ -209,7 +210,8 @@ module _ (d : Description) where
         small : (j : ℕ) → j < i → Small (share_of d.nest (get_or (streams_of d) j no_stream))
         small j k = share_small (h.streams j (omega (arith, h.in_use)))
 
-        most : (f : Stream → ℕ) (m : ℕ) → ((j : ℕ) → j < i → f (get_or (streams_of d) j no_stream) ≤ m) → total f (take i (streams_of d)) ≤ i * m
+        most : (f : Stream → ℕ) (m : ℕ) → ((j : ℕ) → j < i → f (get_or (streams_of d) j no_stream) ≤ m)
+            → total f (take i (streams_of d)) ≤ i * m
         most f m g = total_most f (streams_of d) i m no_stream (omega (arith, h.in_use)) g
 
     pub totals_all : totals_of d d.sizes.streams ≡ totals_over d.nest (streams_of d)

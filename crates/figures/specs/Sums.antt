@@ -77,7 +77,8 @@ module _ (n : Nest) (s : Stream) where
       ap (λ (l : List V2). sums_over n s (filter (entering n s) l)) (ap (λ (k : ℕ). take k (processes n)) e ∙ take-length (processes n))
 
   module _ (p : ℕ) (lt : p < length (processes n)) where
-    steps_next : (sums_at n s (suc p)).steps ≡ (sums_at n s p).steps + cond (entering n s (process_of n p)) (steps_on n s (process_of n p)) 0
+    steps_next : (sums_at n s (suc p)).steps
+        ≡ (sums_at n s p).steps + cond (entering n s (process_of n p)) (steps_on n s (process_of n p)) 0
     steps_next = total_next (steps_on n s) (entering n s) (processes n) p zero2 lt
 
     -- an entry adds its pipe

@@ -1,6 +1,8 @@
 -- Firing as a function of a state's words, as the code carries it out. Assumes nothing.
-use Rattle.std.specs.Prelude.{◌≡◌, refl, Bool, true, false, cond, ◌&&◌, List, [], ◌∷◌, map, ℕ, zero, suc, ◌+◌, ◌-◌, ◌≤◌, ◌<◌, eqb, ltb, length, get_or, set, take, drop, replicate}
-use Rattle.std.proofs.Common.{sym, ◌∙◌, ap, arith, length-take, drop_of_length-le, drop-cons, get_or-take, length-take-le, ext_get_or, ltb-true}
+use Rattle.std.specs.Prelude.{◌≡◌, refl, Bool, true, false, cond, ◌&&◌, List, [], ◌∷◌, map, ℕ, zero, suc, ◌+◌, ◌-◌, ◌≤◌, ◌<◌, eqb, ltb}
+use Rattle.std.specs.Prelude.{length, get_or, set, take, drop, replicate}
+use Rattle.std.proofs.Common.{sym, ◌∙◌, ap, arith, length-take, drop_of_length-le, drop-cons, get_or-take, length-take-le, ext_get_or}
+use Rattle.std.proofs.Common.{ltb-true}
 use Rattle.std.proofs.Math.Numerals.{add-one}
 use Rattle.std.proofs.lemmas.List.{length-map}
 use Rattle.integers.specs.Fill.{fill_by, fill_length, fill_at_lem}
@@ -102,7 +104,8 @@ module _ (ks : List Port) (m : ℕ) (h : m ≤ 6) (l : length ks ≡ 6) where
       (ext_get_or 0 (take m (fill_by (used_in ks) m (replicate 6 0))) (map used_at (take m ks)) (t ∙ sym used_length)
       (λ i g.
       let g : i < m = omega arith in
-      get_or-take m (fill_by (used_in ks) m (replicate 6 0)) i 0 g ∙ fill_at_lem (used_in ks) m i (replicate 6 0) 0 g h ∙ sym (used_at_lem i g)))
+      get_or-take m (fill_by (used_in ks) m (replicate 6 0)) i 0 g ∙ fill_at_lem (used_in ks) m i (replicate 6 0) 0 g h
+      ∙ sym (used_at_lem i g)))
 
 used_lt : (n : ℕ) (k : Port) → PortFits n k → used_at k < n
 used_lt n k f = go k.keeps
@@ -126,5 +129,6 @@ runnable n ks m count ls f l g =
       };
     }
 
-pub fire_facts : (l : List ℕ) (ks : List Port) (m : ℕ) → can_fire l ks m ≡ true → word l (get_or ks 0 no_port).fired < (get_or ks 0 no_port).count
+pub fire_facts : (l : List ℕ) (ks : List Port) (m : ℕ) → can_fire l ks m ≡ true
+    → word l (get_or ks 0 no_port).fired < (get_or ks 0 no_port).count
 fire_facts l ks m h = ltb-true _ _ (both_true _ _ h).0

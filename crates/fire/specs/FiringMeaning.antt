@@ -82,7 +82,8 @@ unfolding scatter
 scatter_other st [] vs i h = refl
 scatter_other st (p ∷ ps) [] i h = refl
 scatter_other st (p ∷ ps) (v ∷ vs) i h =
-    scatter_other (set st p v) ps vs i (λ j d e. h (suc j) (omega arith) e) ∙ get_or-set_other st p i v 0 (λ (e : i ≡ p). h 0 (omega arith) e)
+    scatter_other (set st p v) ps vs i (λ j d e. h (suc j) (omega arith) e)
+    ∙ get_or-set_other st p i v 0 (λ (e : i ≡ p). h 0 (omega arith) e)
 
 -- ---- the words of a process
 

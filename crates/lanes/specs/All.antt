@@ -1,6 +1,7 @@
 -- The lanes of all streams: a block of words for each of them. Assumes nothing.
 use Rattle.std.specs.Prelude.{◌≡◌, ◌⊎◌, Bool, List, ℕ, ◌+◌, ◌*◌, ◌≤◌, ◌<◌, length, get_or, drop, replicate}
-use Rattle.std.proofs.Common.{sym, ◌∙◌, ap, subst, subst₂, inl, inr, eq-or-lt_of_le, mul-le-mul_left, arith, length-drop, get_or-take, get_or-drop, length-take-le}
+use Rattle.std.proofs.Common.{sym, ◌∙◌, ap, subst, subst₂, inl, inr, eq-or-lt_of_le, mul-le-mul_left, arith, length-drop, get_or-take}
+use Rattle.std.proofs.Common.{get_or-drop, length-take-le}
 use Rattle.std.proofs.lemmas.List.{length-replicate}
 use borrow.Rule.Slice.PartMut.{put_mid, mid_of, same_len_mid}
 use Rattle.meaning.specs.declared.Nest.{Nest}

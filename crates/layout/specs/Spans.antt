@@ -132,7 +132,8 @@ module _ {n : Nest} {numbers : List ℕ} {instances size : ℕ} {back : Bool} {s
 
       first_coded : (p : ℕ) → p < length (processes n) → coded (get_or out (1024 + p) 0) ≡ numbered n (get_or spans (1024 + p) 0)
       first_coded p l =
-          ap coded (part_at (λ p. code_of (numbered n (get_or (mid_of 1024 1024 spans) p 0))) size 1024 1024 spans ys e (omega (arith, long))
+          ap coded (part_at (λ p. code_of (numbered n (get_or (mid_of 1024 1024 spans) p 0))) size 1024 1024 spans ys e
+          (omega (arith, long))
           0 p (lt p l) few ∙ ap (λ (k : ℕ). code_of (numbered n k)) (mid_at 1024 1024 spans 0 p (omega (arith, lt p l))))
           ∙ coded_code (numbered n (get_or spans (1024 + p) 0)) (numbered_small (get_or spans (1024 + p) 0) bounded (numbers_le p l))
 

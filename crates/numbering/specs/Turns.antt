@@ -71,7 +71,8 @@ module _ (n : Nest) where
 
   plane_length : (i : ℤ) → length (plane i) ≡ (turns_of n).middle * (turns_of n).inner
   plane_length i =
-      each_length (row i) (values (middle_of n)) ∙ total_same (λ j. length (row i j)) (turns_of n).inner (row_length i) (values (middle_of n))
+      each_length (row i) (values (middle_of n))
+      ∙ total_same (λ j. length (row i j)) (turns_of n).inner (row_length i) (values (middle_of n))
       ∙ ap (λ (c : ℕ). c * (turns_of n).inner) (values_length (middle_of n))
 
   -- the number of instances

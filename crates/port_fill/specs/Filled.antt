@@ -230,7 +230,8 @@ module _ (d : Description) (h : Described d) where
     up p zero h k = let e : p ≡ 0 = omega arith in omega (arith, ap (entered_at nest s) e)
     up p (suc r) h k = go (eq-or-lt_of_le h) (λ m. up p r m (omega arith))
       where
-        go : (p ≡ suc r) ⊎ (p < suc r) → (p ≤ r → entered_at nest s p ≤ entered_at nest s r) → entered_at nest s p ≤ entered_at nest s (suc r)
+        go : (p ≡ suc r) ⊎ (p < suc r) → (p ≤ r → entered_at nest s p ≤ entered_at nest s r)
+            → entered_at nest s p ≤ entered_at nest s (suc r)
         go (inl e) ih = omega (arith, ap (entered_at nest s) e)
         go (inr m) ih = omega (arith, ih (omega arith), entered_next nest s r (omega arith) _ refl)
 
@@ -250,7 +251,8 @@ module _ (d : Description) (h : Described d) where
         ∙ ahead_get_d (entries nest s) j zero2 (sorted_filter (entering nest s) apart) hj in
         let start : start_at nest s first p ≡ part_start A (b + j) =
         sym (part_start_lem d i j hi hj laid ∙ ap (λ (c : ℕ). first + part_of nest s c) (sym count)
-        ∙ ap (λ (m : List V2). first + total (λ y. length (pipe_elements nest s y)) m) (take_filter (entering nest s) p (processes nest))) in
+        ∙ ap (λ (m : List V2). first + total (λ y. length (pipe_elements nest s y)) m) (take_filter (entering nest s) p (processes nest)))
+        in
         let c = entered_at nest s p in
         let row = end_from nest s g (start_at nest s first p) c p in
         let few : c ≤ 1024 = omega (arith, entered_few nest s p, h.processes) in

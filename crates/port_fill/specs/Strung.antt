@@ -219,10 +219,12 @@ module _ (n : Nest) (s : Stream) (g : Strand) (first base p : ℕ) (l : List ℕ
   pub ends_length : length x ≡ length l
   ends_length = ap length e ∙ marks_length (on_end n s) (end_line n s g first) (end_spot n s base) 3 p l
 
-  pub ends_turn : {start j : ℕ} → start ≡ start_at n s first p → j ≡ entered_at n s p → {out : List ℕ} → out ≡ end_row n s g start base j p x
+  pub ends_turn : {start j : ℕ} → start ≡ start_at n s first p → j ≡ entered_at n s p → {out : List ℕ}
+      → out ≡ end_row n s g start base j p x
       → out ≡ end_rows n s g first base (p + 1) l
   ends_turn es ej o =
-      o ∙ ap₂ (λ (start j : ℕ). end_row n s g start base j p x) es ej ∙ ap (end_row n s g (start_at n s first p) base (entered_at n s p) p) e
+      o ∙ ap₂ (λ (start j : ℕ). end_row n s g start base j p x) es ej
+      ∙ ap (end_row n s g (start_at n s first p) base (entered_at n s p) p) e
       ∙ sym (marks_step (on_end n s) (end_line n s g first) (end_spot n s base) 3 p l)
 
 -- ---- a stream by its flow

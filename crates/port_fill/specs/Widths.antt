@@ -26,7 +26,8 @@ use Rattle.lanes.specs.Flow.{Laid}
 use Rattle.pipe_parts.specs.Starts.{entered_le}
 use Rattle.port_rows.specs.declared.Strand.{Strand}
 use Rattle.survey.specs.StateWords.{process_words_lem, end_words_lem}
-use Rattle.port_rows.specs.Strands.{Narrow, port_index, end_index, before_from, after_from, room_from, pipe_of, port_from, off_from, row_from}
+use Rattle.port_rows.specs.Strands.{Narrow, port_index, end_index, before_from, after_from, room_from, pipe_of, port_from, off_from}
+use Rattle.port_rows.specs.Strands.{row_from}
 use Rattle.port_rows.specs.Strands.{end_from, some_before, count_most}
 use Rattle.port_table.specs.Pack.{low_end}
 use Rattle.port_table.specs.Rows.{PortWide, EndWide}

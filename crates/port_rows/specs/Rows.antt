@@ -25,7 +25,8 @@ use Rattle.ports.specs.Ports.{port_of, PortIs, same_port}
 use Rattle.ports.specs.Rows.{off_port, row_of}
 use Rattle.ports.specs.Ends.{EndIs, same_end}
 use Rattle.port_rows.specs.declared.Strand.{Strand}
-use Rattle.port_rows.specs.Strands.{end_from, port_index, end_index, before_from, after_from, room_from, pipe_of, port_from, off_from, row_from}
+use Rattle.port_rows.specs.Strands.{end_from, port_index, end_index, before_from, after_from, room_from, pipe_of, port_from, off_from}
+use Rattle.port_rows.specs.Strands.{row_from}
 
 -- the numbers that the rows of stream i share
 pub record StrandOf (d : Description) (i : ℕ) (g : Strand) : Type 0 where
@@ -104,7 +105,8 @@ module _ {d : Description} (laid : Laid d) {i : ℕ} {g : Strand} (h : StrandOf 
         go : (reach (space n) (move n s) y ≡ 0) ⊎ (0 < reach (space n) (move n s) y)
             → after_from n s g sent p ≡ index A (taken_out A q (suc k))
         go (inl z) =
-            ap (λ (b : Bool). cond b (sent + 1) (port_index g (row_index (space n) (on_of n s y)))) (eq-eqb (reach (space n) (move n s) y) 0 z)
+            ap (λ (b : Bool). cond b (sent + 1) (port_index g (row_index (space n) (on_of n s y))))
+            (eq-eqb (reach (space n) (move n s) y) 0 z)
             ∙ received_is ∙ ap (index A) (sym (taken_last laid p i hp h.lt on z))
         go (inr l) =
             ap (λ (b : Bool). cond b (sent + 1) (port_index g (row_index (space n) (on_of n s y))))
@@ -183,7 +185,8 @@ module _ {d : Description} (laid : Laid d) {i : ℕ} {g : Strand} (h : StrandOf 
         same_end first_is (port_index_lem p ∙ ap (index A) (sym (taken_entry laid i j h.lt hj)))
         (ap (λ (a : ℕ). a + 4) (port_index_lem p) ∙ omega arith ∙ ap (index A) (sym (link_entry laid i j h.lt hj 0)))
         (ap (λ (a : ℕ). a + 1) (port_index_lem (row_index (space n) (exit_of n s (point_of d p))))
-        ∙ ap (λ (v : V2). index A (Given (row_index (space n) (exit_of n s v)) i)) there ∙ ap (index A) (sym (put_end_lem laid i j h.lt hj)))
+        ∙ ap (λ (v : V2). index A (Given (row_index (space n) (exit_of n s v)) i)) there
+        ∙ ap (index A) (sym (put_end_lem laid i j h.lt hj)))
         (ap (λ (a : ℕ). a + 1) first_is)
         (ap (λ (a : ℕ). a + 2) first_is ∙ omega arith ∙ ap (index A) (sym (link_end laid i j h.lt hj 0)))
         (h.hop ∙ sym (hop_on d i j h.lt hj)) (ap (λ (v : V2). length (pipe_elements n s v)) there ∙ sym (elements_on_lem d i j h.lt hj)) w

@@ -1,5 +1,6 @@
 -- What the rows of a stream share, and the rows by numbers. Assumes nothing.
-use Rattle.std.specs.Prelude.{◌≡◌, refl, Bool, true, false, not, cond, ◌&&◌, List, ℕ, zero, suc, ◌+◌, ◌*◌, ◌≤◌, ◌<◌, eqb, ℤ, pos, ◌+ℤ◌, ◌-ℤ◌, ◌*ℤ◌, ◌≤ℤ◌, length, get_or}
+use Rattle.std.specs.Prelude.{◌≡◌, refl, Bool, true, false, not, cond, ◌&&◌, List, ℕ, zero, suc, ◌+◌, ◌*◌, ◌≤◌, ◌<◌, eqb, ℤ, pos, ◌+ℤ◌}
+use Rattle.std.specs.Prelude.{◌-ℤ◌, ◌*ℤ◌, ◌≤ℤ◌, length, get_or}
 use Rattle.std.proofs.Common.{sym, ◌∙◌, ap, ap₂, subst, arith, eq-eqb, ne_eqb}
 use Rattle.std.proofs.lemmas.Bool.{eqb-false}
 use Rattle.integers.specs.Differences.{zrules}
@@ -111,7 +112,8 @@ after_from n s g sent p =
 
 abbrev pub room_from : Nest → Stream → Strand → ℕ → ℕ → ℕ
 room_from n s g sent p =
-    cond (eqb (reach (space n) (move n s) (process_of n p)) 0) (sent + 2) (port_index g (row_index (space n) (on_of n s (process_of n p))) + 4)
+    cond (eqb (reach (space n) (move n s) (process_of n p)) 0) (sent + 2)
+    (port_index g (row_index (space n) (on_of n s (process_of n p))) + 4)
 
 -- the number of its pipe in the stream
 abbrev pub pipe_of : Nest → Stream → ℕ → ℕ
@@ -166,7 +168,8 @@ module _ (n : Nest) (s : Stream) (g : Strand) (sent p : ℕ) where
   abbrev next : ℕ
   next = port_index g (row_index (space n) (on_of n s (process_of n p)))
 
-  pub link_last : reach (space n) (move n s) (process_of n p) ≡ 0 → (sent + 1 ≡ after_from n s g sent p) × (sent + 2 ≡ room_from n s g sent p)
+  pub link_last : reach (space n) (move n s) (process_of n p) ≡ 0
+      → (sent + 1 ≡ after_from n s g sent p) × (sent + 2 ≡ room_from n s g sent p)
   link_last e =
       let t = eq-eqb (reach (space n) (move n s) (process_of n p)) 0 e in
       (sym (ap (λ (b : Bool). cond b (sent + 1) next) t), sym (ap (λ (b : Bool). cond b (sent + 2) (next + 4)) t))

@@ -84,7 +84,8 @@ end_read l at = end_unpacked (get_or l at 0) (get_or l (at + 1) 0) (get_or l (at
 -- ---- rows written and read
 
 module _ (l : List ℕ) (at : ℕ) where
-  pub port_words_lem : (f : ℕ → ℕ) → ((v : ℕ) → v < 5 → get_or l (at + v) 0 ≡ f v) → port_read l at ≡ port_unpacked (f 0) (f 1) (f 2) (f 3) (f 4)
+  pub port_words_lem : (f : ℕ → ℕ) → ((v : ℕ) → v < 5 → get_or l (at + v) 0 ≡ f v)
+      → port_read l at ≡ port_unpacked (f 0) (f 1) (f 2) (f 3) (f 4)
   port_words_lem f h =
       let e = ap (λ (x : ℕ). get_or l x 0) (sym (add-zero at)) ∙ h 0 (omega arith) in
       λ i. port_unpacked (e i) (h 1 (omega arith) i) (h 2 (omega arith) i) (h 3 (omega arith) i) (h 4 (omega arith) i)

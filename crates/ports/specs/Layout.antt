@@ -58,7 +58,8 @@ module _ (A : Array) (reg : Regular A) (q : ℕ) (on : q < pipe_number A) where
       go true e = omega (arith, port_before_ends A reg q k (ltb-true _ _ e))
       go false e = omega (arith, ends_inside)
 
-  pub port_fits : (n k : ℕ) → word_count A ≤ n → k < stops_on A q → (stop_at A q k).soak < 4294967296 → count_at A (process_on A q k) < 4294967296
+  pub port_fits : (n k : ℕ) → word_count A ≤ n → k < stops_on A q → (stop_at A q k).soak < 4294967296
+      → count_at A (process_on A q k) < 4294967296
       → PortFits n (port_of A q k)
   port_fits n k w h soak count =
       record {

@@ -20,7 +20,8 @@ column_words = span_words + 6 * (2 * gauge_limits.processes)
 -- six words, 2048 apart
 abbrev pub by_stream : List ℕ → ℕ → List ℕ
 by_stream w k =
-    get_or w k 0 ∷ get_or w (k + 2048) 0 ∷ get_or w (k + 4096) 0 ∷ get_or w (k + 6144) 0 ∷ get_or w (k + 8192) 0 ∷ get_or w (k + 10240) 0 ∷ []
+    get_or w k 0 ∷ get_or w (k + 2048) 0 ∷ get_or w (k + 4096) 0 ∷ get_or w (k + 6144) 0 ∷ get_or w (k + 8192) 0 ∷ get_or w
+    (k + 10240) 0 ∷ []
 
 abbrev pub soak_at : List ℕ → ℕ → List ℕ
 soak_at w p = by_stream w (3072 + p)

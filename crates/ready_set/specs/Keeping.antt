@@ -1,6 +1,8 @@
 -- The words of a set after a number is put into it or taken out. Assumes nothing.
-use Rattle.std.specs.Prelude.{◌≡◌, refl, Bool, true, false, cond, not, ◌&&◌, ◌||◌, List, ℕ, ◌+◌, ◌*◌, ◌/◌, ◌%◌, ◌^◌, ◌≤◌, ◌<◌, eqb, ltb, length, get_or, set, replicate}
-use Rattle.std.proofs.Common.{sym, ◌∙◌, ap, ap₂, true≢false, zero-add, arith, length-set, get_or-set_same, get_or-set_other, eq-eqb, ne_eqb, eqb-true, ltb-true}
+use Rattle.std.specs.Prelude.{◌≡◌, refl, Bool, true, false, cond, not, ◌&&◌, ◌||◌, List, ℕ, ◌+◌, ◌*◌, ◌/◌, ◌%◌, ◌^◌, ◌≤◌, ◌<◌, eqb, ltb}
+use Rattle.std.specs.Prelude.{length, get_or, set, replicate}
+use Rattle.std.proofs.Common.{sym, ◌∙◌, ap, ap₂, true≢false, zero-add, arith, length-set, get_or-set_same, get_or-set_other, eq-eqb, ne_eqb}
+use Rattle.std.proofs.Common.{eqb-true, ltb-true}
 use Rattle.std.specs.Int.Bits.{bit_xor}
 use Rattle.std.proofs.lemmas.List.{length-replicate, get_or-replicate}
 use Rattle.std.proofs.lemmas.Bool.{eqb-false}
@@ -75,7 +77,8 @@ kept_none =
     zeros from n f h e =
         record {
           each = λ k m.
-              get_or-replicate flag_words (from + k) 0 0 (omega arith) ∙ sym (word_never k) ∙ word_same (λ x. false) f k (λ x l u. sym (e x));
+              get_or-replicate flag_words (from + k) 0 0 (omega arith) ∙ sym (word_never k)
+              ∙ word_same (λ x. false) f k (λ x l u. sym (e x));
         }
 
 -- ---- one number asked for

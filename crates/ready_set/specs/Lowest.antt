@@ -64,7 +64,8 @@ module _ (f : ℕ → Bool) (l : List ℕ) (kept : Kept f l) where
       sym (position_none f 32768
       (λ x m. unused f x (unused (used f) (x / 64) (top_clear (x / 64 / 64) (omega arith) (omega arith)))))
 
-  pub lowest_some : (j : ℕ) → j ≡ count_trailing_zeros 64 (get_or l 520 0) → j < 8 → (k : ℕ) → k ≡ 64 * j + count_trailing_zeros 64 (get_or l (512 + j) 0)
+  pub lowest_some : (j : ℕ) → j ≡ count_trailing_zeros 64 (get_or l 520 0) → j < 8 → (k : ℕ)
+      → k ≡ 64 * j + count_trailing_zeros 64 (get_or l (512 + j) 0)
       → 64 * k + count_trailing_zeros 64 (get_or l k 0) ≡ position f (numbers 32768)
   lowest_some j e h k d =
       ap (λ (w : ℕ). 64 * k + count_trailing_zeros 64 w) here

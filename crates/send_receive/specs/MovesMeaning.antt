@@ -4,7 +4,8 @@ use Rattle.std.proofs.Common.{sym, ◌∙◌, ap, add-one, arith, get_or-set_oth
 use Rattle.std.proofs.Math.Bool.{and-false}
 use Rattle.meaning.specs.Array.{Array, pipe_at, stops_on, elements_on, part_start}
 use Rattle.meaning.specs.State.{Taken, Sent, Received, End, index, read}
-use Rattle.meaning.specs.Rules.{process_on, stream_on, put_in, link_place, fill, without_oldest, ready_to_send, ready_to_receive, do_send, do_receive}
+use Rattle.meaning.specs.Rules.{process_on, stream_on, put_in, link_place, fill, without_oldest, ready_to_send, ready_to_receive, do_send}
+use Rattle.meaning.specs.Rules.{do_receive}
 use Rattle.meaning.specs.Rules.{received_then}
 use Rattle.ports.specs.declared.End as row
 use Rattle.ports.specs.Links.{word, filled, moved_down, move_before}

@@ -4,7 +4,8 @@ use Rattle.std.proofs.Common.{sym, ◌∙◌, ap}
 use native.Mathlib.Omega.{arith}
 use Rattle.std.proofs.Math.ListN.{get_or-eq_default}
 use borrow.Author.Tests.{ltb-false, leb-true, lt-ltb}
-use Rattle.meaning.specs.Array.{Array, Pipe, process_count, stream_count, pipe_number, no_pipe, no_stop, pipe_at, stops_on, pipe_through, on_pipe}
+use Rattle.meaning.specs.Array.{Array, Pipe, process_count, stream_count, pipe_number, no_pipe, no_stop, pipe_at, stops_on, pipe_through}
+use Rattle.meaning.specs.Array.{on_pipe}
 use Rattle.meaning.specs.Array.{place_on}
 use Rattle.meaning.specs.State.{Taken, Given, read}
 use Rattle.meaning.specs.Rules.{sound, Take, Give, Memory, ready, process_on, stream_on}

@@ -1,14 +1,17 @@
 -- A state is sound where the code says so of every row; and what that says of a pipe's links: each is filled no further than its places,
 -- and no more was put in than the pipe has elements. Assumes nothing.
 use Rattle.std.specs.Prelude.{◌≡◌, refl, Bool, true, false, cond, ◌&&◌, ◌||◌, ◌⊎◌, List, ℕ, zero, suc, ◌+◌, ◌-◌, ◌≤◌, ◌<◌, eqb, leb, length}
-use Rattle.std.proofs.Common.{sym, ◌∙◌, ap, true≢false, inl, inr, eq-or-lt_of_le, add-one, arith, eqb-true, leb-true, leb-false, ltb-false, lt-ltb, le-ltb, le-leb}
+use Rattle.std.proofs.Common.{sym, ◌∙◌, ap, true≢false, inl, inr, eq-or-lt_of_le, add-one, arith, eqb-true, leb-true, leb-false, ltb-false}
+use Rattle.std.proofs.Common.{lt-ltb, le-ltb, le-leb}
 use Rattle.std.proofs.Math.ListN.{get_or-eq_default}
 use Rattle.std.proofs.lemmas.Bool.{lt-leb}
 use Rattle.meaning.specs.Lists.{every, numbers}
-use Rattle.meaning.specs.Array.{Array, Pipe, no_pipe, stops_on, stop_at, elements_on, process_count, stream_count, pipe_number, pipe_through}
+use Rattle.meaning.specs.Array.{Array, Pipe, no_pipe, stops_on, stop_at, elements_on, process_count, stream_count, pipe_number}
+use Rattle.meaning.specs.Array.{pipe_through}
 use Rattle.meaning.specs.Array.{on_pipe}
 use Rattle.meaning.specs.State.{Firings, Taken, Given, Sent, Received, read}
-use Rattle.meaning.specs.Rules.{process_on, stream_on, put_in, taken_out, sound_count, sound_hand, sound_link, sound_stop, sound_pipe, sound_port}
+use Rattle.meaning.specs.Rules.{process_on, stream_on, put_in, taken_out, sound_count, sound_hand, sound_link, sound_stop, sound_pipe}
+use Rattle.meaning.specs.Rules.{sound_port}
 use Rattle.meaning.specs.Rules.{sound_process, sound}
 use Rattle.ports.specs.Ports.{port_of}
 use Rattle.ports.specs.Ends.{end_of}
@@ -208,4 +211,5 @@ module _ (A : Array) (st : List ℕ) (r : RowsSound A st) where
   pub rows_sound : sound A st ≡ true
   unfolding sound
   rows_sound =
-      true_both (all_numbers (sound_process A st) (process_count A) process_tested) (all_numbers (sound_pipe A st) (pipe_number A) pipe_tested)
+      true_both (all_numbers (sound_process A st) (process_count A) process_tested)
+      (all_numbers (sound_pipe A st) (pipe_number A) pipe_tested)

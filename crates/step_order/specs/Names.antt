@@ -1,6 +1,7 @@
 -- Each kind of step has its ranks: the name of a step's rank, and the steps of the ranks. Assumes nothing.
 use Rattle.std.specs.Prelude.{◌≡◌, refl, Bool, true, false, ℕ, ◌+◌, ◌*◌, ◌-◌, ◌/◌, ◌%◌, ◌<◌, ltb}
-use Rattle.std.proofs.Common.{sym, ◌∙◌, ap, ⊎_elim, add-zero, mod-eq_of_lt, div-add-mod', div-lt_iff_lt-mul, mod-lt, arith, ltb-true, ltb-false, lt-ltb, le-ltb, eq-eqb, ne_eqb}
+use Rattle.std.proofs.Common.{sym, ◌∙◌, ap, ⊎_elim, add-zero, mod-eq_of_lt, div-add-mod', div-lt_iff_lt-mul, mod-lt, arith, ltb-true}
+use Rattle.std.proofs.Common.{ltb-false, lt-ltb, le-ltb, eq-eqb, ne_eqb}
 use Rattle.std.proofs.Math.Nat.{mul-add-div_right, mul-add-mod_self_right, div-eq_of_lt}
 use Rattle.meaning.specs.Rules.{Step, Send, Take, Fire, Give, Receive}
 use Rattle.port_table.specs.declared.Size.{Size}

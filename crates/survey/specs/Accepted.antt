@@ -1,6 +1,7 @@
 -- What a refusal of 0 leaves of the sizes: no more instances and processes than the limits, and of each stream words in range, a move of
 -- small components and a hop within its limit. What it leaves of the geometry is in geometry's `laid`. Assumes nothing.
-use Rattle.std.specs.Prelude.{◌≡◌, refl, Bool, true, false, not, cond, ◌&&◌, List, [], ◌∷◌, ℕ, zero, suc, ◌+◌, ◌≤◌, ◌<◌, T, ltb, length, get_or, ℤ, nat_abs}
+use Rattle.std.specs.Prelude.{◌≡◌, refl, Bool, true, false, not, cond, ◌&&◌, List, [], ◌∷◌, ℕ, zero, suc, ◌+◌, ◌≤◌, ◌<◌, T, ltb, length}
+use Rattle.std.specs.Prelude.{get_or, ℤ, nat_abs}
 use Rattle.std.proofs.Common.{sym, ◌∙◌, ap, ap₂, subst, zero-add, arith, leb→le, length-take, get_or-take, ltb-false, le-leb}
 use Rattle.std.proofs.lemmas.Bool.{not-false}
 use Rattle.integers.specs.Differences.{Abs, up}

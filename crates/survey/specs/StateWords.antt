@@ -4,7 +4,8 @@ use Rattle.std.proofs.Common.{mul-le-mul, arith}
 use Rattle.meaning.specs.Limits.{gauge_limits, process_words_most, end_words_most}
 
 -- those of all processes
-pub process_words_lem : {p w : ℕ} → p ≤ gauge_limits.processes → w ≤ process_words_most → p * w ≤ gauge_limits.processes * process_words_most
+pub process_words_lem : {p w : ℕ} → p ≤ gauge_limits.processes → w ≤ process_words_most
+    → p * w ≤ gauge_limits.processes * process_words_most
 process_words_lem h k = mul-le-mul h k
 
 -- those of the ends of a stream's pipes

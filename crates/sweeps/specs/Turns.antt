@@ -78,7 +78,8 @@ module _ (back : Bool) (k p q : ℕ) (out : List ℕ) (a : p < 1024) (b : q < 10
       ∙ put_at (met back) k (1024 + p) one (1024 + q) p q (λ e. omega arith) (λ e. omega arith) (omega (arith, put_length more k p out))
       ∙ ap (λ (x : ℕ). cond (eqb p q) (met back k x) x) (put_other more k p out (1024 + q) (λ e. omega arith))
 
-  turn_last : get_or (turn back k p out) (2048 + q) 0 ≡ cond (eqb p q) (met (not back) k (get_or out (2048 + q) 0)) (get_or out (2048 + q) 0)
+  turn_last : get_or (turn back k p out) (2048 + q) 0
+      ≡ cond (eqb p q) (met (not back) k (get_or out (2048 + q) 0)) (get_or out (2048 + q) 0)
   turn_last =
       put_at (met (not back)) k (2048 + p) two (2048 + q) p q (λ e. omega arith) (λ e. omega arith)
       (omega (arith, put_length (met back) k (1024 + p) one, put_length more k p out))

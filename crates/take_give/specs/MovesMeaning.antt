@@ -11,7 +11,8 @@ use Rattle.std.proofs.Math.ListN.{set}
 use Rattle.std.proofs.Math.Seq.{get_or-set_other}
 use Rattle.meaning.specs.Array.{Array, stop_at, pipe_at, stops_on}
 use Rattle.meaning.specs.State.{Taken, Given, Hand, Keep, Received, index, read}
-use Rattle.meaning.specs.Rules.{process_on, stream_on, put_in, link_place, fill, without_oldest, hand_empty, can_offer, ready_to_take, ready_to_give}
+use Rattle.meaning.specs.Rules.{process_on, stream_on, put_in, link_place, fill, without_oldest, hand_empty, can_offer, ready_to_take}
+use Rattle.meaning.specs.Rules.{ready_to_give}
 use Rattle.meaning.specs.Rules.{do_take, do_give}
 use Rattle.ports.specs.declared.Port.{Port}
 use Rattle.ports.specs.Links.{word, filled, moved_down, move_before}

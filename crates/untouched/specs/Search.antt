@@ -102,7 +102,8 @@ module _ {n : Nest} (bounded : Bounded n) (layout : Layout n) (s : Stream) {w : 
   touched_by_lem p h t =
       let x = vector_at w t.by in
       let q : image s.map x ≡ p =
-      sym (row_at_lem box (image s.map x) zero2 (inside t.by t.lt)) ∙ ap (λ (i : ℕ). get_or (points box) i zero2) (sym (number_is t.by t.lt) ∙ t.is)
+      sym (row_at_lem box (image s.map x) zero2 (inside t.by t.lt))
+      ∙ ap (λ (i : ℕ). get_or (points box) i zero2) (sym (number_is t.by t.lt) ∙ t.is)
       ∙ row_at_lem box p zero2 h in
       yes_any (λ v. touches s v p) (within_in layout.dirs (is_instance layout walked t.by t.lt)) (eq_eq2 (image s.map x) p q)
 

@@ -39,7 +39,8 @@ module _ {A : Array} (W : Wired A) where
 data Looking (A : Array) (b : List ℕ) (z : Size) (r : ℕ) : Type 0 where
   moves : {a : Step} → step_at z r ≡ a → There A a → Moves a → foreign_by b z r ≡ foreign A a
       → counter_by b z r ≡ counter A a → Looking A b z r
-  fires : (p : ℕ) → step_at z r ≡ Fire p → There A (Fire p) → foreign_by b z r ≡ none → counter_by b z r ≡ counter A (Fire p) → Looking A b z r
+  fires : (p : ℕ) → step_at z r ≡ Fire p → There A (Fire p) → foreign_by b z r ≡ none → counter_by b z r ≡ counter A (Fire p)
+      → Looking A b z r
   never : {a : Step} → step_at z r ≡ a → ((st : List ℕ) → ready A st a ≡ false) → foreign_by b z r ≡ none → Looking A b z r
 
 module _ {A : Array} (W : Wired A) {b : List ℕ} {z : Size} (s : Stands A b z) where

@@ -117,7 +117,8 @@ module _ {new : ℕ → Bool} where
 
   -- the steps at a port one after the other
   pub port_renewed : (z : Size) (p i t f g : ℕ) {l l' l'' l''' : List ℕ} → t ≡ take_rank z p i → f ≡ fire_rank z p → g ≡ give_rank z p i
-      → Renewed new (OneRank t) l l' → Renewed new (OneRank f) l' l'' → Renewed new (OneRank g) l'' l''' → Renewed new (PortRank z p i) l l'''
+      → Renewed new (OneRank t) l l' → Renewed new (OneRank f) l' l'' → Renewed new (OneRank g) l'' l'''
+      → Renewed new (PortRank z p i) l l'''
   port_renewed z p i t f g a b c R Q P = renewed_then split R (renewed_then (λ x u. u) Q P)
     where
       split : (x : ℕ) → PortRank z p i x → OneRank t x ⊎ (OneRank f x ⊎ OneRank g x)

@@ -153,7 +153,8 @@ module _ (n : Nest) where
 
   -- one process more
   pub walked_on : {from : ℕ} {w w' : List ℤ} (p : ℕ) → p < length (processes n) → from ≡ passed p
-      → ((k : ℕ) → k < from → vector_at w k ≡ get_or (walk n) k zero3) → Lined (run_at n (process_of n p)) from (count n (process_of n p)) w w'
+      → ((k : ℕ) → k < from → vector_at w k ≡ get_or (walk n) k zero3)
+      → Lined (run_at n (process_of n p)) from (count n (process_of n p)) w w'
       → (k : ℕ) → k < from + count n (process_of n p) → vector_at w' k ≡ get_or (walk n) k zero3
   walked_on {from} {w} {w'} p h e f l k b = go (dec_lt k from)
     where

@@ -1,6 +1,7 @@
 -- Instances as words of 8 bits in a list, three for each, and lines of them stored one after the other. Assumes nothing.
 use Rattle.std.specs.Prelude.{◌≡◌, refl, ◌⊎◌, List, ℕ, ◌+◌, ◌*◌, ◌^◌, ◌≤◌, ◌<◌, length, get_or, set, ℤ, pos, negsuc, nat_abs}
-use Rattle.std.proofs.Common.{sym, ◌∙◌, ap, subst, inl, inr, eq-or-lt_of_le, arith, length-set, get_or-set_same, get_or-set_other, SFits, to_z, of_z, to_z-of_z}
+use Rattle.std.proofs.Common.{sym, ◌∙◌, ap, subst, inl, inr, eq-or-lt_of_le, arith, length-set, get_or-set_same, get_or-set_other, SFits}
+use Rattle.std.proofs.Common.{to_z, of_z, to_z-of_z}
 use Rattle.std.specs.Int.Signed.{mag}
 use Rattle.std.specs.Int.{Width, w8, w32}
 use Rattle.std.proofs.Math.Facts.{sfits_widen}

@@ -1,7 +1,8 @@
 -- A row written into a list word by word: what stands there, and what stays. Assumes nothing.
 use Rattle.std.specs.Prelude.{◌≡◌, ◌⊎◌, List, [], ◌∷◌, ◌++◌, set, take, drop}
 use Rattle.std.proofs.Math.Path.{refl, ap}
-use Rattle.std.proofs.Common.{◌∙◌, ap₂, inl, inr, append-nil, eq-or-lt_of_le, le_of_suc-le-suc, add-one, arith, drop_of_length-le, get_or-set_same}
+use Rattle.std.proofs.Common.{◌∙◌, ap₂, inl, inr, append-nil, eq-or-lt_of_le, le_of_suc-le-suc, add-one, arith, drop_of_length-le}
+use Rattle.std.proofs.Common.{get_or-set_same}
 use Prim.Native.Nat.{ℕ, zero, suc, ◌+◌, ◌≤◌, ◌<◌}
 use Rattle.std.proofs.Math.ListN.{length, get_or, length-set}
 use Rattle.std.proofs.Math.Seq.{get_or-set_other, paste, paste-zero, paste-suc, take-length}
@@ -45,7 +46,8 @@ module _ (row : List ℕ) (at : ℕ) (l : List ℕ) where
           → get_or (set (stored row at n l) (at + n) (get_or row n 0)) (at + w) 0 ≡ get_or row w 0
       go (inl e) ih = rw e (get_or-set_same (stored row at n l) (at + n) (get_or row n 0) 0 (omega (arith, stored_length n)))
       go (inr m) ih =
-          get_or-set_other (stored row at n l) (at + n) (at + w) (get_or row n 0) 0 (λ (e : at + w ≡ at + n). omega arith) ∙ ih m (omega arith)
+          get_or-set_other (stored row at n l) (at + n) (at + w) (get_or row n 0) 0 (λ (e : at + w ≡ at + n). omega arith)
+          ∙ ih m (omega arith)
 
 -- ---- in one piece
 

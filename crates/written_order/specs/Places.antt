@@ -1,7 +1,8 @@
 -- The numbers of the elements that each instance touches, in a table of rows of six: row k holds those of instance k. Assumes nothing.
 use Rattle.std.specs.Prelude.{◌≡◌, ◌⊎◌, get_or, take, drop}
 use Rattle.std.proofs.Math.Path.{refl, ap}
-use Rattle.std.proofs.Common.{sym, ◌∙◌, ap₂, inl, inr, eq-or-lt_of_le, le_of_suc-le-suc, zero-add, add-one, length-drop, ext_get_or, get_or-take, get_or-drop, length-take-le}
+use Rattle.std.proofs.Common.{sym, ◌∙◌, ap₂, inl, inr, eq-or-lt_of_le, le_of_suc-le-suc, zero-add, add-one, length-drop, ext_get_or}
+use Rattle.std.proofs.Common.{get_or-take, get_or-drop, length-take-le}
 use mathlib.Core.List.{List, [], ◌∷◌}
 use Prim.Native.Nat.{ℕ, zero, suc, ◌+◌, ◌*◌, ◌-◌, ◌≤◌, ◌<◌}
 use native.Mathlib.Omega.{arith}

@@ -11,8 +11,7 @@ corner-requires-2 c = let p = c.requires in (wider tt (directions_small p.direct
 pub returns : goal.returns
 returns c =
     let a = c.corner.ensures in
-    let b = c.corner-2.ensures in
-    (
+    let b = c.corner-2.ensures in (
       λ i. record { first = a.0 i; last = b.0 i; direction = c.args.n.direction },
       record { first = a.1; last = b.1; direction = directions_small c.requires.directed },
     )

@@ -87,9 +87,11 @@ loop-i-init c =
 pub put_plane-requires : goal.put_plane-requires
 put_plane-requires c =
     let l = c.loop-i in
-    let k = (counted_by c.requires.bounded c.requires.rows c.requires.box c.form_of-form.ensures c.turns_of-turns.ensures c.strides_of-strides.ensures.0
-      (start_word c.requires.bounded c.requires.rows c.requires.box c.form_of-form.ensures c.corner-first.ensures.0 c.number_by-number.ensures).1
-      c.strides_of-strides.ensures.1) in
+    let k = (counted_by c.requires.bounded c.requires.rows c.requires.box c.form_of-form.ensures c.turns_of-turns.ensures
+    c.strides_of-strides.ensures.0
+    (start_word c.requires.bounded c.requires.rows c.requires.box c.form_of-form.ensures c.corner-first.ensures.0
+    c.number_by-number.ensures).1
+    c.strides_of-strides.ensures.1) in
     let t = c.turns_of-turns.result in
     let h = c.loop-i-test.true in (
       subst (λ (z : ℤ). PlaneFits t.middle t.inner z c.strides_of-strides.result) (sym l.invariant.2) (k.fits l.i h),
@@ -106,9 +108,12 @@ put_plane-requires c =
 pub overflow_add-number : goal.overflow_add-number
 overflow_add-number c =
     let l = c.loop-i in
-    fits tt (add (reading l.invariant.2 ((counted_by c.requires.bounded c.requires.rows c.requires.box c.form_of-form.ensures c.turns_of-turns.ensures c.strides_of-strides.ensures.0
-      (start_word c.requires.bounded c.requires.rows c.requires.box c.form_of-form.ensures c.corner-first.ensures.0 c.number_by-number.ensures).1
-      c.strides_of-strides.ensures.1).small l.i l.invariant.0)) (at tt c.strides_of-strides.ensures.1.xs))
+    fits tt (add (reading l.invariant.2
+    ((counted_by c.requires.bounded c.requires.rows c.requires.box c.form_of-form.ensures c.turns_of-turns.ensures
+    c.strides_of-strides.ensures.0
+    (start_word c.requires.bounded c.requires.rows c.requires.box c.form_of-form.ensures c.corner-first.ensures.0
+    c.number_by-number.ensures).1
+    c.strides_of-strides.ensures.1).small l.i l.invariant.0)) (at tt c.strides_of-strides.ensures.1.xs))
 
 pub overflow_add-at : goal.overflow_add-at
 overflow_add-at c =
@@ -131,9 +136,12 @@ loop-i-preserved c =
     let r = c.put_plane.ensures in (
       omega (arith, h),
       r.0 ∙ l.invariant.1,
-      (box tt (add (reading l.invariant.2 ((counted_by c.requires.bounded c.requires.rows c.requires.box c.form_of-form.ensures c.turns_of-turns.ensures c.strides_of-strides.ensures.0
-      (start_word c.requires.bounded c.requires.rows c.requires.box c.form_of-form.ensures c.corner-first.ensures.0 c.number_by-number.ensures).1
-      c.strides_of-strides.ensures.1).small l.i l.invariant.0)) (at tt s.ensures.1.xs))).eq
+      (box tt (add (reading l.invariant.2
+          ((counted_by c.requires.bounded c.requires.rows c.requires.box c.form_of-form.ensures c.turns_of-turns.ensures
+          c.strides_of-strides.ensures.0
+          (start_word c.requires.bounded c.requires.rows c.requires.box c.form_of-form.ensures c.corner-first.ensures.0
+          c.number_by-number.ensures).1
+          c.strides_of-strides.ensures.1).small l.i l.invariant.0)) (at tt s.ensures.1.xs))).eq
           ∙ along_next l.i (to_z w32 c.number_by-number.result) s.result.x,
       ap (λ (a : ℕ). a + t.middle * t.inner) l.invariant.3 ∙ further l.i (t.middle * t.inner),
       λ f g.
@@ -147,9 +155,11 @@ pub returns : goal.returns
 returns c =
     let l = c.loop-i in
     let a = c.args in
-    let k = (counted_by c.requires.bounded c.requires.rows c.requires.box c.form_of-form.ensures c.turns_of-turns.ensures c.strides_of-strides.ensures.0
-      (start_word c.requires.bounded c.requires.rows c.requires.box c.form_of-form.ensures c.corner-first.ensures.0 c.number_by-number.ensures).1
-      c.strides_of-strides.ensures.1) in
+    let k = (counted_by c.requires.bounded c.requires.rows c.requires.box c.form_of-form.ensures c.turns_of-turns.ensures
+    c.strides_of-strides.ensures.0
+    (start_word c.requires.bounded c.requires.rows c.requires.box c.form_of-form.ensures c.corner-first.ensures.0
+    c.number_by-number.ensures).1
+    c.strides_of-strides.ensures.1) in
     let t = c.turns_of-turns.result in
     let e : l.i ≡ t.outer = omega (arith, l.invariant.0, c.loop-i-test.false) in
     l.invariant.4 (number_at a.n a.m) k.agrees

@@ -11,7 +11,8 @@ pub returns-then-waiting-asked : goal.returns-then-waiting-asked
 returns-then-waiting-asked c = refuses 20 _ (ap not (ne_eqb _ _ c.if-waiting-asked.true))
 
 pub returns-then-received-asked : goal.returns-then-received-asked
-returns-then-received-asked c = passes 20 _ (ap not (eq-eqb _ _ c.if-waiting-asked.false)) (refuses 26 _ (ap not (ne_eqb _ _ c.if-received-asked.true)))
+returns-then-received-asked c = passes 20 _ (ap not (eq-eqb _ _ c.if-waiting-asked.false))
+    (refuses 26 _ (ap not (ne_eqb _ _ c.if-received-asked.true)))
 
 pub returns-then-state-words : goal.returns-then-state-words
 returns-then-state-words c =

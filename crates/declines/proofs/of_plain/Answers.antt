@@ -12,4 +12,5 @@ pub returns-then-output-e : goal.returns-then-output-e
 returns-then-output-e c = passes 20 _ (ap not (eq-eqb _ _ c.if-values-e.false)) (refuses 28 _ (ap not (ne_eqb _ _ c.if-output-e.true)))
 
 pub returns-else-output-e : goal.returns-else-output-e
-returns-else-output-e c = passes 20 _ (ap not (eq-eqb _ _ c.if-values-e.false)) (passes 28 _ (ap not (eq-eqb _ _ c.if-output-e.false)) accepts)
+returns-else-output-e c = passes 20 _ (ap not (eq-eqb _ _ c.if-values-e.false))
+    (passes 28 _ (ap not (eq-eqb _ _ c.if-output-e.false)) accepts)

@@ -12,7 +12,8 @@ use Rattle.fill.proofs.fill_places.Given as goal
 
 abbrev pub invariant-loop-i : goal.invariant-loop-i
 invariant-loop-i l = let i = l.i in
-    (i ≤ l.n) × (length l.list ≡ length l.initial.list) × (l.state ≡ after i l.seed) × (l.list ≡ fill_by (λ i. after (suc i) l.seed) i l.initial.list)
+    (i ≤ l.n) × (length l.list ≡ length l.initial.list) × (l.state ≡ after i l.seed)
+    × (l.list ≡ fill_by (λ i. after (suc i) l.seed) i l.initial.list)
 
 abbrev pub decreases-loop-i : goal.decreases-loop-i
 decreases-loop-i l = l.n - l.i

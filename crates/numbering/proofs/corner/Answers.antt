@@ -10,7 +10,8 @@ use Rattle.numbering.specs.Corners.{end_of}
 use Rattle.numbering.proofs.corner.Goals as goal
 
 -- the end by words is that of the numbers they hold
-of : {w f t r : ℤ} → Abs w 4 → Abs f 64 → Abs t 64 → r ≡ end_of (to_z w32 (of_z w32 w)) (to_z w32 (of_z w32 f)) (to_z w32 (of_z w32 t)) → r ≡
+of : {w f t r : ℤ} → Abs w 4 → Abs f 64 → Abs t 64 → r ≡ end_of (to_z w32 (of_z w32 w)) (to_z w32 (of_z w32 f)) (to_z w32 (of_z w32 t))
+    → r ≡
     end_of w f t
 of h k l e =
     e ∙ λ i. end_of ((at tt h).eq i) ((at tt k).eq i) ((at tt l).eq i)

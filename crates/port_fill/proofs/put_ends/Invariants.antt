@@ -10,7 +10,8 @@ use Rattle.port_fill.proofs.put_ends.Given as goal
 
 abbrev pub invariant-loop-p : goal.invariant-loop-p
 invariant-loop-p l = let f = l.f in let ports = l.ports in let start = l.start in let j = l.j in
-    (l.p ≤ l.processes) × (length l.heads ≡ length l.initial.heads) × (length ports ≡ length l.initial.ports) × (start ≡ start_at f.nest f.stream l.first l.p)
+    (l.p ≤ l.processes) × (length l.heads ≡ length l.initial.heads) × (length ports ≡ length l.initial.ports)
+    × (start ≡ start_at f.nest f.stream l.first l.p)
     × (j ≡ entered_at f.nest f.stream l.p) × (Heads f.nest f.stream l.p l.heads)
     × (ports ≡ end_rows f.nest f.stream l.g l.first l.base l.p l.initial.ports)
 

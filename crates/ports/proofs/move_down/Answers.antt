@@ -12,12 +12,11 @@ pub loop-i-init : goal.loop-i-init
 loop-i-init c = (omega arith, refl, simp unary_clauses)
 
 pub loop-i-preserved : goal.loop-i-preserved
-loop-i-preserved c =
-    (
-      omega arith,
-      simp length-set c.loop-i.invariant.1,
-      sym (move_next c.loop-i.state c.args.first c.loop-i.i c.args.n c.loop-i-test.true) ∙ c.loop-i.invariant.2,
-    )
+loop-i-preserved c = (
+  omega arith,
+  simp length-set c.loop-i.invariant.1,
+  sym (move_next c.loop-i.state c.args.first c.loop-i.i c.args.n c.loop-i-test.true) ∙ c.loop-i.invariant.2,
+)
 
 pub returns : goal.returns
 returns c =

@@ -10,7 +10,8 @@ use Rattle.ports.proofs.move_down.Given as goal
 
 abbrev pub invariant-loop-i : goal.invariant-loop-i
 invariant-loop-i l =
-    (l.i ≤ l.n) × (length l.state ≡ length l.initial.state) × (moved_down l.state (l.first + l.i) (l.n - l.i) ≡ moved_down l.initial.state l.first l.n)
+    (l.i ≤ l.n) × (length l.state ≡ length l.initial.state)
+    × (moved_down l.state (l.first + l.i) (l.n - l.i) ≡ moved_down l.initial.state l.first l.n)
 
 abbrev pub decreases-loop-i : goal.decreases-loop-i
 decreases-loop-i l = l.n - l.i

@@ -25,8 +25,7 @@ overflow_cast-p c =
 
 pub mark-requires : goal.mark-requires
 mark-requires c =
-    let l = c.loop-p in
-    (
+    let l = c.loop-p in (
       omega (arith, ap length l.invariant.1 ∙ marked_length _ _ _ ∙ c.clear.auto.words, c.requires.1),
       omega (arith, c.requires.0.processes, c.loop-p-test.true),
     )
@@ -37,9 +36,9 @@ loop-p-preserved c =
     let m = c.can_move.ensures in (
       omega (arith, c.loop-p-test.true),
       elim c.if-can_move.branch [
-        then-can_move w ↦ w.words-is ∙ w.mark.ensures ∙ ap (λ (words : List ℕ). marked words l.p) l.invariant.1
+        | then-can_move w ↦ w.words-is ∙ w.mark.ensures ∙ ap (λ (words : List ℕ). marked words l.p) l.invariant.1
             ∙ sym (marked_pass _ _ _ (sym m ∙ w.if-can_move.true))
-      | else-can_move w ↦ w.words-is ∙ l.invariant.1 ∙ sym (marked_fail _ _ _ (sym m ∙ w.if-can_move.false))
+        | else-can_move w ↦ w.words-is ∙ l.invariant.1 ∙ sym (marked_fail _ _ _ (sym m ∙ w.if-can_move.false))
       ],
     )
 

@@ -46,7 +46,6 @@ overflow_add-done c = record {
     c.loop-done-test.true,
     c.ranges,
   );
-
 }
 
 pub loop-done-smaller : goal.loop-done-smaller

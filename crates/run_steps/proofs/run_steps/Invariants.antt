@@ -9,7 +9,8 @@ use Rattle.run_steps.proofs.run_steps.Given as goal
 
 abbrev pub invariant-loop-done : goal.invariant-loop-done
 invariant-loop-done l =
-    Partly l.s l.ports l.z l.steps (memory_of l.waiting l.initial.received l.initial.state) l.done (memory_of l.waiting l.received l.state) l.flags
+    Partly l.s l.ports l.z l.steps (memory_of l.waiting l.initial.received l.initial.state) l.done
+    (memory_of l.waiting l.received l.state) l.flags
 
 abbrev pub decreases-loop-done : goal.decreases-loop-done
 decreases-loop-done l = l.steps - l.done

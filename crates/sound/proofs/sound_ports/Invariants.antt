@@ -14,7 +14,8 @@ abbrev pub one : List ℕ → List ℕ → ℕ → ℕ → Bool
 one b st p i = port_sound st (port_at b p i)
 
 abbrev pub invariant-loop-i : goal.invariant-loop-i
-invariant-loop-i l = let ports = l.ports in let state = l.state in let z = l.z in let i = l.i in (i ≤ z.streams) × (ports_sound ports state z.streams l.p ≡ every_left (one ports state l.p) z.streams i)
+invariant-loop-i l = let ports = l.ports in let state = l.state in let z = l.z in let i = l.i in (i ≤ z.streams)
+    × (ports_sound ports state z.streams l.p ≡ every_left (one ports state l.p) z.streams i)
 
 abbrev pub decreases-loop-i : goal.decreases-loop-i
 decreases-loop-i l = l.z.streams - l.i

@@ -13,7 +13,8 @@ use Rattle.step_rules.proofs.can_use_all.Given as goal
 abbrev pub invariant-loop-i : goal.invariant-loop-i
 invariant-loop-i l = let z = l.z in let i = l.i in
     (i ≤ z.streams)
-    × (every (can_use l.state) (drop i (take z.streams (ports_at l.ports l.p))) ≡ every (can_use l.state) (take z.streams (ports_at l.ports l.p)))
+    × (every (can_use l.state) (drop i (take z.streams (ports_at l.ports l.p)))
+    ≡ every (can_use l.state) (take z.streams (ports_at l.ports l.p)))
 
 abbrev pub decreases-loop-i : goal.decreases-loop-i
 decreases-loop-i l = l.z.streams - l.i

@@ -8,7 +8,7 @@ loop-i-init c = (omega arith, refl, sym (fill_zero _ _))
 
 pub loop-i-preserved : goal.loop-i-preserved
 loop-i-preserved c =
-    let v = c.loop-i.invariant in (omega arith, simp length-set v.1, rw (fill_step, v.2))
+    let v = c.loop-i.invariant in (omega arith, simp length-set v.1, rw (fill_step, v.2, c.row_at.ensures))
 
 pub returns : goal.returns
 returns c = fill_done _ _ _ _ c.loop-i.invariant.2 (omega arith)

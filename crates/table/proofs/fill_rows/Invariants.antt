@@ -1,5 +1,5 @@
 -- `table::fill_rows` meets its contract: the first i rows are filled. Assumes nothing.
-use Rattle.std.proofs.Common.{◌≡◌, ◌-◌, ◌≤◌, ◌×◌, length}
+use Rattle.std.proofs.Common.{◌≡◌, ◌-◌, ◌≤◌, length}
 use Rattle.integers.specs.Fill.{fill_by}
 use Rattle.process_row.specs.Rows.{row_from}
 use Rattle.table.proofs.fill_rows.Given as goal

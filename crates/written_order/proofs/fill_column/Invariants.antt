@@ -9,7 +9,8 @@ use Rattle.written_order.proofs.fill_column.Given as goal
 
 abbrev pub invariant-loop-k : goal.invariant-loop-k
 invariant-loop-k l = let k = l.k in
-    (k ≤ l.count) × (l.table ≡ column l.i (λ k. l.start + up (form_at l.form (after l.course k))) k l.initial.table) × (l.x ≡ after l.course k)
+    (k ≤ l.count) × (l.table ≡ column l.i (λ k. l.start + up (form_at l.form (after l.course k))) k l.initial.table)
+    × (l.x ≡ after l.course k)
 
 abbrev pub decreases-loop-k : goal.decreases-loop-k
 decreases-loop-k l = l.count - l.k
