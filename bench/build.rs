@@ -1,11 +1,11 @@
-//! Links the archive that `rt staticlib beqlanosh` writes.
+//! Links the archive that `rt lib` writes in crates/beqlanosh.
 
 use std::env;
 use std::path::Path;
 
 fn main() {
     let here = env::var("CARGO_MANIFEST_DIR").expect("cargo sets the folder of the project");
-    let archives = Path::new(&here).join("../target/staticlib");
+    let archives = Path::new(&here).join("../crates/beqlanosh/out");
     println!("cargo:rustc-link-search=native={}", archives.display());
     println!("cargo:rustc-link-lib=static=beqlanosh");
     println!(

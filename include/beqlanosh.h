@@ -1,5 +1,5 @@
-/* Beqlanosh: the calls of documents 01 and 02 as C functions, from target/staticlib/libbeqlanosh.a (`rt staticlib beqlanosh`, x86-64
- * Linux).
+/* Beqlanosh: the calls of documents 01 and 02 as C functions, from crates/beqlanosh/out/libbeqlanosh.a (`rt lib` in crates/beqlanosh,
+ * x86-64 Linux).
  *
  * Every call but Fill and Make, at the end, is told the board that it serves, and is lent a description. It declines by 33 if there is no
  * such board, before all else, then by 1 to 17 if the description is not accepted on it, and then by the numbers that its comment names;

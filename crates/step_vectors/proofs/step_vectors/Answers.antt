@@ -11,25 +11,21 @@ use Rattle.step_vectors.specs.Call.{loops_are, declined_call, laid, tallying, co
 use borrow.Author.Rules.{rules}
 use Rattle.step_vectors.proofs.step_vectors.Goals as goal
 
--- a call that is not declined
-module _ (c : goal.Then-refusal-eq0) where
-  none : let a = c.args in refusal (vector_tests c.limits_of-limits.result a.s.now a.k) ≡ 0
-  none = sym c.survey_of-v.ensures.refusal_is ∙ c.if-refusal-eq0.true
-
-  own : Own (description_of c.args.s.now) c.survey_of-v.result
-  own = c.survey_of-v.ensures.own c.if-refusal-eq0.true
-
 pub prospect_of-p-requires : goal.prospect_of-p-requires
 prospect_of-p-requires c =
     let a = c.args in
     let u = c.limits_of-limits.ensures.1 in
-    (laid c.limits_of-limits.result a.s.now a.k a.counts.now (none c) u (own c), u)
+    let v = c.survey_of-v.ensures in
+    let e = c.if-refusal-eq0.true in
+    (laid c.limits_of-limits.result a.s.now a.k a.counts.now (sym v.refusal_is ∙ e) u (v.own e), u)
 
 pub tally-requires : goal.tally-requires
 tally-requires c =
     let a = c.args in
-    subst (Tallying c.prospect_of-p.result a.k) (sym (loops_are a.s.now (own c)))
-    (tallying c.limits_of-limits.result a.s.now a.k a.counts.now (none c) (own c) c.prospect_of-p.ensures)
+    let v = c.survey_of-v.ensures in
+    let e = c.if-refusal-eq0.true in
+    subst (Tallying c.prospect_of-p.result a.k) (sym (loops_are a.s.now (v.own e)))
+    (tallying c.limits_of-limits.result a.s.now a.k a.counts.now (sym v.refusal_is ∙ e) (v.own e) c.prospect_of-p.ensures)
 
 pub returns-then-refusal-eq0 : goal.returns-then-refusal-eq0
 returns-then-refusal-eq0 c =
@@ -37,10 +33,12 @@ returns-then-refusal-eq0 c =
     let a = l.args in
     let s = a.s.now in
     let lent = a.counts.now in
+    let v = c.survey_of-v.ensures in
+    let e = c.if-refusal-eq0.true in
     subst (λ (l : Limits). (Done ≡ (step_vectors l s a.k lent).answer) × (c.tally.result ≡ (step_vectors l s a.k lent).counts))
     l.limits_of-limits.ensures.0
-    (counted_call l.limits_of-limits.result s a.k lent (none c) (own c) c.prospect_of-p.ensures
-    (c.tally.ensures ∙ ap (tally_of c.prospect_of-p.result a.k) (loops_are a.s.now (own c))))
+    (counted_call l.limits_of-limits.result s a.k lent (sym v.refusal_is ∙ e) (v.own e) c.prospect_of-p.ensures
+    (c.tally.ensures ∙ ap (tally_of c.prospect_of-p.result a.k) (loops_are s (v.own e))))
 
 pub returns-else-refusal-eq0 : goal.returns-else-refusal-eq0
 returns-else-refusal-eq0 c =

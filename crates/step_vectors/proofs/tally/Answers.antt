@@ -4,11 +4,13 @@ use mathlib.Core.List.{[]}
 use Prim.Native.Nat.{ℕ, ◌-◌, ◌<◌}
 use native.Mathlib.Omega.{arith}
 use lib.ListN.{length, get_or, length-map}
+use Rattle.integers.specs.declared.V3.{V3}
 use Rattle.meaning.specs.StepVectors.{vectors, answer_count}
 use Rattle.meaning.specs.HowManyWork.{step_vector}
 use Rattle.lists.specs.Members.{map_at}
+use Rattle.prospect.specs.declared.Prospect.{Prospect}
 use Rattle.prospect.specs.Prospects.{answer_by}
-use Rattle.step_vectors.specs.Tally.{answers_by, Counted, count_most, counted_none, counted_next, counted_all}
+use Rattle.step_vectors.specs.Tally.{answers_by, Counted, Tallying, count_most, counted_none, counted_next, counted_all}
 use borrow.Author.Rules.{rules}
 use Rattle.step_vectors.proofs.tally.Goals as goal
 
@@ -29,41 +31,24 @@ answer_to-a-requires c =
     c.requires.answering c.vector_at.result c.vector_at.ensures.1
 
 -- the answer of vector j, one that is counted
-module _ (c : goal.After-answer_to-a) where
-  here_is : let a = c.args in
-      c.answer_to-a.result ≡ get_or (answers_by a.p a.k a.loops) c.loop-j.j 0
-  here_is =
-      let a = c.args in
-      let v = c.vector_count-all.ensures in
-      c.answer_to-a.ensures ∙ ap (answer_by a.p) c.vector_at.ensures.0
-      ∙ sym (map_at (λ v. answer_by a.p (step_vector v)) (vectors a.k a.loops) c.loop-j.j [] 0
-      (omega (arith, c.loop-j-test.true, v.0)))
+module _ (p : Prospect) (k loops j : ℕ) (l : j < length (vectors k loops)) where
+  here_is : {r : ℕ} {x : V3} → r ≡ answer_by p x → x ≡ step_vector (get_or (vectors k loops) j []) → r ≡ get_or (answers_by p k loops) j 0
+  here_is e h = e ∙ ap (answer_by p) h ∙ sym (map_at (λ v. answer_by p (step_vector v)) (vectors k loops) j [] 0 l)
 
-  below : c.answer_to-a.result < answer_count
-  below =
-      subst (λ (n : ℕ). n < answer_count) (sym c.answer_to-a.ensures)
-      (c.requires.below c.vector_at.result)
+  in_answers : j < length (answers_by p k loops)
+  in_answers = omega (arith, l, length-map (vectors k loops) (λ v. answer_by p (step_vector v)))
 
-  in_answers : let a = c.args in
-      c.loop-j.j < length (answers_by a.p a.k a.loops)
-  in_answers =
-      let a = c.args in
-      let v = c.vector_count-all.ensures in
-      omega (
-        arith,
-        c.loop-j-test.true,
-        v.0,
-        length-map (vectors a.k a.loops) (λ v. answer_by a.p (step_vector v)),
-      )
+below : (x : V3) {p : Prospect} {k loops r : ℕ} → Tallying p k loops → r ≡ answer_by p x → r < answer_count
+below x h e = subst (λ (n : ℕ). n < answer_count) (sym e) (h.below x)
 
 pub overflow_cast-a : goal.overflow_cast-a
-overflow_cast-a c = record { fits = omega (arith, below c) }
+overflow_cast-a c = record { fits = omega (arith, below c.vector_at.result c.requires c.answer_to-a.ensures) }
 
 pub offset_bounds-counts-a : goal.offset_bounds-counts-a
-offset_bounds-counts-a c = record { fits = omega (arith, below c) }
+offset_bounds-counts-a c = record { fits = omega (arith, below c.vector_at.result c.requires c.answer_to-a.ensures) }
 
 pub bounds-counts-a : goal.bounds-counts-a
-bounds-counts-a c = below c
+bounds-counts-a c = below c.vector_at.result c.requires c.answer_to-a.ensures
 
 pub overflow_add-counts : goal.overflow_add-counts
 overflow_add-counts c =
@@ -74,7 +59,7 @@ overflow_add-counts c =
       fits =
           omega (
             arith,
-            count_most answers c.loop-j.invariant c.answer_to-a.result (below c),
+            count_most answers c.loop-j.invariant c.answer_to-a.result (below c.vector_at.result c.requires c.answer_to-a.ensures),
             length-map (vectors a.k a.loops) (λ v. answer_by a.p (step_vector v)),
             v.0,
             v.1,
@@ -82,7 +67,7 @@ overflow_add-counts c =
     }
 
 pub bounds-counts-a-in-loop-j : goal.bounds-counts-a-in-loop-j
-bounds-counts-a-in-loop-j c = below c
+bounds-counts-a-in-loop-j c = below c.vector_at.result c.requires c.answer_to-a.ensures
 
 pub overflow_add-j : goal.overflow_add-j
 overflow_add-j c =
@@ -91,7 +76,10 @@ overflow_add-j c =
 pub loop-j-preserved : goal.loop-j-preserved
 loop-j-preserved c =
     let a = c.args in
-    counted_next (answers_by a.p a.k a.loops) (in_answers c) (here_is c) (below c) c.loop-j.invariant
+    let j = c.loop-j.j in
+    let l : j < length (vectors a.k a.loops) = omega (arith, c.loop-j-test.true, c.vector_count-all.ensures.0) in
+    counted_next (answers_by a.p a.k a.loops) (in_answers a.p a.k a.loops j l)
+    (here_is a.p a.k a.loops j l c.answer_to-a.ensures c.vector_at.ensures.0) (below c.vector_at.result c.requires c.answer_to-a.ensures) c.loop-j.invariant
 
 pub returns : goal.returns
 returns c =

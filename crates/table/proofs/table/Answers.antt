@@ -17,6 +17,6 @@ returns c =
     let rows = c.args.rows.now in (
       c.answer_for.ensures ∙ columns_answer rows g,
       c.fill_rows.ensures
-      ∙ ap (λ (n : ℕ). fill_by (row_from c.fill_columns-shape.result c.fill_columns-shape.new.words) n rows) c.row_count-n.ensures
-      ∙ columns_rows rows g,
+          ∙ ap (λ (n : ℕ). fill_by (row_from c.fill_columns-shape.result c.fill_columns-shape.new.words) n rows) c.row_count-n.ensures
+          ∙ columns_rows rows g,
     )

@@ -30,7 +30,8 @@ retest_gives-requires c =
 
 pub retest_port-requires : goal.retest_port-requires
 retest_port-requires c =
-    let k = odd (kind_most c.args.z c.args.r c.args.n c.requires.2 c.requires.3) c.in_default-own.rest.0.1 c.in_default-own.rest.1 in
+    let o = c.in_default.in_default-own.rest in
+    let k = odd (kind_most c.args.z c.args.r c.args.n c.requires.2 c.requires.3) o.0.1 o.1 in
     let f = own_port c.args.z c.args.r c.args.n c.requires.2 c.requires.3 k in (c.requires.0, c.requires.1, f.0, f.1, c.requires.4)
 
 pub returns-in-0 : goal.returns-in-0
@@ -45,5 +46,6 @@ returns-in-2 c =
 
 pub returns-in_default : goal.returns-in_default
 returns-in_default c =
-    let k = odd (kind_most c.args.z c.args.r c.args.n c.requires.2 c.requires.3) c.in_default-own.rest.0.1 c.in_default-own.rest.1 in
+    let o = c.in_default.in_default-own.rest in
+    let k = odd (kind_most c.args.z c.args.r c.args.n c.requires.2 c.requires.3) o.0.1 o.1 in
     renewed_less (own_port c.args.z c.args.r c.args.n c.requires.2 c.requires.3 k).2 c.retest_port.ensures
