@@ -47,7 +47,8 @@ module _ {s : List ℕ} {M : Memory} {b : List ℕ} {z : Size} (o : Opened s M b
   ground : Grounds (description_of s)
   ground = grounds s o.accepted
 
-  found : (l : Limits) → step_of l s kind number stream ≡ cond (named_by b z kind number stream) (at (step_named kind number stream)) nothing
+  found : (l : Limits) → step_of l s kind number stream
+      ≡ cond (named_by b z kind number stream) (at (step_named kind number stream)) nothing
   found l = named_is l s (stands ground o.stood) ground.on kind number stream
 
   -- no step has that name

@@ -49,8 +49,8 @@ pub accepted_fitting : (s : List ℕ) → refusal_of gauge_limits s ≡ 0 → Fi
 accepted_fitting s e = record { few = accepted_few s e; instances = (accepted_within gauge_limits s e).1.instances }
 
 module _ (l : Limits) (s values output : List ℕ) where
-  pub accepted_call : {d : Description} {r : Answer} {out : List ℕ} → refusal_of l s ≡ 0 → d ≡ description_of s → Called d values output r out
-      → (r ≡ (plain_run l s values output).answer) × (out ≡ (plain_run l s values output).output)
+  pub accepted_call : {d : Description} {r : Answer} {out : List ℕ} → refusal_of l s ≡ 0 → d ≡ description_of s
+      → Called d values output r out → (r ≡ (plain_run l s values output).answer) × (out ≡ (plain_run l s values output).output)
   unfolding plain_run
   accepted_call {r} {out} z e h =
       let c = subst (λ (d : Description). Called d values output r out) e h in rw z (c.answers, c.leaves)

@@ -1,6 +1,7 @@
 -- The vector at a place of the list of all: its entries are the digits of the place. Assumes nothing.
 use Rattle.std.specs.Prelude.{◌≡◌, refl, List, [], ◌∷◌, ℕ, ◌+◌, ◌*◌, ◌/◌, ◌%◌, ◌≤◌, ◌<◌, ℤ, pos, ◌-ℤ◌}
-use Rattle.std.proofs.Common.{sym, ◌∙◌, subst, mul-one, mul_comm, mul_assoc, add-mul, add_assoc, div-add-mod', mod-lt, div-lt_iff_lt-mul, arith}
+use Rattle.std.proofs.Common.{sym, ◌∙◌, subst, mul-one, mul_comm, mul_assoc, add-mul, add_assoc}
+use Rattle.std.proofs.Common.{div-add-mod', mod-lt, div-lt_iff_lt-mul, arith}
 use Rattle.std.proofs.Math.Path.{ap}
 use Rattle.std.proofs.Math.ListN.{length, get_or}
 use Rattle.integers.specs.Order.{part}

@@ -1,7 +1,8 @@
 -- The counts as a loop makes them, answer by answer. Assumes nothing.
 use Rattle.std.specs.Prelude.{◌≡◌, Bool, cond, ℕ, ◌+◌, ◌≤◌, ◌<◌, eqb, set, take, replicate}
 use Rattle.std.proofs.Math.Path.{refl, ap}
-use Rattle.std.proofs.Common.{sym, ◌∙◌, add-zero, add-one, arith, length-set, length-take, take-suc, take_all, get_or-set_same, get_or-set_other, ext_get_or, eq-eqb, ne_eqb}
+use Rattle.std.proofs.Common.{sym, ◌∙◌, add-zero, add-one, arith, length-set, length-take, take-suc, take_all}
+use Rattle.std.proofs.Common.{get_or-set_same, get_or-set_other, ext_get_or, eq-eqb, ne_eqb}
 use mathlib.Core.List.{List, map}
 use Rattle.std.proofs.Math.Decide.{ℕ_discrete}
 use Rattle.std.proofs.Math.ListN.{length, get_or, get_or-replicate}
@@ -80,7 +81,8 @@ module _ (answers : List ℕ) where
   pub counted_all : {j : ℕ} {counts : List ℕ} → length answers ≤ j → Counted answers j counts
       → counts ≡ map (λ a. how_many a answers) (numbers answer_count)
   counted_all {j} {counts} l h =
-      ext_get_or 0 counts (map (λ a. how_many a answers) (numbers answer_count)) (h.long ∙ sym (length_numbers (λ a. how_many a answers) 0 18))
+      ext_get_or 0 counts (map (λ a. how_many a answers) (numbers answer_count))
+      (h.long ∙ sym (length_numbers (λ a. how_many a answers) 0 18))
       (λ a m.
       let b : a < answer_count = omega (arith, h.long) in
       h.each a b ∙ ap (how_many a) (take_all j answers l) ∙ sym (get_d_first (λ a. how_many a answers) 0 18 a b))

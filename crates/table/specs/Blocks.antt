@@ -18,7 +18,8 @@ use Rattle.pipes.specs.Passed.{Passed}
 
 -- the words of the first m of some streams, and zeros past them
 pub record Streamed (n : Nest) (ss : List Stream) (m : ℕ) (w : List ℕ) : Type 0 where
-  pub soaks : (i p : ℕ) → i < m → p < length (processes n) → get_or w (3072 + p + i * 2048) 0 ≡ row_soak n (get_or ss i no_stream) (process_of n p)
+  pub soaks : (i p : ℕ) → i < m → p < length (processes n)
+      → get_or w (3072 + p + i * 2048) 0 ≡ row_soak n (get_or ss i no_stream) (process_of n p)
   pub drains : (i p : ℕ) → i < m → p < length (processes n)
       → get_or w (4096 + p + i * 2048) 0 ≡ row_drain n (get_or ss i no_stream) (process_of n p)
   pub rest : (k : ℕ) → 3072 + m * 2048 ≤ k → get_or w k 0 ≡ 0
@@ -34,7 +35,8 @@ streamed_none n ss k =
 
 module _ {n : Nest} {ss : List Stream} {i : ℕ} {w : List ℕ} (a k : ℕ) (ys : List ℕ) (few : length (processes n) ≤ 1024)
     (at : a ≡ 3072 + i * 2048)
-    (wide : k ≡ 2048) (in_words_lem : a ≤ length w) (size : length ys ≡ k) (g : Streamed n ss i w) (b : Passed n (get_or ss i no_stream) ys) where
+    (wide : k ≡ 2048) (in_words_lem : a ≤ length w) (size : length ys ≡ k)
+    (g : Streamed n ss i w) (b : Passed n (get_or ss i no_stream) ys) where
   abbrev w' : List ℕ
   w' = put_mid a k w ys
 
@@ -48,7 +50,8 @@ module _ {n : Nest} {ss : List Stream} {i : ℕ} {w : List ℕ} (a k : ℕ) (ys 
   column : (f : Stream → V2 → ℕ) (q : ℕ) → q ≤ 1024
       → ((p : ℕ) → p < length (processes n) → get_or ys (q + p) 0 ≡ f (get_or ss i no_stream) (process_of n p))
       → ((j p : ℕ) → j < i → p < length (processes n) → get_or w (3072 + q + p + j * 2048) 0 ≡ f (get_or ss j no_stream) (process_of n p))
-      → (j p : ℕ) → j < i + 1 → p < length (processes n) → get_or w' (3072 + q + p + j * 2048) 0 ≡ f (get_or ss j no_stream) (process_of n p)
+      → (j p : ℕ) → j < i + 1 → p < length (processes n)
+      → get_or w' (3072 + q + p + j * 2048) 0 ≡ f (get_or ss j no_stream) (process_of n p)
   column f q h new old j p l m = go (eq-or-lt_of_le (let h : j ≤ i = omega arith in h))
     where
       go : (j ≡ i) ⊎ (j < i) → get_or w' (3072 + q + p + j * 2048) 0 ≡ f (get_or ss j no_stream) (process_of n p)

@@ -38,7 +38,8 @@ number_is (suc n) =
 
 table_number_lem : (l : Limits) (s : List ℕ) (k : ℕ) → answer_number (table l s (replicate k marked)).answer ≡ refused_for l s k
 unfolding table
-table_number_lem l s k = number_is (refused_for l s (length (replicate k marked))) ∙ ap (refused_for l s) (length-replicate {A = Row} k marked)
+table_number_lem l s k =
+    number_is (refused_for l s (length (replicate k marked))) ∙ ap (refused_for l s) (length-replicate {A = Row} k marked)
 
 -- what the columns for as many rows as fit leave
 module _ {l : Limits} {s : List ℕ} (n : ℕ) {h : Shape} {w : List ℕ} (g : Columns l s (n / 21) h w) where

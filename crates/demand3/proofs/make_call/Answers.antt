@@ -30,6 +30,6 @@ pub returns-in_default : goal.returns-in_default
 returns-in_default c =
     let a = c.args in
     let k = kind_of a.calls.now a.k in
-    let h = c.in_default.rest in
+    let h = c.in_default.in_default-own.rest in
     rw (ne_eqb k 0 (omega (arith, h)), ne_eqb k 1 (omega (arith, h)), ne_eqb k 2 (omega (arith, h)), ne_eqb k 3 (omega (arith, h)))
     (same_made refl refl c.result.ensures.1 refl (c.of_answer-in_default.ensures ∙ ap of_answer c.result.ensures.0))

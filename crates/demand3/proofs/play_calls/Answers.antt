@@ -25,16 +25,16 @@ loop-k-preserved c =
     let h = c.loop-k-test.true in
     let q = c.loop-k in
     let a = c.args in
-    let i = q.inv in
+    let i = q.invariant in
     let p = c.play_call.ensures in
     let L = lent_of a.waiting.now q.received q.state q.words q.output q.part q.answers in (
       omega (arith, h),
-      omega (arith, i.1, c.words-1.given),
-      omega (arith, i.2, c.output-1.given),
-      omega (arith, i.3, c.part-1.given),
-      omega (arith, i.4, c.answers-1.given),
-      omega (arith, i.5, c.received-1.given),
-      omega (arith, i.6, c.state-1.given),
+      omega (arith, i.1, c.play_call.auto.words),
+      omega (arith, i.2, c.play_call.auto.output),
+      omega (arith, i.3, c.play_call.auto.part),
+      omega (arith, i.4, c.play_call.auto.answers),
+      omega (arith, i.5, c.play_call.auto.received),
+      omega (arith, i.6, c.play_call.auto.state),
       i.7 ∙ play_next a.s.now a.calls.now _ q.k L h ∙ ap (play_from a.s.now a.calls.now _ _) (sym p),
     )
 

@@ -39,8 +39,7 @@ returns-then-r-eq0 c =
 
 pub returns-else-r-eq0 : goal.returns-else-r-eq0
 returns-else-r-eq0 c =
-    let a = c.args in
-    (
+    let a = c.args in (
       refused c.requires.0 a.s.now (memory_of a.waiting.now a.received.now a.state.now)
           c.survey_within-v.ensures.0 c.if-r-eq0.false,
       λ h. absurd (c.if-r-eq0.false h),

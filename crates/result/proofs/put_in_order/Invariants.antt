@@ -10,7 +10,8 @@ use Rattle.result.proofs.put_in_order.Given as goal
 
 abbrev pub invariant-loop-e : goal.invariant-loop-e
 invariant-loop-e l =
-    (l.e ≤ l.elements) × (length l.output ≡ length l.initial.output) × (l.output ≡ fill_by (placed l.received l.places) l.e l.initial.output)
+    (l.e ≤ l.elements) × (length l.output ≡ length l.initial.output)
+    × (l.output ≡ fill_by (placed l.received l.places) l.e l.initial.output)
 
 abbrev pub decreases-loop-e : goal.decreases-loop-e
 decreases-loop-e l = l.elements - l.e

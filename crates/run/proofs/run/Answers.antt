@@ -7,13 +7,13 @@ use Rattle.run.proofs.run.Goals as goal
 
 pub run_opened-requires : goal.run_opened-requires
 run_opened-requires c =
-    let e = c.«open».ensures in
+    let e = c.open-o.ensures in
     let z = c.if-r-eq0.true in (e.opened z, e.survey z, e.spans z, omega arith)
 
 pub returns-then-r-eq0 : goal.returns-then-r-eq0
 returns-then-r-eq0 c =
     let a = c.args in
-    opened_call _ a.s.now a.steps (memory_of a.waiting.now a.received.now a.state.now) c.«open».ensures.refused
+    opened_call _ a.s.now a.steps (memory_of a.waiting.now a.received.now a.state.now) c.open-o.ensures.refused
     c.if-r-eq0.true
     c.run_opened.ensures
 
@@ -21,4 +21,4 @@ pub returns-else-r-eq0 : goal.returns-else-r-eq0
 returns-else-r-eq0 c =
     let a = c.args in
     refused_call _ a.s.now a.steps (memory_of a.waiting.now a.received.now a.state.now)
-    c.«open».ensures.refused c.if-r-eq0.false
+    c.open-o.ensures.refused c.if-r-eq0.false

@@ -8,14 +8,14 @@ use Rattle.step.proofs.step.Goals as goal
 
 pub step_opened-requires : goal.step_opened-requires
 step_opened-requires c =
-    let e = c.«open».ensures in
+    let e = c.open-o.ensures in
     let z = c.if-r-eq0.true in (e.opened z, e.survey z, e.spans z, omega arith)
 
 pub returns-then-r-eq0 : goal.returns-then-r-eq0
 returns-then-r-eq0 c =
     let a = c.args in
     opened_call _ a.s.now a.kind a.number a.stream (memory_of a.waiting.now a.received.now a.state.now)
-    c.«open».ensures.refused
+    c.open-o.ensures.refused
     c.if-r-eq0.true
     c.step_opened.ensures
 
@@ -23,4 +23,4 @@ pub returns-else-r-eq0 : goal.returns-else-r-eq0
 returns-else-r-eq0 c =
     let a = c.args in
     refused_call _ a.s.now a.kind a.number a.stream (memory_of a.waiting.now a.received.now a.state.now)
-    c.«open».ensures.refused c.if-r-eq0.false
+    c.open-o.ensures.refused c.if-r-eq0.false

@@ -34,7 +34,9 @@ returns-then-early-eq0 c =
     let a = c.args in
     let h = subst (λ (d : Description). Own d c.own_survey-v.result) d.description.ensures c.own_survey-v.ensures in
     record {
-      refusal_is = early_goes_on a.limits a.s.now a.k (early_is a.s.now a.k c.early_refusal-early.ensures c.requires) d.if-early-eq0.true h c.ground_refusal.ensures;
+      refusal_is =
+          early_goes_on a.limits a.s.now a.k (early_is a.s.now a.k c.early_refusal-early.ensures c.requires) d.if-early-eq0.true h
+          c.ground_refusal.ensures;
       own = λ _.
           record {
             same = h.same;
@@ -49,6 +51,8 @@ pub returns-else-early-eq0 : goal.returns-else-early-eq0
 returns-else-early-eq0 c =
     let a = c.args in
     record {
-      refusal_is = c.refused.ensures ∙ early_stops a.limits a.s.now a.k (early_is a.s.now a.k c.early_refusal-early.ensures c.requires) c.if-early-eq0.false;
+      refusal_is =
+          c.refused.ensures
+          ∙ early_stops a.limits a.s.now a.k (early_is a.s.now a.k c.early_refusal-early.ensures c.requires) c.if-early-eq0.false;
       own = λ z. absurd (c.if-early-eq0.false (sym c.refused.ensures ∙ z));
     }

@@ -79,7 +79,8 @@ loop-j-preserved c =
     let j = c.loop-j.j in
     let l : j < length (vectors a.k a.loops) = omega (arith, c.loop-j-test.true, c.vector_count-all.ensures.0) in
     counted_next (answers_by a.p a.k a.loops) (in_answers a.p a.k a.loops j l)
-    (here_is a.p a.k a.loops j l c.answer_to-a.ensures c.vector_at.ensures.0) (below c.vector_at.result c.requires c.answer_to-a.ensures) c.loop-j.invariant
+    (here_is a.p a.k a.loops j l c.answer_to-a.ensures c.vector_at.ensures.0)
+    (below c.vector_at.result c.requires c.answer_to-a.ensures) c.loop-j.invariant
 
 pub returns : goal.returns
 returns c =

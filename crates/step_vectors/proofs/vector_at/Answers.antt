@@ -62,6 +62,7 @@ returns-else-loops-eq2 c =
     let x = held c.entry-else-loops-eq2.type_inv c.entry-else-loops-eq2.ensures in
     let y = held c.entry-else-loops-eq2-2.type_inv c.entry-else-loops-eq2-2.ensures in
     let z = held c.entry-else-loops-eq2-3.type_inv c.entry-else-loops-eq2-3.ensures in (
-      same3 x y z ∙ sym (ap (λ (r : ℕ). step_vector (get_or (vectors k r) c.args.j [])) (three_loops c.requires c.if-loops-eq2.false) ∙ d.3),
+      same3 x y z
+          ∙ sym (ap (λ (r : ℕ). step_vector (get_or (vectors k r) c.args.j [])) (three_loops c.requires c.if-loops-eq2.false) ∙ d.3),
       record { xs = small c.requires.few d.0 x; ys = small c.requires.few d.1 y; zs = small c.requires.few d.2 z },
     )

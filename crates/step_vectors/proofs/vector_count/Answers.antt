@@ -20,10 +20,12 @@ pub overflow_mul-result : goal.overflow_mul-result
 overflow_mul-result c = let p = c.requires in record { fits = omega (arith, squared (2 * c.args.k + 1) (omega (arith, p.0))) }
 
 pub overflow_mul-result-else-loops-eq2 : goal.overflow_mul-result-else-loops-eq2
-overflow_mul-result-else-loops-eq2 c = let p = c.requires in record { fits = omega (arith, squared (2 * c.args.k + 1) (omega (arith, p.0))) }
+overflow_mul-result-else-loops-eq2 c =
+    let p = c.requires in record { fits = omega (arith, squared (2 * c.args.k + 1) (omega (arith, p.0))) }
 
 pub overflow_mul-result-else-loops-eq2-2 : goal.overflow_mul-result-else-loops-eq2-2
-overflow_mul-result-else-loops-eq2-2 c = let p = c.requires in record { fits = omega (arith, cubed (2 * c.args.k + 1) (omega (arith, p.0))) }
+overflow_mul-result-else-loops-eq2-2 c =
+    let p = c.requires in record { fits = omega (arith, cubed (2 * c.args.k + 1) (omega (arith, p.0))) }
 
 pub returns-then-loops-eq2 : goal.returns-then-loops-eq2
 returns-then-loops-eq2 c =

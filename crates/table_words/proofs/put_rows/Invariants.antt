@@ -12,7 +12,8 @@ use Rattle.table_words.proofs.put_rows.Given as goal
 
 abbrev pub invariant-loop-p : goal.invariant-loop-p
 invariant-loop-p l = let p = l.p in
-    (p ≤ l.shape.rows) × (length l.words ≡ length l.initial.words) × (l.words ≡ laid (words_of (row_from l.shape l.columns) p) l.initial.words)
+    (p ≤ l.shape.rows) × (length l.words ≡ length l.initial.words)
+    × (l.words ≡ laid (words_of (row_from l.shape l.columns) p) l.initial.words)
 
 abbrev pub decreases-loop-p : goal.decreases-loop-p
 decreases-loop-p l = l.shape.rows - l.p

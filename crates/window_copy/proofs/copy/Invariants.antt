@@ -8,7 +8,8 @@ use Rattle.integers.specs.Fill.{fill_by, fill_zero, fill_step, fill_done}
 use Rattle.window_copy.proofs.copy.Given as goal
 
 abbrev pub invariant-loop-i : goal.invariant-loop-i
-invariant-loop-i l = let i = l.i in (i ≤ l.n) × (length l.to ≡ length l.initial.to) × (l.to ≡ fill_by (λ i. get_or l.values i 0) i l.initial.to)
+invariant-loop-i l = let i = l.i in (i ≤ l.n) × (length l.to ≡ length l.initial.to)
+    × (l.to ≡ fill_by (λ i. get_or l.values i 0) i l.initial.to)
 
 abbrev pub decreases-loop-i : goal.decreases-loop-i
 decreases-loop-i l = l.n - l.i
