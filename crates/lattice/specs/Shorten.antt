@@ -5,7 +5,6 @@ use Rattle.std.proofs.Common.{sym, ◌∙◌, ap, subst, mul-one, arith}
 use Rattle.std.specs.Int.{◌∣◌}
 use Rattle.std.proofs.Math.Nat.{mul-div_cancel', dvd_trans, dvd-mul_right, dvd_antisymm, mul-dvd-mul_left, dvd_of_mul-dvd-mul_left}
 use Rattle.std.proofs.Math.Nat.{eq-zero_of_zero-dvd, eq-one_of_dvd-one}
-use Rattle.std.proofs.Math.IntN.{ℤ_discrete}
 use Rattle.std.specs.Int.Signed.{quot_z}
 use Rattle.integers.specs.declared.V3.{V3}
 use Rattle.integers.specs.Ring.{ring, quotes, literal, solve, solve_by, given, Ex.plain, Ex.minus}
@@ -13,7 +12,7 @@ use Rattle.integers.specs.Bounds.{abs_mul}
 use Rattle.integers.specs.Vectors.{zero3, scale3, dot, dot_scale, same3}
 use Rattle.integers.specs.Order.{cancel}
 use Rattle.lattice.specs.declared.Short.{Short}
-use Rattle.lattice.specs.Gcd.{gcd_of, euclid, gcd_greatest, bezout}
+use Rattle.lattice.specs.Gcd.{gcd_of, gcd_greatest, bezout}
 
 -- d divides every component
 pub record Divides (d : ℕ) (v : V3) : Type 0 where
@@ -68,26 +67,16 @@ whole_divides {d} u e =
       atz = divides_times d u.z (ap (λ (w : V3). w.z) e);
     }
 
-divisor_divides : (v : V3) → Divides (divisor_of v) v
+pub divisor_divides : (v : V3) → Divides (divisor_of v) v
 divisor_divides v =
     let h = gcd_greatest (nat_abs v.x) (gcd_of (nat_abs v.y) (nat_abs v.z)) in
     let k = gcd_greatest (nat_abs v.y) (nat_abs v.z) in
     record { atx = h.left; aty = dvd_trans _ h.right k.left; atz = dvd_trans _ h.right k.right }
 
-divisor_greatest : (v : V3) (d : ℕ) → Divides d v → d ∣ divisor_of v
+pub divisor_greatest : (v : V3) (d : ℕ) → Divides d v → d ∣ divisor_of v
 divisor_greatest v d h =
     (gcd_greatest (nat_abs v.x) (gcd_of (nat_abs v.y) (nat_abs v.z))).most d h.atx
     ((gcd_greatest (nat_abs v.y) (nat_abs v.z)).most d h.aty h.atz)
-
--- ---- the rule is met, and by nothing else
-
-zero_short : shortened zero3 ≡ record { vector = zero3; divisor = 0 }
-unfolding gcd_of euclid
-zero_short = refl
-
-pub shortens : (v : V3) → Shortens v (shortened v)
-shortens v =
-    record { times = divides_whole (divisor_divides v); greatest = divisor_greatest v; zero = λ e. ap shortened e ∙ zero_short }
 
 module _ {v : V3} {r : Short} (s : Shortens v r) where
   pub divisor_is : r.divisor ≡ divisor_of v
@@ -104,21 +93,6 @@ module _ {v : V3} {r : Short} (s : Shortens v r) where
       abs_zero : (z : ℤ) → nat_abs z ≡ 0 → z ≡ pos 0
       abs_zero (pos n) e = ap pos e
       abs_zero (negsuc n) e = absurd (omega arith)
-
-pub shortens_one : {v : V3} {r : Short} → Shortens v r → r ≡ shortened v
-shortens_one {v} {r} s = go (ℤ_discrete (pos r.divisor) (pos 0))
-  where
-    both : {u w : V3} {d e : ℕ} → d ≡ e → u ≡ w → ◌≡◌ {A = Short} (record { vector = u; divisor = d }) (record { vector = w; divisor = e })
-    both e f = rw (e, f)
-
-    go : Dec (pos r.divisor ≡ pos 0) → r ≡ shortened v
-    go (yes e) = let z = divisor_zero s (ap nat_abs e) in s.zero z ∙ sym ((shortens v).zero z)
-    go (no n) =
-        let e = s.times ∙ sym (ap (λ (d : ℕ). scale3 (pos d) (over v (divisor_of v))) (divisor_is s) ∙ (shortens v).times) in
-        both (divisor_is s) (same3
-        (cancel (pos r.divisor) r.vector.x _ n (ap (λ (w : V3). w.x) e))
-        (cancel (pos r.divisor) r.vector.y _ n (ap (λ (w : V3). w.y) e))
-        (cancel (pos r.divisor) r.vector.z _ n (ap (λ (w : V3). w.z) e)))
 
 -- ---- the components of a shortened vector have no common divisor
 

@@ -6,7 +6,8 @@ use lib.Signed.{quot_z}
 use Rattle.integers.specs.Words.{tower, held}
 use Rattle.integers.specs.declared.V3.{V3}
 use Rattle.lattice.specs.declared.Short.{Short}
-use Rattle.lattice.specs.Shorten.{Shortens, shortened, shortens}
+use Rattle.lattice.specs.Shorten.{Shortens, shortened}
+use Rattle.lattice.proofs.Shortening.{shortens}
 use Rattle.lattice.proofs.shorten.Goals as goal
 
 -- a component, from what the code holds of its parts

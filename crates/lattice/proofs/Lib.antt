@@ -1,0 +1,3 @@
+-- Theorems on which no definition rests.
+pub mod Shortening
+pub mod Values
