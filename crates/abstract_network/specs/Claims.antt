@@ -8,11 +8,11 @@ use Rattle.abstract_network.specs.Cases.{Order, less, at_least, order}
 use Rattle.abstract_network.specs.Counters.{Kind, Step, put, get, fire, Counts, Guard, get_elements, below_head, all_put}
 use Rattle.abstract_network.specs.Counters.{all_get}
 use Rattle.abstract_network.specs.Words.{Hold, passes, keeps, Words}
-use Rattle.abstract_network.specs.Due.{Occurs, progress, ready_occurs}
+use Rattle.abstract_network.specs.Due.{Occurs, ready_occurs}
 use Rattle.abstract_network.specs.Turns.{Fired}
 use Rattle.abstract_network.specs.Values.{plain, value_last}
 use Rattle.abstract_network.specs.System.{System, final}
-use Rattle.abstract_network.specs.Good.{Granted, Good, good_start, good_step}
+use Rattle.abstract_network.specs.Good.{Granted, Good}
 
 module _ (X : System) where
   open X use {net, ranked, laid, clock, program, geometry, bodied}
@@ -32,10 +32,6 @@ module _ (X : System) where
     start : Reach 0 (λ a. 0) (record { link = λ q k i. 0; hand = λ q k. 0; kept = λ q k. 0; out = λ q i. 0 })
     more : {t : ℕ} {c c' : Counts} {a : Step} {W W' : Words} → Reach t c W → Grant c W a c' W' → Reach (suc t) c' W'
 
-  pub reach_good : {t : ℕ} {c : Counts} {W : Words} → Reach t c W → Fine c W
-  reach_good start = good_start X
-  reach_good (more r g) = good_step X (reach_good r) g
-
   -- all values are out
   unfoldable pub Out : Counts → Type 0
   Out c = (q : ℕ) → c (get q (stops q)) ≡ elements q
@@ -52,10 +48,6 @@ module _ (X : System) where
 
     pub stretch_rest : (q i : ℕ) → c (get q (stops q)) ≤ i → W.out q i ≡ 0
     stretch_rest q i h = Q.stored.blank q i h
-
-    -- ready: some step may be granted as long as some pipe is not out
-    pub ready : (q : ℕ) → c (get q (stops q)) < elements q → (a : Step) × Guard net c a
-    ready q h = progress net clock laid Q.inv (get q (stops q)) (le_refl _, h)
 
     -- all out: every counter is at its total, and no step may be granted
     pub done : 0 < streams → Out c → (a : Step) → Occurs net a (c a) → ⊥

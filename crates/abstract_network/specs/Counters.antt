@@ -1,6 +1,6 @@
 -- The network as counters: steps, rules, the counter invariant, and that each rule keeps it. Assumes nothing.
 use Rattle.std.specs.Prelude.{◌≡◌, refl, ℕ, zero, suc, ◌+◌, ◌-◌, ◌≤◌, ◌<◌, min}
-use Rattle.std.proofs.Common.{sym, ◌∙◌, ap, ap₂, subst, arith}
+use Rattle.std.proofs.Common.{sym, ap, ap₂, subst, arith}
 use Rattle.abstract_network.specs.Cases.{Order, less, at_least, order, Equal, same, other, equal}
 
 -- Stops. A process on a pipe either lets every element through its hand, using some on the way, or keeps the first.
@@ -212,55 +212,6 @@ module _ (N : Net) where
         go : Order k j → (k < j → c (get q j) ≤ c (put q (suc k))) → c (get q (suc j)) ≤ c (put q (suc k))
         go (less d) ih = omega (arith, ih d, stop_order (I.stop q j l), (I.link q (suc j) l).0)
         go (at_least d) ih = let e : k ≡ j = omega arith in rw e (I.link q (suc j) l).0
-
-  module _ {c c' : Counts} {a : Step} (B : OneMore c c' a) (I : Inv N c) (g : Guard N c a) where
-    turned : {b : Step} → a ≡ b → Guard N c b
-    turned {b} e = subst (λ (b : Step). Guard N c b) e g
-
-    keep_fires : (p : ℕ) → c' (fire p) ≤ count p
-    keep_fires p = go (hit? B (fire p))
-      where
-        go : Hit B (fire p) → c' (fire p) ≤ count p
-        go (hit e u) = omega (arith, (turned e).0)
-        go (miss n u) = omega (arith, I.fires p)
-
-    keep_head : (q : ℕ) → c' (put q 0) ≤ elements q
-    keep_head q = go (hit? B (put q 0))
-      where
-        go : Hit B (put q 0) → c' (put q 0) ≤ elements q
-        go (hit e u) = omega (arith, (turned e).0)
-        go (miss n u) = omega (arith, I.head q)
-
-    free_place : (q k : ℕ) → Guard N c (put q k) → c (put q k) < c (get q k) + hop q
-    free_place q zero w = w.1
-    free_place q (suc k) w = w.1
-
-    keep_link : (q k : ℕ) → k ≤ stops q → (c' (get q k) ≤ c' (put q k)) × (c' (put q k) ≤ c' (get q k) + hop q)
-    keep_link q k l = go (hit? B (get q k)) (hit? B (put q k)) (I.link q k l)
-      where
-        go : Hit B (get q k) → Hit B (put q k) → (c (get q k) ≤ c (put q k)) × (c (put q k) ≤ c (get q k) + hop q)
-            → (c' (get q k) ≤ c' (put q k)) × (c' (put q k) ≤ c' (get q k) + hop q)
-        go (hit d u) (hit e v) i = omega arith
-        go (hit d u) (miss n v) i = let w = (turned d).1 in omega arith
-        go (miss n u) (hit e v) i = let w = free_place q k (turned e) in omega arith
-        go (miss n u) (miss n' v) i = omega arith
-
-    keep_stop : (q k : ℕ) → k < stops q → At N AtStop c' q k
-    keep_stop q k l = go (hit? B (get q k)) (hit? B (put q (suc k))) (hit? B (fire (process q k)))
-      where
-        go : Hit B (get q k) → Hit B (put q (suc k)) → Hit B (fire (process q k)) → At N AtStop c' q k
-        go (hit d u) (hit e v) w = absurd (put≢get (sym e ∙ d))
-        go (hit d u) (miss n v) (hit e w) = absurd (get≢fire (sym d ∙ e))
-        go (miss n u) (hit d v) (hit e w) = absurd (put≢fire (sym d ∙ e))
-        go (hit d u) (miss n v) (miss n' w) =
-            rw (u, v, w) (stop_get (omega (arith, (turned d).1, below_head I q k (omega arith))) (I.stop q k l) ((turned d).2 l))
-        go (miss n u) (hit d v) (miss n' w) = rw (u, v, w) (stop_put (get_elements I q k (omega arith)) (I.stop q k l) (turned d).2)
-        go (miss n u) (miss n' v) (hit d w) = rw (u, v, w) (stop_fire (turned d).0 (I.stop q k l) ((turned d).1 q k l refl))
-        go (miss n u) (miss n' v) (miss n'' w) = rw (u, v, w) (I.stop q k l)
-
-    -- every granted step keeps the invariant
-    pub inv_step : Inv N c'
-    inv_step = record { fires = keep_fires; head = keep_head; link = keep_link; stop = keep_stop }
 
   -- it holds at the start
   pub inv_start : Inv N (λ a. 0)
