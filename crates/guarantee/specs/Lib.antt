@@ -11,9 +11,6 @@ pub mod Touches
 pub mod Times
 pub mod Wired
 pub mod Elements
-pub mod Beyond
-pub mod Demand1
 pub mod Alike
 pub mod TableRows
 pub mod Demand2
-pub mod Guarantee

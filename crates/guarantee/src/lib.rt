@@ -13,6 +13,8 @@
 //   the wiring         Wired: `wired`: the array of an accepted description is wired as the network asks; `wired-instances`,
 //                      `wired-instance`, `wired-touched`, `wired-number`: its instances and elements are those of the plain run
 //
+// Acceptance, Demand2, TableRows and `same-refusal` are in specs/, the others of these in proofs/.
+//
 // Beneath Acceptance: Refusals (tests in order against conditions in order), WordConditions (1 to 4), NestConditions (5 to 10, and 11 and
 // 12, which say of an index map what 7 and 8 say of place), StreamConditions (13 to 17).
 //

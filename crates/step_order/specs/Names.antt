@@ -1,12 +1,9 @@
 -- Each kind of step has its ranks: the name of a step's rank, and the steps of the ranks. Assumes nothing.
-use Rattle.std.specs.Prelude.{◌≡◌, refl, Bool, true, false, ℕ, ◌+◌, ◌*◌, ◌-◌, ◌/◌, ◌%◌, ◌<◌, ltb}
-use Rattle.std.proofs.Common.{sym, ◌∙◌, ap, ⊎_elim, add-zero, mod-eq_of_lt, div-add-mod', div-lt_iff_lt-mul, mod-lt, arith, ltb-true}
-use Rattle.std.proofs.Common.{ltb-false, lt-ltb, le-ltb, eq-eqb, ne_eqb}
+use Rattle.std.specs.Prelude.{◌≡◌, refl, ℕ, ◌+◌, ◌*◌, ◌-◌, ◌/◌, ◌%◌, ◌<◌}
+use Rattle.std.proofs.Common.{◌∙◌, ap, add-zero, mod-eq_of_lt, arith, lt-ltb, le-ltb, eq-eqb, ne_eqb}
 use Rattle.std.proofs.Math.Nat.{mul-add-div_right, mul-add-mod_self_right, div-eq_of_lt}
-use Rattle.meaning.specs.Rules.{Step, Send, Take, Fire, Give, Receive}
 use Rattle.port_table.specs.declared.Size.{Size}
-use Rattle.step_rules.specs.Fits.{Inside}
-use Rattle.step_order.specs.Ranks.{width, rank_count, named, process_name, name_at, step_at, take_rank, fire_rank, give_rank, receive_rank}
+use Rattle.step_order.specs.Ranks.{width, rank_count, named, process_name, name_at, take_rank, fire_rank, give_rank, receive_rank}
 use Rattle.step_order.specs.Ranks.{steps_inside}
 
 -- ---- the name of a step's rank
@@ -66,80 +63,3 @@ pub data Ranked (z : Size) (r : ℕ) : Type 0 where
   fire : (p : ℕ) → p < z.processes → r ≡ fire_rank z p → Ranked z r
   give : (p i : ℕ) → p < z.processes → i < z.streams → r ≡ give_rank z p i → Ranked z r
   receive : (q : ℕ) → q < z.pipes → r ≡ receive_rank z q → Ranked z r
-
-module _ (z : Size) (r : ℕ) where
-  placed : (p o : ℕ) → p < z.processes → o < width z → r ≡ z.pipes + (p * width z + o) → Ranked z r
-  placed p o h l e = go (ltb o z.streams) refl (ltb z.streams o) refl
-    where
-      go : (b : Bool) → ltb o z.streams ≡ b → (c : Bool) → ltb z.streams o ≡ c → Ranked z r
-      go true b c d = take p o h (ltb-true _ _ b) (omega arith)
-      go false b true d =
-          let k = ltb-true z.streams o d in give p (o - z.streams - 1) h (omega arith) (omega arith)
-      go false b false d = fire p h (omega (arith, ltb-false o z.streams b, ltb-false z.streams o d))
-
-  pub ranked : r < rank_count z → Ranked z r
-  ranked h = go (ltb r z.pipes) refl (ltb (r - z.pipes) (z.processes * width z)) refl
-    where
-      go : (b : Bool) → ltb r z.pipes ≡ b → (c : Bool) → ltb (r - z.pipes) (z.processes * width z) ≡ c → Ranked z r
-      go true b c d = send r (ltb-true _ _ b) refl
-      go false b true d =
-          let k = r - z.pipes in
-          let w : 0 < width z = omega arith in
-          let l = ltb-false r z.pipes b in
-          placed (k / width z) (k % width z) ((div-lt_iff_lt-mul w).1 (ltb-true _ _ d)) (mod-lt k w)
-          (omega (arith, div-add-mod' k (width z)))
-      go false b false d =
-          let l = ltb-false r z.pipes b in
-          let m = ltb-false (r - z.pipes) (z.processes * width z) d in
-          receive (r - z.pipes - z.processes * width z) (omega arith) (omega arith)
-
--- ---- the step of a rank
-
-module _ (z : Size) where
-  -- it has the number of a pipe or of a process, and the stream of a take or of a give
-  of_pipe : (kind q : ℕ) → kind % 4 ≡ 0 → q < z.pipes → Inside z kind q 0
-  of_pipe kind q e h =
-      record {
-        pipe = λ k. h;
-        process = λ a b. absurd (omega arith);
-        port = ⊎_elim (λ (k : kind ≡ 1). absurd (omega arith)) (λ (k : kind ≡ 3). absurd (omega arith));
-      }
-
-  of_process_lem : (kind p i : ℕ) → 0 < kind → kind < 4 → p < z.processes → ((kind ≡ 2 → ⊥) → i < z.streams) → Inside z kind p i
-  of_process_lem kind p i a b h l =
-      record {
-        pipe = ⊎_elim (λ (k : kind ≡ 0). absurd (omega arith)) (λ (k : 3 < kind). absurd (omega arith));
-        process = λ a b. h;
-        port = ⊎_elim (λ (k : kind ≡ 1). l (λ (e : kind ≡ 2). omega arith)) (λ (k : kind ≡ 3). l (λ (e : kind ≡ 2). omega arith));
-      }
-
-  pub name_inside : (r : ℕ) → r < rank_count z → Inside z (name_at z r).kind (name_at z r).number (name_at z r).stream
-  name_inside r h = go (ranked z r h)
-    where
-      go : Ranked z r → Inside z (name_at z r).kind (name_at z r).number (name_at z r).stream
-      go (send q h e) = rw (e, send_name z q h) (of_pipe 0 q refl h)
-      go (take p i h l e) = rw (e, take_name z p i h l) (of_process_lem 1 p i (omega arith) (omega arith) h (λ k. l))
-      go (fire p h e) = rw (e, fire_name z p h) (of_process_lem 2 p 0 (omega arith) (omega arith) h (λ k. absurd (k refl)))
-      go (give p i h l e) = rw (e, give_name z p i h l) (of_process_lem 3 p i (omega arith) (omega arith) h (λ k. l))
-      go (receive q h e) = rw (e, receive_name z q) (of_pipe 4 q refl h)
-
-  -- different ranks are different steps: a step has one rank
-  abbrev rank_of : Step → ℕ
-  rank_of (Send q) = q
-  rank_of (Take p i) = take_rank z p i
-  rank_of (Fire p) = fire_rank z p
-  rank_of (Give p i) = give_rank z p i
-  rank_of (Receive q) = receive_rank z q
-
-  rank_step : (r : ℕ) → r < rank_count z → rank_of (step_at z r) ≡ r
-  rank_step r h = go (ranked z r h)
-    where
-      go : Ranked z r → rank_of (step_at z r) ≡ r
-      go (send q h e) = rw (e, send_name z q h) refl
-      go (take p i h l e) = rw (e, take_name z p i h l) refl
-      go (fire p h e) = rw (e, fire_name z p h) refl
-      go (give p i h l e) = rw (e, give_name z p i h l) refl
-      go (receive q h e) = rw (e, receive_name z q) refl
-
-  pub rank_apart : (r r' : ℕ) → r < rank_count z → r' < rank_count z → step_at z r ≡ step_at z r' → r ≡ r'
-  rank_apart r r' h h' e = sym (rank_step r h) ∙ ap rank_of e ∙ rank_step r' h'

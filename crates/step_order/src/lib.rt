@@ -4,8 +4,11 @@
 // specs/, by file:
 //
 //   Ranks     the step of a rank, and the rank of a step
-//   Names     the name of a step's rank, as `take-name`; a rank's step is inside the array: `name-inside`, and has no other rank:
-//             `rank-apart`
+//   Names     the name of a step's rank, as `take-name`
+//
+// proofs/, by file:
+//
+//   Names     a rank's step is inside the array: `name-inside`, and has no other rank: `rank-apart`
 //   Order     the steps of the ranks are Run's order: `in_order`, and the lowest ready step is that of the lowest rank: `lowest-some`,
 //             `lowest-none`
 

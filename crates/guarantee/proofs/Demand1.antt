@@ -29,7 +29,7 @@ use Rattle.meaning.specs.Demand1.{Values, Declined, NothingChanged, DemandOne}
 use Rattle.lists.specs.Rows.{length_numbers}
 use Rattle.network.specs.Declined.{numbers_are}
 use Rattle.generated.specs.Made.{made_length}
-use Rattle.guarantee.specs.Beyond.{step_beyond, run_beyond}
+use Rattle.guarantee.proofs.Beyond.{step_beyond, run_beyond}
 
 -- a number that is not 0
 not_zero : (n : ℕ) → Declined n → eqb n 0 ≡ false

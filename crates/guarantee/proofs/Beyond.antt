@@ -6,7 +6,7 @@ use Rattle.meaning.specs.Rules.{Memory}
 use Rattle.meaning.specs.Calls.{state_length, step, run}
 use Rattle.meaning.specs.Demand3.{CallStep, CallRun}
 use Rattle.network.specs.Beyond.{call_beyond}
-use Rattle.guarantee.specs.Wired.{wired}
+use Rattle.guarantee.proofs.Wired.{wired}
 
 module _ (l : Limits) (s : List ℕ) where
   pub step_beyond : (kind number stream : ℕ) (M : Memory)

@@ -16,8 +16,9 @@ use Rattle.lists.specs.Sums.{total_same}
 use Rattle.port_table.specs.declared.Size.{Size}
 use Rattle.port_table.specs.PortsOf.{SizeOf}
 use Rattle.step_order.specs.Ranks.{width, rank_count, step_at, take_rank, fire_rank, give_rank, receive_rank, steps_inside}
-use Rattle.step_order.specs.Names.{Ranked, send, take, fire, give, receive, ranked, send_name, take_name, fire_name, give_name}
+use Rattle.step_order.specs.Names.{Ranked, send, take, fire, give, receive, send_name, take_name, fire_name, give_name}
 use Rattle.step_order.specs.Names.{receive_name}
+use Rattle.step_order.proofs.Names.{ranked}
 
 -- ---- the order by the numbers of pipes, processes and streams
 

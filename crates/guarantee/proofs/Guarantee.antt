@@ -14,10 +14,10 @@ use Rattle.geometry.specs.PipeOrder.{numbers_all, list_length_lem}
 use Rattle.network.specs.Plain.{Among, Described, streams_are}
 use Rattle.network.specs.Starts.{proper}
 use Rattle.network.specs.Demand as Demand
-use Rattle.guarantee.specs.Alike.{serves}
+use Rattle.guarantee.proofs.Alike.{serves}
 use Rattle.guarantee.specs.Elements.{touched_among, element_among}
 use Rattle.lists.specs.Tests.{is_true}
-use Rattle.guarantee.specs.Wired.{wired, wired_instances, wired_instance, wired_touched, wired_number}
+use Rattle.guarantee.proofs.Wired.{wired, wired_instances, wired_instance, wired_touched, wired_number}
 
 -- what the network asks of a description beside its wiring
 described : (l : Limits) (s : List ℕ) (e : refusal_of l s ≡ 0) → Described (description_of s) (wired l s e)

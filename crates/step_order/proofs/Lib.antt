@@ -1,0 +1,3 @@
+-- Theorems on which no definition rests.
+pub mod Names
+pub mod Order
