@@ -1,4 +1,4 @@
--- The program that an array runs, and the system of its network and program. A body changes no stream that is no line's target.
+-- The program that an array runs; the system of its network and program is in proofs/. A body changes no stream that is no line's target.
 -- Assumes nothing.
 use Rattle.std.specs.Prelude.{◌≡◌, refl, Bool, true, false, cond, List, [], ◌∷◌, ◌++◌, map, ℕ, ◌+◌, ◌<◌, eqb, length, get_or}
 use Rattle.std.proofs.Common.{sym, ◌∙◌, ap, arith, length-append, length-take, get_or-set_other, get_or-take}
@@ -15,9 +15,8 @@ use Rattle.lists.specs.Rows.{length_numbers, get_d_first, same_numbers}
 use Rattle.abstract_network.specs.Values.{Program, Body}
 use Rattle.abstract_network.specs.Firing.{Own, in_hand, in_keep}
 use Rattle.network.specs.Wiring.{kind_of, rank_at, net_of, element_at, writes, UsedAt, Wired, element_pipe, has_port_lem, ranked_of}
-use Rattle.network.specs.Wiring.{lined_of}
-use Rattle.network.specs.Wiring.{laid_of, clock_of}
-use Rattle.abstract_network.specs.System.{Spot, Geometry, System}
+use Rattle.network.specs.Wiring.{laid_of}
+use Rattle.abstract_network.specs.System.{Spot, Geometry}
 
 -- ---- lines
 
@@ -55,7 +54,7 @@ module _ (A : Array) where
       ∙ get_or-append (map f (numbers (stream_count A))) (0 ∷ 0 ∷ []) 0 s (omega arith)
       ∙ get_d_first f 0 (stream_count A) s h
 
--- ---- the program and the system
+-- ---- the program and its geometry
 
 module _ {A : Array} (W : Wired A) (values : List ℕ) where
   -- the values by the elements' numbers
@@ -112,18 +111,4 @@ module _ {A : Array} (W : Wired A) (values : List ℕ) where
         touch = touch_own;
         find = λ i q j h l e. spot i q j (W.find i q j h l e);
         meets = W.meets;
-      }
-
-  -- the network of the array with the program that it runs
-  abbrev pub system_of : System
-  system_of =
-      record {
-        net = net_of A;
-        ranked = ranked_of W;
-        lined = lined_of W;
-        laid = laid_of W;
-        clock = clock_of W;
-        program = program_of;
-        geometry = geometry_of;
-        bodied = bodied_of;
       }

@@ -1,15 +1,15 @@
 -- The words of a state as the network sees them: by pipe and place. A slot has at most one word, and different slots have different words,
 -- so that writing one changes no other. Assumes nothing.
-use Rattle.std.specs.Prelude.{◌≡◌, cond, List, ℕ, zero, suc, ◌+◌, ◌≤◌, ◌<◌, ltb, length, get_or}
+use Rattle.std.specs.Prelude.{◌≡◌, cond, List, ℕ, zero, suc, ◌+◌, ◌≤◌, ◌<◌, ltb, get_or}
 use Rattle.std.proofs.Math.Path.{refl}
 use Rattle.std.proofs.Common.{sym, ◌∙◌, ap, ap₂, subst, le_refl, arith, lt-ltb, le-ltb}
 use Rattle.meaning.specs.Array.{Array, process_count, pipe_number, pipe_at, stops_on, elements_on, part_start, pipe_through}
-use Rattle.meaning.specs.State.{Word, Firings, Taken, Given, Hand, Keep, Place, Sent, Received, End, word_count, read, write}
+use Rattle.meaning.specs.State.{Word, Firings, Taken, Given, Hand, Keep, Place, Sent, Received, End, read}
 use Rattle.meaning.specs.Rules.{process_on, stream_on, taken_out, link_place}
 use Rattle.abstract_network.specs.Cases.{Order, less, at_least, order}
 use Rattle.abstract_network.specs.Counters.{Step, put, get, fire, Counts}
 use Rattle.abstract_network.specs.Words.{Words}
-use Rattle.network.specs.Layout.{Live, read_same, read_other}
+use Rattle.network.specs.Layout.{Live}
 use Rattle.network.specs.Wiring.{Wired, stop_pipe, HasPort, has_port_lem, port_is, place_at}
 
 -- of pipe q what was sent; of its place k what was taken out of the link there, what was given, hand, keep, and the link's places; of
@@ -222,23 +222,6 @@ module _ (A : Array) where
         go : Order k (stops_on A q) → Live A (link_place A q k i)
         go (less m) = rw (lt-ltb k (stops_on A q) m) (W.process_lt q k m, W.stream_lt q h, omega (arith, W.hop_is q h))
         go (at_least m) = rw (le-ltb k (stops_on A q) m) (h, r)
-
-    -- ---- reading after writing
-
-    pub view_same : (st : List ℕ) (a : Slot) (v : ℕ) → word_count A ≤ length st → Has a → view (write A st (word_of a) v) a ≡ v
-    view_same st a v l h = view_is (write A st (word_of a) v) a h ∙ read_same A st (word_of a) v l (word_live a h)
-
-    -- and every other slot what it had
-    pub view_other : (st : List ℕ) (a b : Slot) (v : ℕ) → Has a → (a ≡ b → ⊥) → view (write A st (word_of a) v) b ≡ view st b
-    view_other st a b v h n = go (has b)
-      where
-        go : Dec (Has b) → view (write A st (word_of a) v) b ≡ view st b
-        go (yes l) =
-            view_is (write A st (word_of a) v) b l
-            ∙ read_other A st (word_of a) (word_of b) v (word_live a h) (word_live b l)
-            (λ e. n (sym (slot_word a h) ∙ ap slot_of e ∙ slot_word b l))
-            ∙ sym (view_is st b l)
-        go (no m) = view_none (write A st (word_of a) v) b m ∙ sym (view_none st b m)
 
   -- ---- the counters and the words of a state; the received list is by pipes too
 

@@ -1,8 +1,9 @@
 // The network proved: demand 3 for every description whose array is wired as geometry has to show. The abstract network stands apart, in
-// `abstract_network`. Theory only; what it says is in specs/.
+// `abstract_network`. Theory only; what it says is in specs/ and, where no definition rests on it, in proofs/.
 //
 // The array of a description:
-//   Layout      `layout`: different live words of a state stand at different places below the number of words; reading after writing
+//   Layout, Places
+//               `layout`: different live words of a state stand at different places below the number of words; reading after writing
 //   WordOrder   `words-stand`: the words of a state stand one after the other; `words-read`: it is what they read; `same-words`
 //   Wiring      `net_of`, and the record `Wired` of what geometry has to show; Programs: the program that an array runs; `system_of`
 //   Slots       the words by pipe and place, and back; `view-same`, `view-other`; the counters and the words of a state

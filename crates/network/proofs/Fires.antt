@@ -15,9 +15,11 @@ use Rattle.abstract_network.specs.Counters.{fire, OneMore}
 use Rattle.abstract_network.specs.Firing.{Firing, hand_used, keep_used, Fires}
 use Rattle.network.specs.Wiring.{kind_of, net_of, Wired, HasPort, port_is, ranked_of, place_at, keeps_at}
 use Rattle.network.specs.Programs.{length_body}
-use Rattle.network.specs.Slots.{Slot, fired, hand, kept, place, sort, first, second, counter, Has, word_of, view, view_is, view_same}
-use Rattle.network.specs.Slots.{view_other, counts_of, words_of}
-use Rattle.network.specs.Links.{counter_sort, Written, nothing, also, written_length, more_other, more_written, one_more}
+use Rattle.network.specs.Slots.{Slot, fired, hand, kept, place, sort, first, second, counter, Has, word_of, view, view_is}
+use Rattle.network.proofs.Slots.{view_same}
+use Rattle.network.specs.Slots.{counts_of, words_of}
+use Rattle.network.proofs.Slots.{view_other}
+use Rattle.network.proofs.Links.{counter_sort, Written, nothing, also, written_length, more_other, more_written, one_more}
 use Rattle.network.specs.Moving.{chosen, chosen_sort, chosen_at, chosen_has, chosen_word}
 
 map_numbers : {X Y : Type 0} (f : X → Y) (g : ℕ → X) (i n : ℕ) → map f (map g (numbers_from i n)) ≡ map (λ j. f (g j)) (numbers_from i n)

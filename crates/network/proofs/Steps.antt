@@ -17,15 +17,16 @@ use Rattle.abstract_network.specs.Sound.{Sound}
 use Rattle.abstract_network.specs.System.{word}
 use Rattle.abstract_network.specs.Good.{Granted, moves, fires, uses}
 use Rattle.network.specs.Wiring.{kind_of, net_of, element_at, Wired, HasPort, has_port_lem, place_at, keeps_at}
-use Rattle.network.specs.Programs.{body_of, system_of}
+use Rattle.network.specs.Programs.{body_of}
+use Rattle.network.proofs.Programs.{system_of}
 use Rattle.network.specs.Slots.{sent, taken, view, counts_of, out_of, words_of}
 use Rattle.network.specs.Slots as Slots
 use Rattle.network.specs.Ready.{step_of, There, put_is, end_is, fired_is}
-use Rattle.network.specs.Links.{Written, written_length}
+use Rattle.network.proofs.Links.{Written, written_length}
 use Rattle.network.specs.Moving.{chosen, Spare}
-use Rattle.network.specs.Gets.{take_written, take_more, take_moves, receive_written, receive_more, receive_moves}
-use Rattle.network.specs.Puts.{send_written, send_more, send_moves, give_written, give_more, give_moves}
-use Rattle.network.specs.Fires.{fire_written, fire_more, fire_fires}
+use Rattle.network.proofs.Gets.{take_written, take_more, take_moves, receive_written, receive_more, receive_moves}
+use Rattle.network.proofs.Puts.{send_written, send_more, send_moves, give_written, give_more, give_moves}
+use Rattle.network.proofs.Fires.{fire_written, fire_more, fire_fires}
 use Rattle.network.specs.Parts.{out_new, out_old}
 
 -- the word that a stop uses is the slot chosen there

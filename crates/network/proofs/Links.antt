@@ -9,10 +9,12 @@ use Rattle.meaning.specs.State.{Word, word_count, read, write}
 use Rattle.meaning.specs.Rules.{link_place, fill, move_down, without_oldest, increase}
 use Rattle.abstract_network.specs.Cases.{Order, less, at_least, order, Equal, same, other, equal}
 use Rattle.abstract_network.specs.Counters.{Step, put, get, fire, OneMore}
-use Rattle.network.specs.Layout.{Live, length_write, read_other}
+use Rattle.network.specs.Layout.{Live}
+use Rattle.network.proofs.Places.{length_write, read_other}
 use Rattle.network.specs.Wiring.{Wired}
 use Rattle.network.specs.Slots.{Slot, sent, taken, given, fired, hand, kept, place, sort, third, counter, Has, word_of, word_live}
-use Rattle.network.specs.Slots.{view, view_is, view_same, view_other, counts_of}
+use Rattle.network.specs.Slots.{view, view_is, counts_of}
+use Rattle.network.proofs.Slots.{view_same, view_other}
 
 -- ---- counters
 

@@ -23,17 +23,18 @@ use Rattle.network.specs.WordOrder.{words_length}
 use Rattle.network.specs.Wiring.{Wired}
 use Rattle.network.specs.Ready.{end_is}
 use Rattle.network.specs.Parts.{part_is, parts_are}
-use Rattle.network.specs.Steps.{all_waiting, all_length}
-use Rattle.network.specs.Runs.{Grants, Cleared}
-use Rattle.network.specs.Outcome.{After, received_is, receives_most, reached_of, after}
-use Rattle.network.specs.Finish.{finish_words}
+use Rattle.network.proofs.Steps.{all_waiting, all_length}
+use Rattle.network.specs.Runs.{Grants}
+use Rattle.network.proofs.Runs.{Cleared}
+use Rattle.network.proofs.Outcome.{After, received_is, receives_most, reached_of, after}
+use Rattle.network.proofs.Finish.{finish_words}
 use Rattle.network.specs.Calls.{calls_granted, calls_leave}
 use Rattle.network.specs.Declined.{Usable, not_by_memory}
 use Rattle.network.specs.Plain.{Described, final_is}
 use Rattle.network.specs.Figures.{words_are, steps_are}
-use Rattle.network.specs.Starts.{Proper, proper, cleared, passes_after}
+use Rattle.network.proofs.Starts.{Proper, proper, cleared, passes_after}
 use Rattle.network.specs.Results.{result_early, result_only_early, result_late, in_element_order_lem}
-use Rattle.network.specs.Beyond.{calls_beyond}
+use Rattle.network.proofs.Beyond.{calls_beyond}
 
 module _ (l : Limits) (s values : List ℕ) (M₀ : Memory) where
   abbrev d : Description

@@ -21,8 +21,8 @@ use Rattle.network.specs.Wiring.{kind_of, net_of, Wired, stop_pipe, has_port_lem
 use Rattle.network.specs.Slots.{sent, taken, given, fired, Has, slot_of, no_slot, view_none, counts_of}
 use Rattle.network.specs.Decide.{Says, said, says_true, says_and, says_then, says_as, says_le, says_every, says_balance}
 use Rattle.network.specs.Ready.{There, put_is, get_is, end_is, taken_is, given_is, fired_is, says_ready}
-use Rattle.network.specs.Links.{written_past}
-use Rattle.network.specs.Steps.{step_written, step_more}
+use Rattle.network.proofs.Links.{written_past}
+use Rattle.network.proofs.Steps.{step_written, step_more}
 
 module _ {A : Array} (W : Wired A) where
   -- the counts of a process and a stream are within the elements of its pipe, 0 without one; said of those without one

@@ -14,11 +14,12 @@ use Rattle.abstract_network.specs.Words.{Giving, of_hand, of_other, of_keep_lem,
 use Rattle.abstract_network.specs.Sound.{Sound}
 use Rattle.network.specs.Wiring.{kind_of, net_of, Wired, stop_pipe, ranked_of}
 use Rattle.network.specs.Slots.{Slot, sent, taken, given, hand, place, sort, first, second, counter, Has, word_of, view, view_is}
-use Rattle.network.specs.Slots.{view_same, view_other, counts_of, words_of}
+use Rattle.network.specs.Slots.{counts_of, words_of}
+use Rattle.network.proofs.Slots.{view_same, view_other}
 use Rattle.network.specs.Slots as Slots
 use Rattle.network.specs.Ready.{taken_is, given_is}
-use Rattle.network.specs.Links.{counter_sort, Written, nothing, also, written_length, more_other, more_written, one_more, set_there}
-use Rattle.network.specs.Links.{set_other, set_written, set_more}
+use Rattle.network.proofs.Links.{counter_sort, Written, nothing, also, written_length, more_other, more_written, one_more, set_there}
+use Rattle.network.proofs.Links.{set_other, set_written, set_more}
 use Rattle.network.specs.Moving.{put_moves, chosen, chosen_sort, chosen_at, chosen_has, chosen_word, fill_is}
 
 module _ {A : Array} (W : Wired A) (st : List ℕ) (long : word_count A ≤ length st) (S : Sound (net_of A) (counts_of A st)) where

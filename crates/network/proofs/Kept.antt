@@ -6,15 +6,16 @@ use Rattle.meaning.specs.Array.{Array}
 use Rattle.meaning.specs.State.{Taken, Given, index, word_count}
 use Rattle.meaning.specs.Rules.{sound, Memory, apply_all}
 use Rattle.meaning.specs.Rules as Rules
-use Rattle.network.specs.Layout.{layout}
+use Rattle.network.proofs.Places.{layout}
 use Rattle.network.specs.Wiring.{Wired}
 use Rattle.network.specs.Slots.{word_of, word_live}
 use Rattle.network.specs.Decide.{said, says_true}
 use Rattle.network.specs.Ready.{says_ready}
-use Rattle.network.specs.Links.{Written, nothing, also, written_length}
-use Rattle.network.specs.Steps.{step_written}
-use Rattle.network.specs.States.{Off, Port, says_sound, sound_kept}
-use Rattle.network.specs.Runs.{Grants, none, step, Cleared, reached_start, sound_of}
+use Rattle.network.proofs.Links.{Written, nothing, also, written_length}
+use Rattle.network.proofs.Steps.{step_written}
+use Rattle.network.proofs.States.{Off, Port, says_sound, sound_kept}
+use Rattle.network.specs.Runs.{Grants, none, step}
+use Rattle.network.proofs.Runs.{Cleared, reached_start, sound_of}
 
 module _ {A : Array} (W : Wired A) where
   written_then : {st st' st'' : List ℕ} → Written W st st' → Written W st' st'' → Written W st st''

@@ -18,10 +18,10 @@ use Rattle.meaning.specs.Calls.{length_of, state_length, refused_by, started, st
 use Rattle.meaning.specs.Demand3.{Told, granted_by}
 use Rattle.network.specs.Wiring.{Wired}
 use Rattle.network.specs.Parts.{waiting_is}
-use Rattle.network.specs.Links.{written_length}
-use Rattle.network.specs.Steps.{all_waiting, all_length}
-use Rattle.network.specs.Runs.{Cleared}
-use Rattle.network.specs.Kept.{kept, cleared_sound}
+use Rattle.network.proofs.Links.{written_length}
+use Rattle.network.proofs.Steps.{all_waiting, all_length}
+use Rattle.network.proofs.Runs.{Cleared}
+use Rattle.network.proofs.Kept.{kept, cleared_sound}
 use Rattle.network.specs.Calls.{refusal_none, or_else_lem, calls_granted}
 use Rattle.network.specs.Declined.{Passes}
 use Rattle.network.specs.Plain.{Described}

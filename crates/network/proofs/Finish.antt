@@ -12,17 +12,19 @@ use Rattle.meaning.specs.Rules as Rules
 use Rattle.abstract_network.specs.Cases.{Order, less, at_least, order}
 use Rattle.abstract_network.specs.Counters.{fire, all_put, all_get}
 use Rattle.abstract_network.specs.Claims.{Out, done, finish_link, finish_stop}
-use Rattle.network.specs.Layout.{Live, layout}
+use Rattle.network.specs.Layout.{Live}
+use Rattle.network.proofs.Places.{layout}
 use Rattle.network.specs.WordOrder.{words_read, same_words}
 use Rattle.network.specs.Wiring.{net_of, Wired, no_pipe_lem, shape}
-use Rattle.network.specs.Programs.{system_of}
+use Rattle.network.proofs.Programs.{system_of}
 use Rattle.network.specs.Slots.{Slot, sent, taken, given, fired, hand, kept, place, Has, has, view, view_is, slot_of, on, word_slot}
 use Rattle.network.specs.Slots.{no_slot, counts_of}
 use Rattle.network.specs.Decide.{said}
-use Rattle.network.specs.Links.{Written, written_past}
-use Rattle.network.specs.Runs.{Grants, all_done, Cleared, Reached, good_of}
-use Rattle.network.specs.Outcome.{reached_of, says_out}
-use Rattle.network.specs.Kept as Kept
+use Rattle.network.proofs.Links.{Written, written_past}
+use Rattle.network.specs.Runs.{Grants, all_done}
+use Rattle.network.proofs.Runs.{Cleared, Reached, good_of}
+use Rattle.network.proofs.Outcome.{reached_of, says_out}
+use Rattle.network.proofs.Kept as Kept
 
 module _ (A : Array) where
   -- every count is its total, every place, hand and keep 0

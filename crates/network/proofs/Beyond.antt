@@ -18,7 +18,7 @@ use Rattle.network.specs.Wiring.{Wired}
 use Rattle.network.specs.Calls.{call_does}
 use Rattle.network.specs.Declined.{numbers_are, Usable, usable}
 use Rattle.network.specs.Figures.{words_are}
-use Rattle.network.specs.Kept.{written_beyond, kept}
+use Rattle.network.proofs.Kept.{written_beyond, kept}
 
 module _ (l : Limits) (s : List ℕ) where
   abbrev d : Description

@@ -15,8 +15,8 @@ use Rattle.network.specs.Slots.{Slot, taken, given, hand, place, sort, first, se
 use Rattle.network.specs.Slots.{words_of}
 use Rattle.network.specs.Slots as Slots
 use Rattle.network.specs.Ready.{taken_is}
-use Rattle.network.specs.Links.{counter_sort, Written, written_length, more_other, more_written, one_more, set_there, set_other}
-use Rattle.network.specs.Links.{set_written, set_more, oldest_written, oldest_other, oldest_shift}
+use Rattle.network.proofs.Links.{counter_sort, Written, written_length, more_other, more_written, one_more, set_there, set_other}
+use Rattle.network.proofs.Links.{set_written, set_more, oldest_written, oldest_other, oldest_shift}
 use Rattle.network.specs.Moving.{get_moves, chosen, chosen_sort, chosen_at, chosen_has, chosen_word, Spare, fill_is}
 
 module _ {A : Array} (W : Wired A) (st : List ℕ) (long : word_count A ≤ length st) (S : Sound (net_of A) (counts_of A st)) where
