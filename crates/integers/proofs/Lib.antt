@@ -1,0 +1,2 @@
+-- Theorems on which no definition rests.
+pub mod Fill
