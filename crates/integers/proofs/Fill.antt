@@ -14,4 +14,3 @@ fill_at_lem f (suc n) k xs d h l = go (eq-or-lt_of_le (le_of_suc-le-suc h)) (fil
     go : (k ≡ n) ⊎ (k < n) → (k < n → n ≤ length xs → get_or (fill_by f n xs) k d ≡ f k) → get_or (set (fill_by f n xs) n (f n)) k d ≡ f k
     go (inl e) ih = rw e (get_or-set_same (fill_by f n xs) n (f n) d (omega (arith, fill_length f n xs)))
     go (inr m) ih = get_or-set_other (fill_by f n xs) n k (f n) d (λ (e : k ≡ n). omega arith) ∙ ih m (omega arith)
-
