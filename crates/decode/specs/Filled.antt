@@ -4,7 +4,8 @@ use Rattle.std.specs.Prelude.{◌≡◌, refl, Bool, true, false, List, map, ◌
 use Rattle.std.proofs.Common.{sym, ◌∙◌, ap, subst, arith, ltb-true, ltb-false}
 use Rattle.std.proofs.lemmas.List.{length-replicate, get_or-replicate}
 use Rattle.std.proofs.Math.ListN.{get_or-eq_default}
-use Rattle.integers.specs.Fill.{fill_by, fill_at_lem, fill_past}
+use Rattle.integers.specs.Fill.{fill_by, fill_past}
+use Rattle.integers.proofs.Fill.{fill_at_lem}
 use Rattle.meaning.specs.Lists.{numbers}
 use Rattle.lists.specs.Fills.{fill_front}
 

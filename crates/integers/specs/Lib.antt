@@ -8,4 +8,3 @@ pub mod Bounds
 pub mod Words
 pub mod Bytes
 pub mod Fill
-pub mod Examples

@@ -1,11 +1,10 @@
 -- Products and the order on ℤ: monotony, cancelling; parts of equal length one behind the other. Assumes nothing.
-use Rattle.std.specs.Prelude.{◌≡◌, refl, ℕ, zero, suc, ◌+◌, ◌*◌, ◌≤◌, ◌<◌, ℤ, pos, negsuc, neg_ℤ, ◌*ℤ◌, ◌≤ℤ◌, ◌<ℤ◌}
-use Rattle.std.proofs.Common.{sym, ◌∙◌, ap, mul-le-mul_right, arith}
-use Rattle.std.proofs.Math.Nat.{mul-lt-mul_of_pos_left, le_of_mul-le-mul_left, eq_of_mul-eq-mul_left}
+use Rattle.std.specs.Prelude.{◌≡◌, ℕ, suc, ◌+◌, ◌*◌, ◌≤◌, ◌<◌, ℤ, pos, negsuc, ◌*ℤ◌, ◌≤ℤ◌, ◌<ℤ◌}
+use Rattle.std.proofs.Common.{ap, mul-le-mul_right, arith}
+use Rattle.std.proofs.Math.Nat.{mul-lt-mul_of_pos_left, le_of_mul-le-mul_left}
 use Rattle.std.proofs.Math.Decide.{dec_le}
 use Rattle.integers.specs.Differences.{gaps, lt_out}
 use Rattle.integers.specs.Variables.{linear}
-use Rattle.integers.specs.Ring.{ring, quotes, solve_by, given, Ex.below}
 
 -- ---- a product with a factor c > 0 keeps the order
 
@@ -30,25 +29,6 @@ mul_positive (pos n) b h k = go b k
     go : (b : ℤ) → pos 0 <ℤ b → pos 0 <ℤ (pos n *ℤ b)
     go = linear 0 1 _ λ p m. simp gaps (λ k. omega (arith, mul-lt-mul_of_pos_left {k = n} k (omega (arith, lt_out h))))
 mul_positive (negsuc n) b h k = absurd (omega (arith, lt_out h))
-
--- ---- a factor that is not 0 can be cancelled
-
-positive_cancel : (n : ℕ) (a b : ℤ) → pos (suc n) *ℤ a ≡ pos (suc n) *ℤ b → a ≡ b
-positive_cancel n = linear 0 2 _ λ p m. simp gaps (λ e. eq_of_mul-eq-mul_left (suc n) (omega arith) (p 0 + m 1) (p 1 + m 0) (omega arith))
-
-flip : (a b c : ℤ) → c *ℤ a ≡ c *ℤ b → neg_ℤ c *ℤ a ≡ neg_ℤ c *ℤ b
-flip = ring 0 3 _ λ ρ. simp quotes (λ e. solve_by _ _ (given (below 0) e) tt)
-
-pub cancel : (c a b : ℤ) → (c ≡ pos 0 → ⊥) → c *ℤ a ≡ c *ℤ b → a ≡ b
-cancel (pos zero) a b h e = absurd (h refl)
-cancel (pos (suc n)) a b h e = positive_cancel n a b e
-cancel (negsuc n) a b h e = positive_cancel n a b (flip a b (negsuc n) e)
-
-pub cancel_zero : (c a : ℤ) → (c ≡ pos 0 → ⊥) → c *ℤ a ≡ pos 0 → a ≡ pos 0
-cancel_zero c a h e = cancel c a (pos 0) h (e ∙ sym (times_zero c))
-  where
-    times_zero : (c : ℤ) → c *ℤ pos 0 ≡ pos 0
-    times_zero = linear 0 1 _ λ p m. simp gaps (omega arith)
 
 -- ---- parts of equal length
 

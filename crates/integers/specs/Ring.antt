@@ -20,7 +20,7 @@ pub data Ex : Type 0 where
   minus : Ex → Ex
 
 -- `below n` is −(n+1)
-pub value : (ℕ → ℤ) → Ex → ℤ
+unfoldable pub value : (ℕ → ℤ) → Ex → ℤ
 value ρ (var i) = ρ i
 value ρ (plain n) = pos n
 value ρ (below n) = negsuc n
@@ -36,11 +36,11 @@ x ⊖ y = x ⊕ minus y
 pub data Mono : Type 0 where
   mono : ℤ → List ℕ → Mono
 
-product : (ℕ → ℤ) → List ℕ → ℤ
+unfoldable pub product : (ℕ → ℤ) → List ℕ → ℤ
 product ρ [] = pos 1
 product ρ (i ∷ is) = ρ i *ℤ product ρ is
 
-sum : (ℕ → ℤ) → List Mono → ℤ
+unfoldable pub sum : (ℕ → ℤ) → List Mono → ℤ
 sum ρ [] = pos 0
 sum ρ (mono c is ∷ p) = c *ℤ product ρ is +ℤ sum ρ p
 
@@ -66,11 +66,11 @@ abbrev add : List Mono → List Mono → List Mono
 add [] q = q
 add (mono c is ∷ p) q = add_mono c is (add p q)
 
-abbrev mul_mono : ℤ → List ℕ → List Mono → List Mono
+abbrev pub mul_mono : ℤ → List ℕ → List Mono → List Mono
 mul_mono c is [] = []
 mul_mono c is (mono d js ∷ q) = mono (c *ℤ d) (merge is js) ∷ mul_mono c is q
 
-abbrev mul : List Mono → List Mono → List Mono
+abbrev pub mul : List Mono → List Mono → List Mono
 mul [] q = []
 mul (mono c is ∷ p) q = add (mul_mono c is q) (mul p q)
 
@@ -82,7 +82,7 @@ normal (x ⊕ y) = add (normal x) (normal y)
 normal (x ⊗ y) = mul (normal x) (normal y)
 normal (minus x) = mul_mono (negsuc 0) [] (normal x)
 
-abbrev is_zero : ℤ → Bool
+abbrev pub is_zero : ℤ → Bool
 is_zero (pos n) = eqb n 0
 is_zero (negsuc n) = false
 
@@ -151,7 +151,7 @@ zero_add = linear 0 1 _ λ p m. simp gaps (omega arith)
 add_assoc : (a b c : ℤ) → a +ℤ (b +ℤ c) ≡ (a +ℤ b) +ℤ c
 add_assoc = linear 0 3 _ λ p m. simp gaps (omega arith)
 
-add_is : (ρ : ℕ → ℤ) (p q : List Mono) → sum ρ (add p q) ≡ sum ρ p +ℤ sum ρ q
+pub add_is : (ρ : ℕ → ℤ) (p q : List Mono) → sum ρ (add p q) ≡ sum ρ p +ℤ sum ρ q
 unfolding sum
 add_is ρ [] q = zero_add (sum ρ q)
 add_is ρ (mono c is ∷ p) q =
@@ -167,7 +167,7 @@ mul_left = linear 0 3 _ λ p m. simp gaps (omega arith)
 mul_zero : (a : ℤ) → pos 0 ≡ a *ℤ pos 0
 mul_zero = linear 0 1 _ λ p m. simp gaps (omega arith)
 
-mul_mono_is : (ρ : ℕ → ℤ) (c : ℤ) (is : List ℕ) (q : List Mono) → sum ρ (mul_mono c is q) ≡ (c *ℤ product ρ is) *ℤ sum ρ q
+pub mul_mono_is : (ρ : ℕ → ℤ) (c : ℤ) (is : List ℕ) (q : List Mono) → sum ρ (mul_mono c is q) ≡ (c *ℤ product ρ is) *ℤ sum ρ q
 unfolding sum
 mul_mono_is ρ c is [] = mul_zero (c *ℤ product ρ is)
 mul_mono_is ρ c is (mono d js ∷ q) =
@@ -175,63 +175,7 @@ mul_mono_is ρ c is (mono d js ∷ q) =
     ∙ ap (λ (z : ℤ). z +ℤ (c *ℤ product ρ is) *ℤ sum ρ q) (mul_mul c d (product ρ is) (product ρ js))
     ∙ mul_left (c *ℤ product ρ is) (d *ℤ product ρ js) (sum ρ q)
 
-mul_right : (a b c : ℤ) → a *ℤ c +ℤ b *ℤ c ≡ (a +ℤ b) *ℤ c
-mul_right = linear 0 3 _ λ p m. simp gaps (omega arith)
-
-zero_mul : (a : ℤ) → pos 0 ≡ pos 0 *ℤ a
-zero_mul = linear 0 1 _ λ p m. simp gaps (omega arith)
-
-mul_is : (ρ : ℕ → ℤ) (p q : List Mono) → sum ρ (mul p q) ≡ sum ρ p *ℤ sum ρ q
-unfolding sum
-mul_is ρ [] q = zero_mul (sum ρ q)
-mul_is ρ (mono c is ∷ p) q =
-    add_is ρ (mul_mono c is q) (mul p q) ∙ ap₂ ◌+ℤ◌ (mul_mono_is ρ c is q) (mul_is ρ p q)
-    ∙ mul_right (c *ℤ product ρ is) (sum ρ p) (sum ρ q)
-
-one_var : (a : ℤ) → pos 1 *ℤ (a *ℤ pos 1) +ℤ pos 0 ≡ a
-one_var = linear 0 1 _ λ p m. simp gaps (omega arith)
-
-one_number : (a : ℤ) → a *ℤ pos 1 +ℤ pos 0 ≡ a
-one_number = linear 0 1 _ λ p m. simp gaps (omega arith)
-
-minus_one : (a : ℤ) → (negsuc 0 *ℤ pos 1) *ℤ a ≡ neg_ℤ a
-minus_one = linear 0 1 _ λ p m. simp gaps (omega arith)
-
-normal_is : (ρ : ℕ → ℤ) (e : Ex) → sum ρ (normal e) ≡ value ρ e
-unfolding sum product value
-normal_is ρ (var i) = one_var (ρ i)
-normal_is ρ (plain n) = one_number (pos n)
-normal_is ρ (below n) = one_number (negsuc n)
-normal_is ρ (x ⊕ y) = add_is ρ (normal x) (normal y) ∙ ap₂ ◌+ℤ◌ (normal_is ρ x) (normal_is ρ y)
-normal_is ρ (x ⊗ y) = mul_is ρ (normal x) (normal y) ∙ ap₂ ◌*ℤ◌ (normal_is ρ x) (normal_is ρ y)
-normal_is ρ (minus x) = mul_mono_is ρ (negsuc 0) [] (normal x) ∙ minus_one (sum ρ (normal x)) ∙ ap neg_ℤ (normal_is ρ x)
-
-is_zero→eq : (c : ℤ) → T (is_zero c) → c ≡ pos 0
-is_zero→eq (pos n) t = ap pos (eqb→eq n 0 t)
-is_zero→eq (negsuc n) t = absurd t
-
-vanishing : (a : ℤ) → pos 0 *ℤ a +ℤ pos 0 ≡ pos 0
-vanishing = linear 0 1 _ λ p m. simp gaps (omega arith)
-
-vanishes_is : (ρ : ℕ → ℤ) (p : List Mono) → T (vanishes p) → sum ρ p ≡ pos 0
-unfolding sum
-vanishes_is ρ [] t = refl
-vanishes_is ρ (mono c is ∷ p) t = go (is_zero c) (is_zero→eq c) (vanishes_is ρ p) t
-  where
-    go : (b : Bool) → (T b → c ≡ pos 0) → (T (vanishes p) → sum ρ p ≡ pos 0) → T (cond b (vanishes p) false)
-        → c *ℤ product ρ is +ℤ sum ρ p ≡ pos 0
-    go true f g t = ap₂ (λ (x y : ℤ). x *ℤ product ρ is +ℤ y) (f tt) (g t) ∙ vanishing (product ρ is)
-    go false f g t = absurd t
-
 -- ---- solving
-
-equal : (a b : ℤ) → a +ℤ neg_ℤ b ≡ pos 0 → a ≡ b
-equal = linear 0 2 _ λ p m. simp gaps (omega arith)
-
--- two expressions whose difference has the normal form 0 are equal, at any values of the variables
-pub solve : (ρ : ℕ → ℤ) (x y : Ex) → T (vanishes (normal (x ⊖ y))) → value ρ x ≡ value ρ y
-unfolding value
-solve ρ x y t = equal (value ρ x) (value ρ y) (sym (normal_is ρ (x ⊖ y)) ∙ vanishes_is ρ (normal (x ⊖ y)) t)
 
 -- with hypotheses: x − y is a sum of multiples of their differences, as `given (var 4) h` is 0, or `given (var 4) h also given (var 5) k`
 pub record Nil (ρ : ℕ → ℤ) (e : Ex) : Type 0 where
@@ -249,10 +193,6 @@ given {ρ} {y} m h =
 pub ◌also◌ : {ρ : ℕ → ℤ} {x y : Ex} → Nil ρ x → Nil ρ y → Nil ρ (x ⊕ y)
 unfolding value
 h also k = record { eq = ap₂ ◌+ℤ◌ h.eq k.eq }
-
-pub solve_by : {ρ : ℕ → ℤ} {e : Ex} (x y : Ex) → Nil ρ e → T (vanishes (normal ((x ⊖ y) ⊖ e))) → value ρ x ≡ value ρ y
-unfolding value
-solve_by {ρ} {e} x y h t = equal (value ρ x) (value ρ y) (solve ρ (x ⊖ y) e t ∙ h.eq)
 
 -- the same for vectors
 pub solve3 : {u w : V3} → u.x ≡ w.x → u.y ≡ w.y → u.z ≡ w.z → u ≡ w

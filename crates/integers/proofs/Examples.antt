@@ -5,7 +5,8 @@ use Rattle.std.specs.Int.{w32}
 use Rattle.integers.specs.declared.V3.{V3}
 use Rattle.integers.specs.Differences.{gaps, parts, zrules, sum_is, up, Abs}
 use Rattle.integers.specs.Variables.{linear}
-use Rattle.integers.specs.Ring.{ring, quotes, literal, solve, solve3, solve_by, given, ◌also◌, Ex.var, Ex.plain}
+use Rattle.integers.specs.Ring.{ring, quotes, literal, solve3, given, ◌also◌, Ex.var, Ex.plain}
+use Rattle.integers.proofs.Ring.{solve, solve_by}
 use Rattle.integers.specs.Vectors.{dot, cross, scale3, sub3}
 use Rattle.integers.specs.Words.{fits, at, mul, add, box}
 
