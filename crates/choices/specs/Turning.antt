@@ -9,7 +9,8 @@ use Rattle.std.specs.Int.Signed.{lt_z}
 use Rattle.integers.specs.Bounds.{abs_neg}
 use Rattle.integers.specs.Differences.{up}
 use Rattle.integers.specs.Words.{eq_z}
-use Rattle.integers.specs.Vectors.{zero2, neg3, neg2, dot, image, same2, same3, dot_neg}
+use Rattle.integers.specs.Vectors.{zero2, neg3, neg2, dot, image, same2, same3}
+use Rattle.integers.proofs.Vectors.{dot_neg}
 use Rattle.integers.specs.declared.V3.{V3}
 use Rattle.integers.specs.declared.V2.{V2}
 use Rattle.integers.specs.declared.Matrix.{Matrix}

@@ -4,7 +4,8 @@ use Rattle.std.proofs.Common.{sym, ◌∙◌, ap, subst, subst₂, mul-le-mul_ri
 use Rattle.std.specs.Int.{w32}
 use Rattle.integers.specs.Differences.{Abs, gaps, parts, up}
 use Rattle.integers.specs.Variables.{linear}
-use Rattle.integers.specs.Ring.{ring, quotes, solve}
+use Rattle.integers.specs.Ring.{ring, quotes}
+use Rattle.integers.proofs.Ring.{solve}
 use Rattle.integers.specs.Bounds.{Abs-add, Abs-sub, Abs-mul, Abs-wider}
 use Rattle.integers.specs.Words.{bits}
 use Rattle.integers.specs.Vectors.{zero3, dot, same3, image}

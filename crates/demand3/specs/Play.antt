@@ -15,7 +15,7 @@ use Rattle.meaning.specs.Demand3.{CallStep, CallRun, CallReady, CallWindow, Call
 use Rattle.answer_words.specs.declared.Words.{Words}
 use Rattle.answer_words.specs.Words.{words_of, of_answer, of_ran, of_readiness, noted}
 use Rattle.window_copy.specs.Copied.{copied}
-use Rattle.guarantee.specs.Guarantee.{guarantee}
+use Rattle.guarantee.proofs.Guarantee.{guarantee}
 
 -- ---- what is lent
 

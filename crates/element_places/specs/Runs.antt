@@ -5,7 +5,8 @@ use Rattle.std.specs.Int.Signed.{mag}
 use Rattle.std.specs.Int.{w32}
 use Rattle.integers.specs.Differences.{Abs, gaps, parts, zrules, up, le_in, sum_is}
 use Rattle.integers.specs.Variables.{linear}
-use Rattle.integers.specs.Ring.{ring, quotes, solve}
+use Rattle.integers.specs.Ring.{ring, quotes}
+use Rattle.integers.proofs.Ring.{solve}
 use Rattle.integers.specs.Words.{Holds, tower, bits}
 use Rattle.integers.specs.Vectors.{zero2, neg2, image}
 use Rattle.integers.specs.declared.V3.{V3}

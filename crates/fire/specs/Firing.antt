@@ -5,7 +5,8 @@ use Rattle.std.proofs.Common.{sym, ◌∙◌, ap, arith, length-take, drop_of_le
 use Rattle.std.proofs.Common.{ltb-true}
 use Rattle.std.proofs.Math.Numerals.{add-one}
 use Rattle.std.proofs.lemmas.List.{length-map}
-use Rattle.integers.specs.Fill.{fill_by, fill_length, fill_at_lem}
+use Rattle.integers.specs.Fill.{fill_by, fill_length}
+use Rattle.integers.proofs.Fill.{fill_at_lem}
 use Rattle.integers.specs.declared.V3.{V3}
 use Rattle.meaning.specs.declared.Line.{Line}
 use Rattle.meaning.specs.Lists.{every}

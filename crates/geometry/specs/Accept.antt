@@ -8,7 +8,7 @@ use Rattle.std.specs.Int.Signed.{lt_z, lt_z_no}
 use Rattle.integers.specs.Differences.{gaps, eq_out, lt_out}
 use Rattle.integers.specs.Variables.{linear}
 use Rattle.integers.specs.Words.{eq_z}
-use Rattle.integers.specs.Order.{cancel_zero}
+use Rattle.integers.proofs.Order.{cancel_zero}
 use Rattle.integers.specs.Vectors.{zero3, zero2, image, same3}
 use Rattle.integers.specs.declared.V3.{V3}
 use Rattle.integers.specs.declared.V2.{V2}

@@ -11,7 +11,8 @@ use Rattle.std.proofs.lemmas.List.{length-map}
 use Rattle.std.specs.Int.Signed.{lt_z, lt_z_no, <ℤ_irrefl, <ℤ-≤ℤ_trans}
 use Rattle.integers.specs.Differences.{gaps, lt_in}
 use Rattle.integers.specs.Variables.{linear}
-use Rattle.integers.specs.Vectors.{shift3, dot_shift}
+use Rattle.integers.specs.Vectors.{shift3}
+use Rattle.integers.proofs.Vectors.{dot_shift}
 use Rattle.integers.specs.declared.V3.{V3}
 use Rattle.integers.specs.declared.V2.{V2}
 use Rattle.meaning.specs.declared.Nest.{Nest}

@@ -6,11 +6,15 @@ use Rattle.std.proofs.Common.{sym, ◌∙◌, ap, subst₂, arith}
 use Rattle.std.specs.Int.Signed.{lt_z, lt_z_no}
 use Rattle.integers.specs.Differences.{gaps, le_out, lt_out, eq_out}
 use Rattle.integers.specs.Variables.{linear}
-use Rattle.integers.specs.Ring.{ring, quotes, literal, solve, solve3, solve_by, given, ◌also◌, Ex.var, Ex.minus, Ex.plain}
-use Rattle.integers.specs.Order.{mul_reflects, cancel, cancel_zero}
-use Rattle.integers.specs.Vectors.{zero3, sub3, neg3, scale3, shift3, dot, zero2, shift2, image, same2, dot_shift, dot_sub, dot_neg}
-use Rattle.integers.specs.Vectors.{same3, cross, cross_left, cross_right, dot_scale, image_shift, sub_add}
-use Rattle.lattice.specs.Shorten.{shortens}
+use Rattle.integers.specs.Ring.{ring, quotes, literal, solve3, given, ◌also◌, Ex.var, Ex.minus, Ex.plain}
+use Rattle.integers.proofs.Ring.{solve, solve_by}
+use Rattle.integers.specs.Order.{mul_reflects}
+use Rattle.integers.proofs.Order.{cancel, cancel_zero}
+use Rattle.integers.specs.Vectors.{zero3, sub3, neg3, scale3, shift3, dot, zero2, shift2, image, same2}
+use Rattle.integers.proofs.Vectors.{dot_shift, dot_sub, dot_neg}
+use Rattle.integers.specs.Vectors.{same3, cross, sub_add}
+use Rattle.integers.proofs.Vectors.{cross_left, cross_right, dot_scale, image_shift}
+use Rattle.lattice.proofs.Shortening.{shortens}
 use Rattle.lattice.specs.Lattice.{Null, Shortest, Independent, shortest, shortest_neg, no_shorter, NoLonger}
 use Rattle.integers.specs.declared.V3.{V3}
 use Rattle.integers.specs.declared.V2.{V2}

@@ -8,9 +8,11 @@ use Rattle.std.proofs.Math.IntN.{ℤ_discrete}
 use Rattle.integers.specs.Bounds.{abs_neg}
 use Rattle.integers.specs.Differences.{up, gaps, le_out, lt_out, eq_out, le_in, lt_in, Is-eq, Is-add, Is-neg, Is-pos}
 use Rattle.integers.specs.Variables.{linear}
-use Rattle.integers.specs.Ring.{ring, quotes, literal, solve, solve3, solve_by, given, Ex.var}
+use Rattle.integers.specs.Ring.{ring, quotes, literal, solve3, given, Ex.var}
+use Rattle.integers.proofs.Ring.{solve, solve_by}
 use Rattle.integers.specs.Words.{eq_z}
-use Rattle.integers.specs.Order.{mul_less, mul_reflects, mul_positive, cancel}
+use Rattle.integers.specs.Order.{mul_less, mul_reflects, mul_positive}
+use Rattle.integers.proofs.Order.{cancel}
 use Rattle.integers.specs.Vectors.{shift3, zero2, neg2, shift2, same2}
 use Rattle.integers.specs.declared.V3.{V3}
 use Rattle.integers.specs.declared.V2.{V2}

@@ -6,7 +6,8 @@ use Rattle.std.specs.Int.Signed.{lt_z, lt_z_no, <ℤ_irrefl}
 use Rattle.integers.specs.Differences.{gaps, eq_out, lt_in}
 use Rattle.integers.specs.Variables.{linear}
 use Rattle.integers.specs.Order.{mul_positive}
-use Rattle.integers.specs.Vectors.{zero3, neg3, shift3, shift2, image, image_shift}
+use Rattle.integers.specs.Vectors.{zero3, neg3, shift3, shift2, image}
+use Rattle.integers.proofs.Vectors.{image_shift}
 use Rattle.integers.specs.declared.V3.{V3}
 use Rattle.integers.specs.declared.Matrix.{Matrix}
 use Rattle.meaning.specs.declared.Nest.{Nest}

@@ -10,7 +10,8 @@ use Rattle.std.proofs.Math.IntN.{ℤ_discrete}
 use Rattle.std.specs.Int.Signed.{≤ℤ_refl}
 use Rattle.integers.specs.Differences.{gaps, lt_in}
 use Rattle.integers.specs.Variables.{linear}
-use Rattle.integers.specs.Ring.{ring, quotes, solve}
+use Rattle.integers.specs.Ring.{ring, quotes}
+use Rattle.integers.proofs.Ring.{solve}
 use Rattle.integers.specs.Order.{mul_positive}
 use Rattle.integers.specs.Vectors.{zero2, shift2, image, same2}
 use Rattle.integers.specs.declared.V3.{V3}

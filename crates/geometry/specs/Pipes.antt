@@ -8,7 +8,8 @@ use mathlib.Core.List.Memᴰ.{map as in_map}
 use mathlib.Core.List.{List, [], map, reverse, Memᴰ as In}
 use Rattle.std.proofs.lemmas.List.{length-map}
 use Rattle.std.proofs.Math.IntN.{ℤ_discrete}
-use Rattle.integers.specs.Vectors.{zero2, shift2, image, same2, image_shift}
+use Rattle.integers.specs.Vectors.{zero2, shift2, image, same2}
+use Rattle.integers.proofs.Vectors.{image_shift}
 use Rattle.integers.specs.declared.V3.{V3}
 use Rattle.integers.specs.declared.V2.{V2}
 use Rattle.meaning.specs.declared.Nest.{Nest}

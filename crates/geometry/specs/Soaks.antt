@@ -2,7 +2,8 @@
 -- steps inside the box, and firing m uses element soak + m; of a stationary one the process's rank. Assumes an accepted stream.
 use Rattle.std.specs.Prelude.{◌≡◌, refl, ◌⊎◌, not, ℕ, suc, ◌+◌, ◌-◌, ◌≤◌, ◌<◌, T, length, get_or, pos}
 use Rattle.std.proofs.Common.{sym, ◌∙◌, ap, subst, inl, inr, arith}
-use Rattle.integers.specs.Vectors.{zero2, neg2, shift2, image, image_shift}
+use Rattle.integers.specs.Vectors.{zero2, neg2, shift2, image}
+use Rattle.integers.proofs.Vectors.{image_shift}
 use Rattle.integers.specs.declared.V3.{V3}
 use Rattle.integers.specs.declared.V2.{V2}
 use Rattle.meaning.specs.declared.Nest.{Nest}

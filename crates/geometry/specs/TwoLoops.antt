@@ -6,7 +6,8 @@ use Rattle.std.proofs.Common.{sym, ◌∙◌, ap, ap₂, subst, subst₂, inl, i
 use Rattle.std.specs.Int.Signed.{<ℤ_irrefl}
 use Rattle.integers.specs.Differences.{gaps, parts, up}
 use Rattle.integers.specs.Variables.{linear}
-use Rattle.integers.specs.Ring.{ring, quotes, literal, solve, solve3, solve_by, given, Ex.var, Ex.minus}
+use Rattle.integers.specs.Ring.{ring, quotes, literal, solve3, given, Ex.var, Ex.minus}
+use Rattle.integers.proofs.Ring.{solve, solve_by}
 use Rattle.integers.specs.Vectors.{sub3, scale3, dot, cross, image, same2}
 use Rattle.integers.specs.declared.V3.{V3}
 use Rattle.integers.specs.declared.V2.{V2}

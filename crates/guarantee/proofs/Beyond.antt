@@ -5,7 +5,7 @@ use Rattle.meaning.specs.Description.{description_of}
 use Rattle.meaning.specs.Rules.{Memory}
 use Rattle.meaning.specs.Calls.{state_length, step, run}
 use Rattle.meaning.specs.Demand3.{CallStep, CallRun}
-use Rattle.network.specs.Beyond.{call_beyond}
+use Rattle.network.proofs.Beyond.{call_beyond}
 use Rattle.guarantee.proofs.Wired.{wired}
 
 module _ (l : Limits) (s : List ℕ) where

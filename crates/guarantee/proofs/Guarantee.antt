@@ -12,8 +12,8 @@ use Rattle.lists.specs.Members.{yes_any}
 use Rattle.geometry.specs.Descriptions.{laid}
 use Rattle.geometry.specs.PipeOrder.{numbers_all, list_length_lem}
 use Rattle.network.specs.Plain.{Among, Described, streams_are}
-use Rattle.network.specs.Starts.{proper}
-use Rattle.network.specs.Demand as Demand
+use Rattle.network.proofs.Starts.{proper}
+use Rattle.network.proofs.Demand as Demand
 use Rattle.guarantee.proofs.Alike.{serves}
 use Rattle.guarantee.specs.Elements.{touched_among, element_among}
 use Rattle.lists.specs.Tests.{is_true}

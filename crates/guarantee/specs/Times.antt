@@ -5,7 +5,8 @@ use Rattle.std.specs.Prelude.{◌+ℤ◌, ◌*ℤ◌, ◌<ℤ◌}
 use Rattle.std.proofs.Common.{sym, ◌∙◌, ap, ap₂, subst, inl, inr, le_refl, mul-le-mul_right, arith}
 use Rattle.integers.specs.Differences.{gaps, parts, up, lt_out}
 use Rattle.integers.specs.Variables.{linear}
-use Rattle.integers.specs.Vectors.{zero2, dot_shift}
+use Rattle.integers.specs.Vectors.{zero2}
+use Rattle.integers.proofs.Vectors.{dot_shift}
 use Rattle.integers.specs.declared.V2.{V2}
 use Rattle.meaning.specs.declared.Nest.{Nest}
 use Rattle.meaning.specs.declared.Stream.{Stream}

@@ -3,7 +3,8 @@
 use Rattle.std.specs.Prelude.{◌≡◌, ℕ, ◌+◌, ◌*◌, ℤ, pos, negsuc, neg_ℤ, ◌+ℤ◌, ◌-ℤ◌, ◌*ℤ◌, ◌≤ℤ◌}
 use Rattle.std.proofs.Common.{sym, ◌∙◌, ap, arith}
 use Rattle.integers.specs.Differences.{up}
-use Rattle.integers.specs.Ring.{ring, quotes, literal, solve}
+use Rattle.integers.specs.Ring.{ring, quotes, literal}
+use Rattle.integers.proofs.Ring.{solve}
 use Rattle.integers.specs.Vectors.{neg2, shift2}
 use Rattle.integers.specs.declared.V2.{V2}
 use Rattle.meaning.specs.Loops.{size}

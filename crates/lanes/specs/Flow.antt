@@ -3,7 +3,8 @@ use Rattle.std.specs.Prelude.{◌≡◌, not, List, ℕ, ◌+◌, ◌≤◌, ◌
 use Rattle.std.proofs.Common.{sym, ◌∙◌, ap, ap₂, subst, subst₂, arith}
 use Rattle.integers.specs.Differences.{Abs, zrules}
 use Rattle.integers.specs.Bounds.{Abs-wider, Abs-neg}
-use Rattle.integers.specs.Ring.{ring, quotes, solve}
+use Rattle.integers.specs.Ring.{ring, quotes}
+use Rattle.integers.proofs.Ring.{solve}
 use Rattle.integers.specs.Vectors.{zero2, neg2, shift2}
 use Rattle.integers.specs.declared.V2.{V2}
 use Rattle.meaning.specs.declared.Nest.{Nest}

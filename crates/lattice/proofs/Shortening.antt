@@ -4,7 +4,7 @@ use Rattle.std.proofs.Common.{sym, ◌∙◌, ap}
 use Rattle.std.proofs.Math.IntN.{ℤ_discrete}
 use Rattle.integers.specs.declared.V3.{V3}
 use Rattle.integers.specs.Vectors.{zero3, scale3, same3}
-use Rattle.integers.specs.Order.{cancel}
+use Rattle.integers.proofs.Order.{cancel}
 use Rattle.lattice.specs.declared.Short.{Short}
 use Rattle.lattice.specs.Gcd.{gcd_of, euclid}
 use Rattle.lattice.specs.Shorten.{Shortens, divisor_of, over, shortened, divides_whole, divisor_divides, divisor_greatest, divisor_is}

@@ -10,9 +10,11 @@ use Rattle.integers.specs.declared.V2.{V2}
 use Rattle.integers.specs.declared.Matrix.{Matrix}
 use Rattle.integers.specs.Differences.{gaps}
 use Rattle.integers.specs.Variables.{linear}
-use Rattle.integers.specs.Ring.{ring, quotes, literal, solve, solve3, solve_by, given, ◌also◌, Ex.var, Ex.minus, Ex.plain, Ex.◌⊗◌}
-use Rattle.integers.specs.Order.{cancel, cancel_zero}
-use Rattle.integers.specs.Vectors.{zero3, sub3, scale3, shift3, shift2, dot, cross, image, cross_scale, cross_cross, image_shift, same2}
+use Rattle.integers.specs.Ring.{ring, quotes, literal, solve3, given, ◌also◌, Ex.var, Ex.minus, Ex.plain, Ex.◌⊗◌}
+use Rattle.integers.proofs.Ring.{solve, solve_by}
+use Rattle.integers.proofs.Order.{cancel, cancel_zero}
+use Rattle.integers.specs.Vectors.{zero3, sub3, scale3, shift3, shift2, dot, cross, image, same2}
+use Rattle.integers.proofs.Vectors.{cross_scale, cross_cross, image_shift}
 use Rattle.lattice.specs.declared.Short.{Short}
 use Rattle.lattice.specs.Shorten.{Divides, Shortens, over, shortened, divisor_zero, exact, divides_whole, whole_divides}
 use Rattle.lattice.specs.Shorten.{divides_times, Bezout3, shortened_one}

@@ -3,7 +3,8 @@ use Rattle.std.specs.Prelude.{◌≡◌, refl, ℕ, zero, suc, ◌/◌, ◌%◌,
 use Rattle.std.proofs.Common.{◌∙◌, ap, ap₂, div-add-mod', mod-lt, le_refl, arith}
 use Rattle.std.specs.Int.{◌∣◌}
 use Rattle.std.proofs.Math.Nat.{dvd_refl, dvd-zero, dvd-mod_iff}
-use Rattle.integers.specs.Ring.{ring, quotes, literal, solve, solve_by, given, Ex.var, Ex.minus}
+use Rattle.integers.specs.Ring.{ring, quotes, literal, given, Ex.var, Ex.minus}
+use Rattle.integers.proofs.Ring.{solve, solve_by}
 
 -- Euclid's rule, at most f times
 unfoldable pub euclid : ℕ → ℕ → ℕ → ℕ

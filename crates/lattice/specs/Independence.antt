@@ -4,8 +4,10 @@ use Rattle.std.proofs.Common.{ap, arith}
 use Rattle.std.proofs.Math.IntN.{ℤ_discrete}
 use Rattle.integers.specs.declared.V3.{V3}
 use Rattle.integers.specs.Differences.{eq_out}
-use Rattle.integers.specs.Ring.{ring, quotes, literal, solve3, solve_by, given, ◌also◌, Ex.var, Ex.minus, Ex.plain}
-use Rattle.integers.specs.Vectors.{zero3, add3, scale3, cross, cancel3}
+use Rattle.integers.specs.Ring.{ring, quotes, literal, solve3, given, ◌also◌, Ex.var, Ex.minus, Ex.plain}
+use Rattle.integers.proofs.Ring.{solve_by}
+use Rattle.integers.specs.Vectors.{zero3, add3, scale3, cross}
+use Rattle.integers.proofs.Vectors.{cancel3}
 use Rattle.lattice.specs.Lattice.{Independent}
 
 -- a p + b q

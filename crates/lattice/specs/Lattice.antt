@@ -3,11 +3,13 @@
 use Rattle.std.specs.Prelude.{◌≡◌, refl, ℕ, zero, suc, ◌*◌, ◌≤◌, ℤ, pos, negsuc, neg_ℤ, nat_abs, ◌-ℤ◌, ◌*ℤ◌}
 use Rattle.std.proofs.Common.{sym, ◌∙◌, ap, arith}
 use Rattle.integers.specs.declared.V3.{V3}
-use Rattle.integers.specs.Ring.{ring, quotes, literal, solve, solve3, solve_by, given, ◌also◌, Ex.var, Ex.minus}
-use Rattle.integers.specs.Vectors.{zero3, scale3, sub3, neg3, dot, cross, dot_scale, dot_neg, cross_left, cross_right, cross_scale}
-use Rattle.integers.specs.Vectors.{cross_cross, cancel3}
+use Rattle.integers.specs.Ring.{ring, quotes, literal, solve3, given, ◌also◌, Ex.var, Ex.minus}
+use Rattle.integers.proofs.Ring.{solve, solve_by}
+use Rattle.integers.specs.Vectors.{zero3, scale3, sub3, neg3, dot, cross}
+use Rattle.integers.proofs.Vectors.{dot_scale, dot_neg, cross_left, cross_right, cross_scale}
+use Rattle.integers.proofs.Vectors.{cross_cross, cancel3}
 use Rattle.integers.specs.Bounds.{abs_mul}
-use Rattle.integers.specs.Order.{cancel_zero}
+use Rattle.integers.proofs.Order.{cancel_zero}
 use Rattle.lattice.specs.declared.Short.{Short}
 use Rattle.lattice.specs.Shorten.{Shortens, divisor_zero, Bezout3, shortened_one}
 

@@ -7,10 +7,12 @@ use Rattle.std.proofs.Math.Nat.{mul-div_cancel', dvd_trans, dvd-mul_right, dvd_a
 use Rattle.std.proofs.Math.Nat.{eq-zero_of_zero-dvd, eq-one_of_dvd-one}
 use Rattle.std.specs.Int.Signed.{quot_z}
 use Rattle.integers.specs.declared.V3.{V3}
-use Rattle.integers.specs.Ring.{ring, quotes, literal, solve, solve_by, given, Ex.plain, Ex.minus}
+use Rattle.integers.specs.Ring.{ring, quotes, literal, given, Ex.plain, Ex.minus}
+use Rattle.integers.proofs.Ring.{solve, solve_by}
 use Rattle.integers.specs.Bounds.{abs_mul}
-use Rattle.integers.specs.Vectors.{zero3, scale3, dot, dot_scale, same3}
-use Rattle.integers.specs.Order.{cancel}
+use Rattle.integers.specs.Vectors.{zero3, scale3, dot, same3}
+use Rattle.integers.proofs.Vectors.{dot_scale}
+use Rattle.integers.proofs.Order.{cancel}
 use Rattle.lattice.specs.declared.Short.{Short}
 use Rattle.lattice.specs.Gcd.{gcd_of, gcd_greatest, bezout}
 

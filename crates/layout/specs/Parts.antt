@@ -3,7 +3,8 @@ use Rattle.std.specs.Prelude.{◌≡◌, List, ◌++◌, ℕ, ◌+◌, ◌-◌, 
 use Rattle.std.proofs.Common.{sym, ◌∙◌, ap, arith, length-drop, length-take-le, get_or-take, get_or-drop, get_or-append-add}
 use Rattle.std.proofs.Math.ListN.{get_or-append}
 use borrow.Rule.Slice.PartMut.{put_mid, mid_of, post_of, same_len_mid}
-use Rattle.integers.specs.Fill.{fill_by, fill_length, fill_at_lem}
+use Rattle.integers.specs.Fill.{fill_by, fill_length}
+use Rattle.integers.proofs.Fill.{fill_at_lem}
 
 module _ {A : Type 0} (a k : ℕ) (xs ys : List A) (d : A) (h : a ≤ length xs) where
   front : length (take a xs) ≡ a

@@ -6,7 +6,7 @@ use Rattle.meaning.specs.State.{word_count}
 use Rattle.meaning.specs.Rules.{Step}
 use Rattle.abstract_network.specs.Counters.{put, get, fire}
 use Rattle.abstract_network.specs.Counters as Abstract
-use Rattle.network.specs.Layout.{layout}
+use Rattle.network.proofs.Places.{layout}
 use Rattle.network.specs.Wiring.{Wired, stop_pipe, has_port_lem, place_at}
 use Rattle.network.specs.Slots.{Slot, sent, taken, given, fired, hand, kept, place, Has, slot_word, word_live}
 use Rattle.network.specs.Slots as Slots

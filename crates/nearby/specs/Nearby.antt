@@ -8,14 +8,14 @@ use Rattle.meaning.specs.Rules.{process_on, stream_on, put_in, taken_out, sound,
 use Rattle.meaning.specs.Rules.{apply}
 use Rattle.abstract_network.specs.Counters.{put, get, fire, put≢fire, get≢fire}
 use Rattle.abstract_network.specs.Counters as Abstract
-use Rattle.network.specs.Layout.{layout}
+use Rattle.network.proofs.Places.{layout}
 use Rattle.network.specs.Wiring.{net_of, Wired, stop_pipe, has_port_lem, port_is, place_at}
 use Rattle.network.specs.Slots.{Has, word_of, word_live}
 use Rattle.network.specs.Slots as Slots
 use Rattle.network.specs.Decide.{Says, holds, fails, said}
 use Rattle.network.specs.Ready.{step_of, There, says_ready}
-use Rattle.network.specs.Steps.{step_more}
-use Rattle.network.specs.States.{says_sound, sound_kept}
+use Rattle.network.proofs.Steps.{step_more}
+use Rattle.network.proofs.States.{says_sound, sound_kept}
 use Rattle.nearby.specs.Looks.{Looks, self, put_get, get_put, offer_get, offer_fire, hand_put, use_get, use_put, guard_same}
 
 -- ---- the words and the steps near a step

@@ -18,6 +18,7 @@ use Rattle.abstract_network.specs.Values.{plain}
 use Rattle.abstract_network.specs.System.{System}
 use Rattle.abstract_network.specs.Claims.{Out, stretch, stretch_rest, not_ready}
 use Rattle.abstract_network.specs.Claims as Claims
+use Rattle.abstract_network.proofs.Claims as Claimed
 use Rattle.network.specs.Count.{step_sum, totals, totals_add, granted_most, out_granted, granted_out}
 use Rattle.network.specs.Wiring.{net_of, element_at, Wired, stop_pipe, element_pipe, port_is}
 use Rattle.network.specs.Programs.{program_of}
@@ -162,7 +163,7 @@ module _ {A : Array} (W : Wired A) where
             where
               at : Order (c (get q (stops_on A q))) (elements_on A q) → c (get q (stops_on A q)) ≡ elements_on A q
               at (less m) =
-                  let g = Claims.ready X (good_of W values reached_of) q m in
+                  let g = Claimed.ready X (good_of W values reached_of) q m in
                   absurd (let i = guard_ready M.state (sound_of W values reached_of) g.0 g.1 in
                   let z : ◌≡◌ {A = ℕ} 0 1 = cc in omega arith)
               at (at_least m) = omega (arith, (sound_of W values reached_of).gets q (stops_on A q) (le_refl (stops_on A q)))

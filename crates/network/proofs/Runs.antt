@@ -18,7 +18,8 @@ use Rattle.abstract_network.specs.Counters.{get, Counts, Guard, OneMore, put≢g
 use Rattle.abstract_network.specs.Words.{Words}
 use Rattle.abstract_network.specs.Sound.{Sound, inv_sound}
 use Rattle.abstract_network.specs.Good.{Good}
-use Rattle.abstract_network.specs.Claims.{Reach, start, more, reach_good}
+use Rattle.abstract_network.specs.Claims.{Reach, start, more}
+use Rattle.abstract_network.proofs.Claims.{reach_good}
 use Rattle.network.proofs.Places.{layout}
 use Rattle.network.specs.Wiring.{net_of, Wired, has_port_lem, place_at}
 use Rattle.network.proofs.Programs.{system_of}

@@ -16,7 +16,8 @@ use Rattle.meaning.specs.Rules.{Memory, ready, apply}
 use Rattle.meaning.specs.Rules as Rules
 use Rattle.abstract_network.specs.Cases.{Order, less, at_least, order}
 use Rattle.abstract_network.specs.Counters.{put, get, fire}
-use Rattle.abstract_network.specs.Sound.{Balance, Sound, sound_step}
+use Rattle.abstract_network.specs.Sound.{Balance, Sound}
+use Rattle.abstract_network.proofs.Sound.{sound_step}
 use Rattle.network.specs.Wiring.{kind_of, net_of, Wired, stop_pipe, has_port_lem, place_at}
 use Rattle.network.specs.Slots.{sent, taken, given, fired, Has, slot_of, no_slot, view_none, counts_of}
 use Rattle.network.specs.Decide.{Says, said, says_true, says_and, says_then, says_as, says_le, says_every, says_balance}

@@ -14,7 +14,8 @@ use Rattle.abstract_network.specs.Words.{Words}
 use Rattle.abstract_network.specs.Due.{Occurs, ready_occurs}
 use Rattle.abstract_network.specs.System.{System}
 use Rattle.abstract_network.specs.Good.{moves, fires}
-use Rattle.abstract_network.specs.Claims.{Reach, start, more, reach_good, Out, done}
+use Rattle.abstract_network.specs.Claims.{Reach, start, more, Out, done}
+use Rattle.abstract_network.proofs.Claims.{reach_good}
 
 module _ (N : Net) where
   open N use {stops, elements, count}

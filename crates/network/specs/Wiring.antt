@@ -17,7 +17,8 @@ use Rattle.abstract_network.specs.Ranks.{Next, level, rise, Ranked, rank_keep}
 use Rattle.abstract_network.specs.Firing.{Lined}
 use Rattle.abstract_network.specs.Due.{Laid}
 use Rattle.abstract_network.specs.Due as Due
-use Rattle.abstract_network.specs.Clock.{Rest, null, holds, Move, runs, Timing, none, clock}
+use Rattle.abstract_network.specs.Clock.{Rest, null, holds, Move, runs, Timing, none}
+use Rattle.abstract_network.proofs.Clock.{clock}
 use Rattle.abstract_network.specs.Clock as Clock
 use Rattle.abstract_network.specs.Turns.{Before}
 

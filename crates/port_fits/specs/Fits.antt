@@ -17,7 +17,7 @@ use Rattle.meaning.specs.Calls.{length_of, state_length}
 use Rattle.lists.specs.Tests.{position_most}
 use Rattle.geometry.specs.Descriptions.{Laid, laid}
 use Rattle.geometry.specs.Arrays.{stream_at}
-use Rattle.guarantee.specs.Wired.{wired}
+use Rattle.guarantee.proofs.Wired.{wired}
 use Rattle.addresses.specs.Through.{point_of, on_is}
 use Rattle.addresses.specs.Ports.{soak_is, elements_is}
 use Rattle.addresses.specs.Indices.{stream_count_lem, word_count_lem}

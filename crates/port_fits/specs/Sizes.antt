@@ -14,7 +14,7 @@ use Rattle.geometry.specs.Descriptions.{laid}
 use Rattle.geometry.specs.Arrays.{pipe_count_lem}
 use Rattle.geometry.specs.PipeOrder.{list_length_lem}
 use Rattle.network.specs.Wiring.{Wired, stop_pipe}
-use Rattle.guarantee.specs.Wired.{wired}
+use Rattle.guarantee.proofs.Wired.{wired}
 use Rattle.addresses.specs.Indices.{process_count_lem, stream_count_lem, word_count_lem}
 use Rattle.survey.specs.StateWords.{process_words_lem}
 use Rattle.figures.specs.Shares.{Room, totals_over, Described, described, totals_room, totals_all, elements_most_lem}

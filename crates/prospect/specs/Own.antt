@@ -3,7 +3,8 @@ use Rattle.std.specs.Prelude.{◌≡◌, refl, Bool, true, false, not, ◌≤◌
 use Rattle.std.proofs.Common.{sym, ◌∙◌, ap, subst}
 use Rattle.integers.specs.Words.{eq_z, eq_z→eq}
 use Rattle.integers.specs.Bounds.{Abs-wider}
-use Rattle.integers.specs.Ring.{ring, quotes, literal, solve}
+use Rattle.integers.specs.Ring.{ring, quotes, literal}
+use Rattle.integers.proofs.Ring.{solve}
 use Rattle.integers.specs.Vectors.{zero3, dot, same3}
 use Rattle.integers.specs.declared.V3.{V3}
 use Rattle.meaning.specs.declared.Nest.{Nest}

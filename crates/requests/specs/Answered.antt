@@ -14,7 +14,7 @@ use Rattle.meaning.specs.Conditions.{Meets, Condition, Asks, conditions, FirstFa
 use Rattle.meaning.specs.Alike.{AnsweredAlike, DeclinedBy}
 use Rattle.network.specs.Declined.{declined}
 use Rattle.guarantee.specs.Acceptance.{meets_of, of_meets, accepted_exactly, refused_exactly}
-use Rattle.guarantee.specs.Demand1.{demand_one}
+use Rattle.guarantee.proofs.Demand1.{demand_one}
 use Rattle.guarantee.specs.Alike.{same_refusal}
 
 -- ---- Accept's answer, with the conditions that it stands for

@@ -28,7 +28,7 @@ use Rattle.meaning.specs.BenchBoard.{former_accept, OnBench, TheBenchBoard}
 use Rattle.geometry.specs.Descriptions.{walk_passes, walk_tests_lem}
 use Rattle.geometry.specs.UpTo.{up_to_lem}
 use Rattle.network.specs.Declined.{declined}
-use Rattle.guarantee.specs.Demand1.{demand_one}
+use Rattle.guarantee.proofs.Demand1.{demand_one}
 use Rattle.guarantee.specs.Acceptance.{accepted_not_refused, refused_exactly}
 use Rattle.guarantee.specs.Alike.{same_refusal}
 

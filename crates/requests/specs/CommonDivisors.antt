@@ -14,10 +14,12 @@ use Rattle.integers.specs.declared.V2.{V2}
 use Rattle.integers.specs.declared.Matrix.{Matrix}
 use Rattle.integers.specs.Bounds.{abs_neg}
 use Rattle.integers.specs.Vectors.{zero2, shift3}
-use Rattle.lattice.specs.Shorten.{Divides, Shortens, shortens}
+use Rattle.lattice.specs.Shorten.{Divides, Shortens}
+use Rattle.lattice.proofs.Shortening.{shortens}
 use Rattle.lattice.specs.Lattice.{Independent, divisor_not}
 use Rattle.lattice.specs.Independence.{trivial_only}
-use Rattle.lattice.specs.Values.{Value, minors_with, values, apart}
+use Rattle.lattice.specs.Values.{Value, minors_with}
+use Rattle.lattice.proofs.Values.{values, apart}
 use Rattle.meaning.specs.declared.Limits.{Limits}
 use Rattle.meaning.specs.declared.Stream.{Stream}
 use Rattle.meaning.specs.declared.Row.{Row}
@@ -35,7 +37,7 @@ use Rattle.geometry.specs.TwoLoops.{Flat, planar, flat_stream, flat_value, flat_
 use Rattle.geometry.specs.Divisors.{in_use, past_use}
 use Rattle.guarantee.specs.NestConditions.{line_found}
 use Rattle.guarantee.specs.Acceptance.{accepted_not_refused, streams_length}
-use Rattle.guarantee.specs.Demand1.{demand_one}
+use Rattle.guarantee.proofs.Demand1.{demand_one}
 use Rattle.requests.specs.BodyLines.{stream_at}
 use Rattle.requests.specs.RunsLoops.{accepted_meets}
 use Rattle.requests.specs.Outermost.{table_outermost}

@@ -15,7 +15,7 @@ use Rattle.meaning.specs.Generator.{round, after, before, fill}
 use Rattle.meaning.specs.GeneratedLoad.{Seed, place_of, Fills}
 use Rattle.lists.specs.Rows.{length_numbers, get_d_first}
 use Rattle.generated.specs.Rounds.{never_meet, stays, before_after}
-use Rattle.guarantee.specs.Demand1.{fill_beyond}
+use Rattle.guarantee.proofs.Demand1.{fill_beyond}
 
 -- lists that are the same from place n on
 pub past_same : {n : ℕ} (xs ys : List ℕ) → drop n xs ≡ drop n ys → (k : ℕ) → n ≤ k → get_or xs k 0 ≡ get_or ys k 0

@@ -34,7 +34,7 @@ use Rattle.network.specs.Decide.{Says.fails}
 use Rattle.guarantee.specs.Refusals.{Refuses, Refuses.met, Refuses.broken}
 use Rattle.guarantee.specs.WordConditions.{refuses2, parts_fit}
 use Rattle.guarantee.specs.Acceptance.{tries, refused_exactly}
-use Rattle.guarantee.specs.Demand1.{make_beyond}
+use Rattle.guarantee.proofs.Demand1.{make_beyond}
 use Rattle.requests.specs.Dropped.{Held, dropped}
 use Rattle.requests.specs.Fills.{past_same}
 

@@ -12,10 +12,10 @@ use Rattle.meaning.specs.Calls.{length_of, start, result, Written, plain_run}
 use Rattle.meaning.specs.Conditions.{Meets}
 use Rattle.meaning.specs.Demand3.{Told, memory_after, granted_by, all_received}
 use Rattle.meaning.specs.Leaves.{LoopsLeave, Words, RunsLoops}
-use Rattle.network.specs.Starts.{proper}
+use Rattle.network.proofs.Starts.{proper}
 use Rattle.guarantee.specs.Acceptance.{accepted_not_refused, accepted_exactly}
 use Rattle.guarantee.specs.Demand2.{plain_done}
-use Rattle.guarantee.specs.Guarantee.{guarantee}
+use Rattle.guarantee.proofs.Guarantee.{guarantee}
 use Rattle.requests.specs.BodyLines.{allowed}
 use Rattle.requests.specs.PlainLoops.{loops_exactly}
 

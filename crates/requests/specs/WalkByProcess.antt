@@ -21,7 +21,7 @@ use Rattle.geometry.specs.Processes.{Layout}
 use Rattle.geometry.specs.Descriptions.{walk_passes, walk_layout}
 use Rattle.geometry.specs.Walk.{whole_walk, any_on_walk}
 use Rattle.guarantee.specs.Acceptance.{accepted_not_refused}
-use Rattle.guarantee.specs.Demand1.{demand_one}
+use Rattle.guarantee.proofs.Demand1.{demand_one}
 
 -- ---- the check along the walk
 

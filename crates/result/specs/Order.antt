@@ -2,7 +2,8 @@
 use Rattle.std.specs.Prelude.{◌≡◌, List, map, ℕ, ◌≤◌, ◌<◌, length, get_or}
 use Rattle.std.proofs.Common.{sym, ◌∙◌, ap, zero-add, arith, ext_get_or}
 use Rattle.std.proofs.lemmas.List.{length-map}
-use Rattle.integers.specs.Fill.{fill_by, fill_length, fill_at_lem}
+use Rattle.integers.specs.Fill.{fill_by, fill_length}
+use Rattle.integers.proofs.Fill.{fill_at_lem}
 use Rattle.meaning.specs.declared.Description.{Description}
 use Rattle.meaning.specs.Lists.{numbers}
 use Rattle.meaning.specs.Calls.{length_of}

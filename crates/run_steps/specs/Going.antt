@@ -9,10 +9,10 @@ use Rattle.meaning.specs.State.{word_count}
 use Rattle.meaning.specs.Rules.{Step, Send, Take, Fire, Give, Receive, Memory, ready, apply}
 use Rattle.network.specs.Ready.{There, says_ready}
 use Rattle.network.specs.Decide.{said}
-use Rattle.network.specs.Steps.{waiting_same, received_length, step_length}
-use Rattle.network.specs.States.{says_sound, sound_kept}
+use Rattle.network.proofs.Steps.{waiting_same, received_length, step_length}
+use Rattle.network.proofs.States.{says_sound, sound_kept}
 use Rattle.network.specs.Wiring.{Wired}
-use Rattle.guarantee.specs.Wired.{wired}
+use Rattle.guarantee.proofs.Wired.{wired}
 use Rattle.addresses.specs.Indices.{word_count_lem}
 use Rattle.lists.specs.Tests.{both_true}
 use Rattle.port_table.specs.declared.Size.{Size}

@@ -18,8 +18,8 @@ use Rattle.step_rules.specs.Steps.{program_of}
 use Rattle.step_rules.specs.Fits.{Programmed, Inside}
 use Rattle.step_rules.specs.Meaning.{Stands, can_is}
 use Rattle.step_order.specs.Ranks.{Sized, rank_count, name_at, step_at, steps_most}
-use Rattle.step_order.specs.Names.{name_inside}
-use Rattle.step_order.specs.Order.{lowest_some, lowest_none, any_ready_lem}
+use Rattle.step_order.proofs.Names.{name_inside}
+use Rattle.step_order.proofs.Order.{lowest_some, lowest_none, any_ready_lem}
 use Rattle.wakeups.specs.Wakeups.{can_at, flag_at, WakeupsOf}
 use Rattle.opening.specs.Opening.{Grounds, grounds, Opened}
 use Rattle.opening.specs.Opened.{stands, fits}

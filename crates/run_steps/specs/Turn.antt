@@ -8,7 +8,7 @@ use Rattle.meaning.specs.Description.{description_of}
 use Rattle.meaning.specs.Array.{Array, array_of}
 use Rattle.meaning.specs.Limits.{gauge_limits, state_words_most}
 use Rattle.meaning.specs.Rules.{Memory, ready, apply}
-use Rattle.guarantee.specs.Wired.{wired}
+use Rattle.guarantee.proofs.Wired.{wired}
 use Rattle.port_table.specs.declared.Size.{Size}
 use Rattle.port_table.specs.PortsOf.{RowsFit, PartsFit}
 use Rattle.vectors.specs.Within.{Within}

@@ -11,7 +11,8 @@ use Rattle.integers.specs.declared.V2.{V2}
 use Rattle.integers.specs.declared.V3.{V3}
 use Rattle.integers.specs.declared.Matrix.{Matrix}
 use Rattle.lattice.specs.declared.Short.{Short}
-use Rattle.lattice.specs.Shorten.{shortens, divisor_zero}
+use Rattle.lattice.specs.Shorten.{divisor_zero}
+use Rattle.lattice.proofs.Shortening.{shortens}
 use Rattle.meaning.specs.declared.Nest.{Nest}
 use Rattle.meaning.specs.Loops.{step_of, line_of, unshortened, divisor}
 use Rattle.meaning.specs.Pipes.{backward}

@@ -3,7 +3,8 @@
 use Rattle.std.specs.Prelude.{◌≡◌, Bool, true, false, not, cond, List, ℕ, ◌+◌, ◌^◌, ◌≤◌, ◌<◌, eqb, length, get_or, set, take}
 use Rattle.std.proofs.Common.{sym, ◌∙◌, ap, subst, arith, length-set, get_or-set_same, get_or-set_other, eq-eqb, ne_eqb}
 use Rattle.std.proofs.Math.Decide.{ℕ_discrete}
-use Rattle.integers.specs.Fill.{fill_by, fill_length, fill_at_lem}
+use Rattle.integers.specs.Fill.{fill_by, fill_length}
+use Rattle.integers.proofs.Fill.{fill_at_lem}
 use Rattle.sweeps.specs.Sweep.{Listed, visits, run, sweep, sweep_at, taken_below}
 use Rattle.sweeps.specs.Met.{count_in, end_in, more, met, run_more, run_met}
 

@@ -3,7 +3,8 @@ use Rattle.std.specs.Prelude.{◌≡◌, ◌⊎◌, List, ℕ, ◌+◌, ◌*◌,
 use Rattle.std.proofs.Common.{◌∙◌, ap, inl, inr, zero-add, eq-or-lt_of_le, mul-le-mul_right, arith}
 use Rattle.std.proofs.lemmas.List.{length-replicate}
 use borrow.Rule.Slice.PartMut.{put_mid}
-use Rattle.integers.specs.Fill.{fill_by, fill_at_lem, fill_past}
+use Rattle.integers.specs.Fill.{fill_by, fill_past}
+use Rattle.integers.proofs.Fill.{fill_at_lem}
 use Rattle.integers.specs.declared.V2.{V2}
 use Rattle.meaning.specs.declared.Nest.{Nest}
 use Rattle.meaning.specs.declared.Stream.{Stream}

@@ -14,12 +14,14 @@ use Rattle.port_table.specs.PortsOf.{port_at, end_at}
 use Rattle.step_rules.specs.Meaning.{Stands, can_is}
 use Rattle.network.specs.Wiring.{Wired, Course, moving, stationary}
 use Rattle.network.specs.Ready.{There}
-use Rattle.network.specs.States.{sound_kept}
+use Rattle.network.proofs.States.{sound_kept}
 use Rattle.nearby.specs.Nearby.{counter, foreign, Moves, sends, takes, gives, receives, counter_below, stays}
 use Rattle.nearby.specs.Apart.{foreign_below, foreign_apart}
 use Rattle.step_order.specs.Ranks.{rank_count, named, name_at, step_at}
-use Rattle.step_order.specs.Names.{send_name, take_name, fire_name, give_name, receive_name, name_inside, rank_apart}
-use Rattle.step_order.specs.Names.{Ranked, send, take, fire, give, receive, ranked}
+use Rattle.step_order.specs.Names.{send_name, take_name, fire_name, give_name, receive_name}
+use Rattle.step_order.proofs.Names.{name_inside, rank_apart}
+use Rattle.step_order.specs.Names.{Ranked, send, take, fire, give, receive}
+use Rattle.step_order.proofs.Names.{ranked}
 use Rattle.wakeups.specs.Wakeups.{none, foreign_by, counter_by, can_at, Apart, WakeupsOf, Local}
 
 -- ---- the rows of a wired array

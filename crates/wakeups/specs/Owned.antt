@@ -6,8 +6,10 @@ use Rattle.port_table.specs.declared.Size.{Size}
 use Rattle.nearby.specs.Nearby.{Own, itself, take_give, take_fire, give_take, give_fire, fire_give}
 use Rattle.step_order.specs.declared.Name.{Name}
 use Rattle.step_order.specs.Ranks.{rank_count, named, name_at, step_at, take_rank, fire_rank, give_rank}
-use Rattle.step_order.specs.Names.{send_name, take_name, fire_name, give_name, receive_name, take_in, fire_in, give_in, rank_apart}
-use Rattle.step_order.specs.Names.{Ranked, send, take, fire, give, receive, ranked}
+use Rattle.step_order.specs.Names.{send_name, take_name, fire_name, give_name, receive_name, take_in, fire_in, give_in}
+use Rattle.step_order.proofs.Names.{rank_apart}
+use Rattle.step_order.specs.Names.{Ranked, send, take, fire, give, receive}
+use Rattle.step_order.proofs.Names.{ranked}
 use Rattle.wakeups.specs.Renewed.{OneRank, GiveRank, PortRank, OwnRank}
 
 -- the own steps of a step

@@ -2,7 +2,8 @@
 use mathlib.Core.Path.{ap, ◌∙◌, subst, sym}
 use borrow.Author.Rules.{rules}
 use Rattle.lattice.specs.declared.Short.{Short}
-use Rattle.lattice.specs.Shorten.{divisor_of, shortened, shortens_one}
+use Rattle.lattice.specs.Shorten.{divisor_of, shortened}
+use Rattle.lattice.proofs.Shortening.{shortens_one}
 use Rattle.vectors.specs.Within.{Within, wider, over_within}
 use Rattle.vectors.proofs.short_of.Goals as goal
 

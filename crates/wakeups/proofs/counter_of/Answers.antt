@@ -1,5 +1,5 @@
 -- `wakeups::counter_of` meets its contract: by the name of the step. Assumes nothing.
-use Rattle.step_order.specs.Names.{name_inside}
+use Rattle.step_order.proofs.Names.{name_inside}
 use Rattle.wakeups.proofs.counter_of.Goals as goal
 
 pub counter_named-requires : goal.counter_named-requires

@@ -1,6 +1,6 @@
 -- `wakeups::foreign_of` meets its contract: by the name of the step. Assumes nothing.
 use borrow.Author.Rules.{rules}
-use Rattle.step_order.specs.Names.{name_inside}
+use Rattle.step_order.proofs.Names.{name_inside}
 use Rattle.wakeups.proofs.foreign_of.Goals as goal
 
 pub foreign_named-requires : goal.foreign_named-requires

@@ -3,7 +3,7 @@ use mathlib.Core.Path.{◌≡◌, sym, ◌∙◌}
 use native.Mathlib.Omega.{arith}
 use borrow.Author.Rules.{rules}
 use Rattle.step_order.specs.Ranks.{steps_most}
-use Rattle.step_order.specs.Names.{name_inside}
+use Rattle.step_order.proofs.Names.{name_inside}
 use Rattle.wakeups.specs.Wakeups.{can_at, flag_in}
 use Rattle.wakeups.specs.Renewed.{renewed_one}
 use Rattle.wakeups.proofs.retest_named.Goals as goal
