@@ -29,7 +29,7 @@ use Rattle.geometry.specs.Segments.{at_box, first_at}
 use Rattle.geometry.specs.Processes.{RunAt, is_computing}
 use Rattle.geometry.specs.Reach.{reach_in, reach_le, back_shift}
 use Rattle.geometry.specs.BoxLines.{line_distinct, back_in}
-use Rattle.geometry.specs.Pipes.{Accepted, OnePipe, flip_pipe, held, in_space_lem, pipe_self, same_pipe, on_in, in_on, one_home, held_one}
+use Rattle.geometry.specs.Pipes.{Accepted, OnePipe, flip_pipe, held, in_space_lem, pipe_self, same_pipe, on_in}
 
 -- the entry of the pipe through y
 abbrev pub entry_of : Nest → Stream → V2 → V2
@@ -139,23 +139,6 @@ module _ {n : Nest} {s : Stream} (h : Accepted n s) where
   pub entry_in : {y : V2} {x : V3} → RunAt n y x → In (entry_of n s y) (entries n s)
   entry_in {y} a = let hy = in_space_lem h a in line_entry hy (yes_any (computing n) (pipe_self h hy) (is_computing h.layout a))
 
-  -- ---- G7: the pipes' elements are the stream's, each once
-
-  pub elements_distinct : (y : V2) → Distinct (pipe_elements n s y)
-  unfolding pipe_elements used_on pipe
-  elements_distinct y = go (stationary n s) (λ t. t) (backward (pass n s))
-    where
-      row : Sorted Row (used_on n s y)
-      row = sorted_filter (λ e. any (λ p. uses n s p e) (pipe n s y)) (points_sorted (box_of n s.map))
-
-      go : (b : Bool) → (T b → T (stationary n s)) → (c : Bool)
-          → Distinct (cond b (held n s y) (cond c (reverse (used_on n s y)) (used_on n s y)))
-      go true t c =
-          distinct_map (λ p. image s.map (first n p)) (sorted_filter (computing n) (line_distinct (space n) (move n s) h.goes y))
-          (λ p q i j e. held_one h (t tt) p q (filter_in (computing n) (pipe n s y) i).ok (filter_in (computing n) (pipe n s y) j).ok e)
-      go false t true = row_distinct' (sorted_reverse row)
-      go false t false = row_distinct row
-
   pub home_in : {e : V2} → In e (elements n s) → In (home_of n s e) (entries n s) × In e (pipe_elements n s (home_of n s e))
   home_in {e} i =
       let a = first_at h.layout.dirs (h.full e (points_inside (box_of n s.map) e i)).at in
@@ -165,40 +148,8 @@ module _ {n : Nest} {s : Stream} (h : Accepted n s) where
             (record { by = first_of n s.map e; at = a; place = flip_pipe (entry_pipe (place_of n (first_of n s.map e))) }),
       )
 
-  pub home_is : {y e : V2} → In y (entries n s) → In e (pipe_elements n s y) → home_of n s e ≡ y
-  home_is {y} {e} i j =
-      let a = entries_entry i in
-      let o = in_on h a.inside j in
-      let k = home_in (inside_points (box_of n s.map) e (at_box h.layout.dirs o.at)) in
-      let b = entries_entry k.0 in
-      one_entry b a (one_home h b.inside a.inside k.1 j)
-
   pub elements_in : (e : V2) → In e (elements n s) → In e (by_pipe n s)
   elements_in e i = let k = home_in i in in_each (pipe_elements n s) k.0 k.1
-
-  pub in_elements : (e : V2) → In e (by_pipe n s) → In e (elements n s)
-  in_elements e i =
-      let r = each_in (pipe_elements n s) (entries n s) i in
-      let o = in_on h (entries_entry r.mem).inside r.is in
-      inside_points (box_of n s.map) e (at_box h.layout.dirs o.at)
-
-  pub pipes_distinct : Distinct (by_pipe n s)
-  pipes_distinct =
-      sorted_each {R = λ y y'. In y (entries n s) × In y' (entries n s) × (y ≡ y' → ⊥)} (pipe_elements n s) elements_distinct
-      (λ y y' e e' r i i' p. r.2 (sym (home_is r.0 i) ∙ ap (home_of n s) p ∙ home_is r.1 i'))
-      (sorted_with (λ y. In y (entries n s)) (λ y i. i)
-      (sorted_filter (λ y. is_entry n s y && is_pipe n s y) (row_distinct (points_sorted (space n)))))
-
-  -- so many they are
-  pub pipes_length : length (by_pipe n s) ≡ length (elements n s)
-  pipes_length =
-      let a : length (by_pipe n s) ≤ length (elements n s) = fewer pipes_distinct in_elements in
-      let b : length (elements n s) ≤ length (by_pipe n s) = fewer (row_distinct (points_sorted (box_of n s.map))) elements_in in
-      omega arith
-
-  -- the pipes' numbers of elements add up to the stream's
-  pub pipes_total : total (λ y. length (pipe_elements n s y)) (entries n s) ≡ length (elements n s)
-  pipes_total = sym (each_length (pipe_elements n s) (entries n s)) ∙ pipes_length
 
   -- ---- an element and its pipe and index determine each other
 
@@ -208,22 +159,7 @@ module _ {n : Nest} {s : Stream} (h : Accepted n s) where
   pub element_home : {e : V2} (d : V2) → In e (elements n s) → get_or (pipe_elements n s (home_of n s e)) (index_of n s e) d ≡ e
   element_home {e} d i = get_d_ahead e d (home_in i).1
 
-  pub home_element : (y : V2) (i : ℕ) (d : V2) → In y (entries n s) → i < length (pipe_elements n s y)
-      → (home_of n s (get_or (pipe_elements n s y) i d) ≡ y) × (index_of n s (get_or (pipe_elements n s y) i d) ≡ i)
-  home_element y i d k l =
-      let e = get_or (pipe_elements n s y) i d in
-      let p = home_is k (get_d_in (pipe_elements n s y) i d l) in
-      (p, ap (λ (w : V2). ahead e (pipe_elements n s w)) p ∙ ahead_get_d (pipe_elements n s y) i d (elements_distinct y) l)
-
   -- ---- pipe order is a rearrangement of element order: from numbers to numbers and back
-
-  pub waiting_number : (k : ℕ) → k < length (elements n s) → waiting_place n s (element_number n s k) ≡ k
-  waiting_number k l =
-      let e = get_or (by_pipe n s) k zero2 in
-      let w : k < length (by_pipe n s) = omega (arith, pipes_length) in
-      ap (λ (p : V2). ahead p (by_pipe n s))
-      (row_at_lem (box_of n s.map) e zero2 (points_inside (box_of n s.map) e (in_elements e (get_d_in (by_pipe n s) k zero2 w))))
-      ∙ ahead_get_d (by_pipe n s) k zero2 pipes_distinct w
 
   pub number_waiting : (j : ℕ) → j < length (elements n s) → element_number n s (waiting_place n s j) ≡ j
   number_waiting j l =

@@ -16,7 +16,6 @@ pub mod Pipes
 pub mod Moving
 pub mod Positions
 pub mod Elements
-pub mod Soaks
 pub mod Clock
 pub mod Order
 pub mod Accept
@@ -25,12 +24,8 @@ pub mod Descriptions
 pub mod UpTo
 pub mod TwoLoops
 pub mod Divisors
-pub mod Firings
 pub mod Counts
 pub mod Report
-pub mod PipeLists
 pub mod Passes
-pub mod Walk
 pub mod Wiring
 pub mod Arrays
-pub mod PipeOrder

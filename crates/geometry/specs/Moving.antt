@@ -95,17 +95,3 @@ module _ {n : Nest} {s : Stream} (h : Accepted n s) (moves : T (not (stationary 
       → length (pipe_elements n s y)
       ≡ reach (box_of n s.map) (neg2 (pass n s)) (image s.map x) + suc (reach (box_of n s.map) (pass n s) (image s.map x))
   length_is {x} a = ap length (pipe_line a) ∙ line_length (box_of n s.map) (pass n s) (image s.map x)
-
-  -- that of firing i stands i places after the first one's
-  pub index_on : {y : V2} {x : V3} (i : ℕ) → RunAt n y x → RunAt n y (run_at n y i)
-      → ahead (image s.map (run_at n y i)) (pipe_elements n s y) ≡ ahead (image s.map (first n y)) (pipe_elements n s y) + i
-  index_on {y} i a b =
-      let f = first_at h.layout.dirs a in
-      index_is b
-      ∙ natural _ (reach (box_of n s.map) (neg2 (pass n s)) (image s.map (first n y)))
-      (back_shift (box_of n s.map) (passes h moves) (pos i) (box_has h.layout.dirs s.map f.within)
-      (box_has h.layout.dirs s.map b.within) (image_shift s.map (first n y) (increment n) (pos i)))
-      ∙ ap (λ (k : ℕ). k + i) (sym (index_is f))
-    where
-      natural : (u v : ℕ) → pos u ≡ pos v +ℤ pos i → u ≡ v + i
-      natural u v e = omega (arith, eq_out e)

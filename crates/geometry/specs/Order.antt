@@ -21,7 +21,7 @@ use Rattle.geometry.specs.Numbers.{decide, lt_le, stay, zero_shift3}
 use Rattle.geometry.specs.Lines.{Ahead, ahead_of}
 use Rattle.geometry.specs.Instances.{earlier_irr, earlier_asym}
 use Rattle.geometry.specs.Boxes.{box_has}
-use Rattle.geometry.specs.Processes.{firing_of, firing_shift}
+use Rattle.geometry.specs.Processes.{firing_of}
 use Rattle.geometry.specs.Reach.{back_shift}
 use Rattle.geometry.specs.Pipes.{Accepted, moving_move, still_line, still_place}
 
@@ -80,41 +80,3 @@ turned {d} {p} {q} h = go h
 pub earlier_later : {n : Nest} {m : Matrix} {u : V3} → Line n m u → Earlier n.direction u zero3
     → (x x' : V3) → image m x ≡ image m x' → Earlier n.direction x x' → step_of n x' <ℤ step_of n x
 earlier_later lin leads x x' e k = earlier_step lin (turned leads) x' x (sym e) (turned k)
-
--- G9 on the network: of two instances that touch one element of a written stream, the earlier in the written order
-module _ {n : Nest} {s : Stream} (h : Accepted n s) (leads : Earlier n.direction zero3 (line n s)) {x x' : V3} (w : Within n x)
-    (w' : Within n x') (one : image s.map x ≡ image s.map x') (earlier : Earlier n.direction x x') where
-  -- is some lines behind the other
-  behind : (t : ℕ) × (x' ≡ shift3 x (pos (suc t)) (line n s))
-  behind = go r.at r.eq
-    where
-      step : step_of n x <ℤ step_of n x'
-      step = earlier_step h.lin leads x x' one earlier
-
-      r : Ahead (line n s) x x'
-      r = ahead_of h.lin x x' one (lt_le step)
-
-      go : (i : ℕ) → x' ≡ shift3 x (pos i) (line n s) → (t : ℕ) × (x' ≡ shift3 x (pos (suc t)) (line n s))
-      go zero e = absurd (<ℤ_irrefl (subst (λ (w : V3). step_of n x <ℤ step_of n w) (e ∙ zero_shift3 x (line n s)) step))
-      go (suc t) e = (t, e)
-
-  -- so, if the stream moves, it is at the earlier position of the pipe
-  pub written_moving : T (not (stationary n s)) → before n s (place_of n x) < before n s (place_of n x')
-  written_moving moves =
-      natural (before n s (place_of n x)) (before n s (place_of n x')) behind.0
-      (back_shift (space n) h.goes (pos (suc behind.0)) (box_has h.layout.dirs n.place w)
-      (box_has h.layout.dirs n.place w') (ap (place_of n) behind.1 ∙ image_shift n.place x (line n s) (pos (suc behind.0))
-      ∙ ap (shift2 (place_of n x) (pos (suc behind.0))) (sym (moving_move h moves))))
-    where
-      natural : (p q t : ℕ) → pos q ≡ pos p +ℤ pos (suc t) → p < q
-      natural p q t e = omega (arith, eq_out e)
-
-  -- and if it is stationary, it is the earlier firing of the same process
-  pub written_still : T (stationary n s) → (place_of n x ≡ place_of n x') × (firing_of n x < firing_of n x')
-  written_still t =
-      let p = sym (still_place h t x x' one) in (
-        p,
-        subst (λ (k : ℕ). firing_of n x < k)
-            (sym (firing_shift h.layout w w' (suc behind.0) (behind.1 ∙ ap (shift3 x (pos (suc behind.0))) (still_line h t))))
-            (omega arith),
-      )

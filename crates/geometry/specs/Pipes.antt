@@ -25,7 +25,7 @@ use Rattle.geometry.specs.Numbers.{decide, yes_cond, no_cond, eq2_eq, eq_eq2, ze
 use Rattle.geometry.specs.Lines.{on_line, not_sent, one_line}
 use Rattle.geometry.specs.Boxes.{inside_points, box_has}
 use Rattle.geometry.specs.Segments.{at_in, in_at, at_box, first_at}
-use Rattle.geometry.specs.Processes.{Layout, RunAt, computes, is_computing}
+use Rattle.geometry.specs.Processes.{Layout, RunAt, is_computing}
 use Rattle.geometry.specs.BoxLines.{line_on, on_line_in, line_self, line_same}
 
 -- some instance touches e
@@ -202,25 +202,6 @@ module _ {n : Nest} {s : Stream} (h : Accepted n s) where
           turned true i = in_reverse (used_on n s y) i
           turned false i = i
 
-  pub in_on : {y e : V2} → Inside (space n) y → In e (pipe_elements n s y) → On n s y e
-  in_on {y} {e} hy i = go (decide (stationary n s))
-    where
-      go : T (stationary n s) ⊎ T (not (stationary n s)) → On n s y e
-      go (inl t) =
-          let c = map_in (λ p. image s.map (first n p)) (filter (computing n) (pipe n s y)) (subst (In e) (still_elements t y) i) in
-          let k = filter_in (computing n) (pipe n s y) c.mem in
-          let a = computes h.layout c.from k.ok in
-          record {
-            by = first n c.from;
-            at = record { within = a.within; to = sym c.is };
-            place = subst (OnePipe n s y) (sym a.to) (in_pipe hy k.mem).1;
-          }
-      go (inr t) = in_used hy (turned (backward (pass n s)) (subst (In e) (moving_elements t y) i))
-        where
-          turned : (b : Bool) → In e (cond b (reverse (used_on n s y)) (used_on n s y)) → In e (used_on n s y)
-          turned true i = reverse_in (used_on n s y) i
-          turned false i = i
-
   pub touched_in : {y : V2} {x : V3} → RunAt n y x → In (image s.map x) (pipe_elements n s y)
   touched_in {y} {x} a =
       on_in (in_space_lem a)
@@ -230,30 +211,7 @@ module _ {n : Nest} {s : Stream} (h : Accepted n s) where
         place = record { by = pos 0; eq = a.to ∙ sym (zero_shift y (move n s)) };
       })
 
-  -- a line of processes that has no computing one has no elements
-  pub no_pipe_lem : {y : V2} → Inside (space n) y → T (not (is_pipe n s y)) → pipe_elements n s y ≡ []
-  no_pipe_lem {y} hy t = no_members (pipe_elements n s y) (λ e i. not_there (in_on hy i))
-    where
-      not_there : {e : V2} → On n s y e → ⊥
-      not_there o =
-          let a : RunAt n (place_of n o.by) o.by = record { within = o.at.within; to = refl } in
-          T_not (is_pipe n s y) t (yes_any (computing n) (pipe_in_lem hy (in_space_lem a) o.place) (is_computing h.layout a))
-
-  -- G7, one half: an element is on one pipe only
-  pub one_home : {y y' e : V2} → Inside (space n) y → Inside (space n) y' → In e (pipe_elements n s y) → In e (pipe_elements n s y')
-      → OnePipe n s y y'
-  one_home hy hy' i i' =
-      let o = in_on hy i in
-      let o' = in_on hy' i' in
-      join_pipe (join_pipe o.place (one_pipe o.by o'.by (o.at.to ∙ sym o'.at.to))) (flip_pipe o'.place)
-
   -- ---- G6: a stationary pipe
-
-  -- two processes of it hold two elements
-  pub held_one : T (stationary n s) → (p q : V2) → T (computing n p) → T (computing n q)
-      → image s.map (first n p) ≡ image s.map (first n q) → p ≡ q
-  held_one t p q i j e =
-      sym (computes h.layout p i).to ∙ sym (still_place t (first n p) (first n q) e) ∙ (computes h.layout q j).to
 
   -- it has as many elements as computing processes
   pub still_length : T (stationary n s) → (y : V2) → length (pipe_elements n s y) ≡ length (filter (computing n) (pipe n s y))

@@ -26,7 +26,8 @@ use Rattle.geometry.specs.Places.{get_d_in}
 use Rattle.geometry.specs.Boxes.{points_inside}
 use Rattle.geometry.specs.RowOrder.{row_lt, row_number}
 use Rattle.geometry.specs.Pipes.{Accepted}
-use Rattle.geometry.specs.Elements.{by_pipe, elements_in, in_elements, pipes_distinct}
+use Rattle.geometry.specs.Elements.{by_pipe, elements_in}
+use Rattle.geometry.proofs.Elements.{in_elements, pipes_distinct}
 use Rattle.geometry.specs.Descriptions.{Laid}
 use Rattle.geometry.specs.Arrays.{one_number}
 

@@ -20,11 +20,14 @@ use Rattle.geometry.specs.Numbers.{decide, eq2_eq, eq_eq2}
 use Rattle.geometry.specs.Places.{ahead, position_is, position_last, get_d_ahead, ahead_lt, ahead_get_d, ahead_map}
 use Rattle.geometry.specs.Boxes.{box_has}
 use Rattle.geometry.specs.Segments.{at_in, in_at, first_at, last_at, segment, numbered}
-use Rattle.geometry.specs.Processes.{RunAt, run_at, instance_at_lem, computes}
+use Rattle.geometry.specs.Processes.{RunAt, run_at}
+use Rattle.geometry.proofs.Processes.{instance_at_lem, computes}
 use Rattle.geometry.specs.Reach.{reach_shift}
-use Rattle.geometry.specs.Pipes.{Accepted, still_elements, passes, pipe_self, still_element, touched_in, held_one}
-use Rattle.geometry.specs.Elements.{elements_distinct}
-use Rattle.geometry.specs.Moving.{index_is, length_is, index_on}
+use Rattle.geometry.specs.Pipes.{Accepted, still_elements, passes, pipe_self, still_element, touched_in}
+use Rattle.geometry.proofs.Pipes.{held_one}
+use Rattle.geometry.proofs.Elements.{elements_distinct}
+use Rattle.geometry.specs.Moving.{index_is, length_is}
+use Rattle.geometry.proofs.Moving.{index_on}
 
 module _ {n : Nest} {s : Stream} (h : Accepted n s) where
   -- ---- a process uses what its instances touch

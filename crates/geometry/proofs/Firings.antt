@@ -26,7 +26,8 @@ use Rattle.geometry.specs.Sorting.{sorted_map, sorted_with, sorted_by_map, numbe
 use Rattle.geometry.specs.Numbers.{not_zero, lt_le, positive_not, zero_on, on_less, on_one, zero_shift3}
 use Rattle.geometry.specs.Lines.{on_line}
 use Rattle.geometry.specs.Segments.{sent_distinct, at_in, in_at, numbered}
-use Rattle.geometry.specs.Processes.{Layout, RunAt, run_at, instance_at_lem}
+use Rattle.geometry.specs.Processes.{Layout, RunAt, run_at}
+use Rattle.geometry.proofs.Processes.{instance_at_lem}
 
 -- x has the smaller step
 abbrev pub Sooner : Nest → V3 → V3 → Type 0

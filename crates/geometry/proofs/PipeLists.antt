@@ -31,12 +31,15 @@ use Rattle.geometry.specs.Sorting.{sorted_with, sorted_filter, sorted_by_map}
 use Rattle.geometry.specs.Numbers.{decide, eq2_eq, eq_eq2, lt_le, on_less, shift_shift}
 use Rattle.geometry.specs.Places.{ahead, get_d_in, found, sorted_from, get_d_ahead, ahead_lt, ahead_get_d}
 use Rattle.geometry.specs.Segments.{first_at, last_at}
-use Rattle.geometry.specs.Processes.{RunAt, run_at, instance_at_lem, computes, computing_count}
-use Rattle.geometry.specs.Pipes.{Accepted, still_elements, passes, on_in, in_on, touched_in}
+use Rattle.geometry.specs.Processes.{RunAt, run_at, computing_count}
+use Rattle.geometry.proofs.Processes.{instance_at_lem, computes}
+use Rattle.geometry.specs.Pipes.{Accepted, still_elements, passes, on_in, touched_in}
+use Rattle.geometry.proofs.Pipes.{in_on}
 use Rattle.geometry.specs.Positions.{pipe_sorted}
-use Rattle.geometry.specs.Elements.{elements_distinct}
-use Rattle.geometry.specs.Soaks.{first_index, last_index, soak_first, drain_last, still_total, element_at_lem, total_is}
-use Rattle.geometry.specs.Report.{first_element, last_element, element_from}
+use Rattle.geometry.proofs.Elements.{elements_distinct}
+use Rattle.geometry.proofs.Soaks.{first_index, last_index, soak_first, drain_last, still_total, element_at_lem, total_is}
+use Rattle.geometry.specs.Report.{first_element, last_element}
+use Rattle.geometry.proofs.Report.{element_from}
 
 -- ---- ranks along a vector that is not zero
 

@@ -23,8 +23,9 @@ use Rattle.geometry.specs.Instances.{within_in, in_within, distinct}
 use Rattle.geometry.specs.Boxes.{inside_points}
 use Rattle.geometry.specs.RowOrder.{numbers_rise}
 use Rattle.geometry.specs.Segments.{at_box, segment}
-use Rattle.geometry.specs.Processes.{Layout, RunAt, run_at, firing_of, firing_lt, instance_firing, instance_at_lem}
-use Rattle.geometry.specs.Firings.{Sooner, sooner_later}
+use Rattle.geometry.specs.Processes.{Layout, RunAt, run_at, firing_of}
+use Rattle.geometry.proofs.Processes.{firing_lt, instance_firing, instance_at_lem}
+use Rattle.geometry.proofs.Firings.{Sooner, sooner_later}
 
 module _ {n : Nest} (layout : Layout n) where
   -- ---- one line
