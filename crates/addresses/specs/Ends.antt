@@ -24,7 +24,8 @@ use Rattle.geometry.specs.Pipes.{Accepted}
 use Rattle.geometry.specs.Positions.{pipe_length, pipe_at_lem, pipe_next}
 use Rattle.geometry.specs.Elements.{entries_entry}
 use Rattle.geometry.specs.Descriptions.{Laid}
-use Rattle.geometry.specs.Wiring.{process_at, wired}
+use Rattle.geometry.specs.Wiring.{process_at}
+use Rattle.geometry.proofs.Wiring.{wired}
 use Rattle.geometry.specs.Arrays.{stream_at}
 use Rattle.addresses.specs.Pipes.{base, entry_at, stream_on_lem, stops_on_lem}
 use Rattle.addresses.specs.Through.{point_of, entry_number, pipe_index, entry_in, point_number, entry_lt, place_lt, process_at_lem}

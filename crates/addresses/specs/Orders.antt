@@ -19,7 +19,7 @@ use Rattle.lists.specs.Sums.{total_below}
 use Rattle.geometry.specs.Places.{distinct_at, position_is}
 use Rattle.geometry.specs.Descriptions.{Laid}
 use Rattle.geometry.specs.Arrays.{stream_at}
-use Rattle.geometry.specs.PipeOrder.{numbers_once}
+use Rattle.geometry.proofs.PipeOrder.{numbers_once}
 use Rattle.addresses.specs.Pipes.{base, entry_at, pipe_lt, pipe_at_lem, elements_on_lem}
 
 module _ {d : Description} (laid : Laid d) where

@@ -22,7 +22,8 @@ use Rattle.meaning.specs.Array.{part_start}
 use Rattle.meaning.specs.Rules.{stream_on}
 use Rattle.lists.specs.Members.{map_at}
 use Rattle.lists.specs.Sums.{total_next, total_map_first, total_append, total_below, total_first, total_second, total_like}
-use Rattle.geometry.specs.Elements.{part_of, pipes_total}
+use Rattle.geometry.specs.Elements.{part_of}
+use Rattle.geometry.proofs.Elements.{pipes_total}
 use Rattle.geometry.specs.Descriptions.{Laid}
 use Rattle.geometry.specs.Arrays.{stream_at, pipe_count_lem}
 

@@ -19,7 +19,7 @@ use Rattle.meaning.specs.Array.{stop_at, pipe_through, place_on}
 use Rattle.meaning.specs.Rules.{process_on, stream_on}
 use Rattle.lists.specs.Members.{map_at}
 use Rattle.geometry.specs.Processes.{run_at}
-use Rattle.geometry.specs.Firings.{runs_length, runs_at}
+use Rattle.geometry.proofs.Firings.{runs_length, runs_at}
 use Rattle.geometry.specs.Pipes.{same_elements}
 use Rattle.geometry.specs.Positions.{pipe_length}
 use Rattle.geometry.specs.Elements.{entry_pipe, entry_is, entry_same}

@@ -28,7 +28,8 @@ use Rattle.geometry.specs.Pipes.{Accepted, in_pipe, pipe_self, same_pipe}
 use Rattle.geometry.specs.Positions.{before_is, pipe_length}
 use Rattle.geometry.specs.Elements.{entry_of, entry_is, entries_entry, entry_same, line_entry}
 use Rattle.geometry.specs.Descriptions.{Laid}
-use Rattle.geometry.specs.Wiring.{process_at, wired}
+use Rattle.geometry.specs.Wiring.{process_at}
+use Rattle.geometry.proofs.Wiring.{wired}
 use Rattle.geometry.specs.Arrays.{stream_at, PipeIs, pipe_is, one_number, through, place_on_lem}
 use Rattle.addresses.specs.Pipes.{base, entry_at, pipe_lt, pipe_at_lem}
 

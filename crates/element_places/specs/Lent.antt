@@ -19,7 +19,8 @@ use Rattle.meaning.specs.Body.{stream_start}
 use Rattle.meaning.specs.Points.{Inside}
 use Rattle.geometry.specs.Boxes.{box_has}
 use Rattle.geometry.specs.RowOrder.{row_lt}
-use Rattle.geometry.specs.Processes.{RunAt, computes as run_first}
+use Rattle.geometry.specs.Processes.{RunAt}
+use Rattle.geometry.proofs.Processes.{computes as run_first}
 use Rattle.geometry.specs.Pipes.{Accepted}
 use Rattle.geometry.specs.Elements.{entry_before}
 use Rattle.geometry.specs.Moving.{index_is}

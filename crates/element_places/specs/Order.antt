@@ -27,7 +27,8 @@ use Rattle.geometry.specs.Numbers.{yes_cond, zero_shift}
 use Rattle.geometry.specs.Places.{rank, get_d_in, found}
 use Rattle.geometry.specs.RowOrder.{row_lt, row_number}
 use Rattle.geometry.specs.Segments.{at_box}
-use Rattle.geometry.specs.Pipes.{Accepted, in_on}
+use Rattle.geometry.specs.Pipes.{Accepted}
+use Rattle.geometry.proofs.Pipes.{in_on}
 use Rattle.geometry.specs.Elements.{entry_of, part_of, home_of, index_of, entry_before, home_in, index_lt, element_home}
 use Rattle.geometry.specs.Descriptions.{Laid, laid}
 use Rattle.geometry.specs.Arrays.{stream_at}

@@ -22,7 +22,8 @@ use Rattle.geometry.specs.Places.{rank_yes, rank_no}
 use Rattle.geometry.specs.Boxes.{inside_points}
 use Rattle.geometry.specs.Pipes.{Accepted, in_pipe}
 use Rattle.geometry.specs.Positions.{pipe_distinct}
-use Rattle.geometry.specs.Elements.{entries_entry, pipes_total}
+use Rattle.geometry.specs.Elements.{entries_entry}
+use Rattle.geometry.proofs.Elements.{pipes_total}
 use Rattle.layout.specs.Spans.{process_of}
 use Rattle.pipe_parts.specs.Starts.{entering, total_next, total_part}
 use Rattle.figures.specs.declared.Sums.{Sums}

@@ -3,8 +3,10 @@ use Rattle.std.specs.Prelude.{◌≡◌, refl, not, ℕ, ◌+◌, T, ℤ, pos, n
 use Rattle.std.proofs.Common.{sym, ◌∙◌, ap, ap₂, arith}
 use Rattle.integers.specs.Differences.{gaps, up, lt_out}
 use Rattle.integers.specs.Variables.{linear}
-use Rattle.integers.specs.Ring.{ring, quotes, solve_by, given, ◌also◌, Ex.var, Ex.minus, Ex.plain}
-use Rattle.integers.specs.Vectors.{shift3, shift2, image, dot_shift}
+use Rattle.integers.specs.Ring.{ring, quotes, given, ◌also◌, Ex.var, Ex.minus, Ex.plain}
+use Rattle.integers.proofs.Ring.{solve_by}
+use Rattle.integers.specs.Vectors.{shift3, shift2, image}
+use Rattle.integers.proofs.Vectors.{dot_shift}
 use Rattle.integers.specs.declared.V3.{V3}
 use Rattle.integers.specs.declared.V2.{V2}
 use Rattle.meaning.specs.declared.Nest.{Nest}

@@ -30,7 +30,8 @@ use Rattle.geometry.specs.Reach.{reach_in, reach_le, back_shift}
 use Rattle.geometry.specs.BoxLines.{line_distinct, back_in}
 use Rattle.geometry.specs.Pipes.{Accepted, OnePipe, flip_pipe, held, in_space_lem, pipe_self, same_pipe, on_in}
 use Rattle.geometry.proofs.Pipes.{in_on, one_home, held_one}
-use Rattle.geometry.specs.Elements.{entry_of, by_pipe, home_of, index_of, element_number, waiting_place, entries_entry, home_in, one_entry, elements_in}
+use Rattle.geometry.specs.Elements.{entry_of, by_pipe, home_of, index_of, element_number, waiting_place, entries_entry, home_in, one_entry}
+use Rattle.geometry.specs.Elements.{elements_in}
 
 module _ {n : Nest} {s : Stream} (h : Accepted n s) where
   -- ---- G7: the pipes' elements are the stream's, each once

@@ -3,7 +3,8 @@ use Rattle.std.specs.Prelude.{◌≡◌, Bool, true, false, not, cond, ℕ, suc,
 use Rattle.std.proofs.Common.{sym, ◌∙◌, ap, ap₂, arith}
 use mathlib.Core.List.{reverse, Memᴰ as In}
 use Rattle.integers.specs.Differences.{eq_out}
-use Rattle.integers.specs.Vectors.{neg2, shift2, image, image_shift}
+use Rattle.integers.specs.Vectors.{neg2, shift2, image}
+use Rattle.integers.proofs.Vectors.{image_shift}
 use Rattle.integers.specs.declared.V3.{V3}
 use Rattle.integers.specs.declared.V2.{V2}
 use Rattle.meaning.specs.declared.Nest.{Nest}

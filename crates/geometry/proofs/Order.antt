@@ -1,4 +1,5 @@
--- Of two instances that touch one element of a written stream, the earlier in the written order is earlier on the network. Assumes an accepted
+-- Of two instances that touch one element of a written stream, the earlier in the written order is earlier on the network. Assumes an
+-- accepted
 -- stream whose line leads on.
 use Rattle.std.specs.Prelude.{◌≡◌, ◌⊎◌, not, ℕ, zero, suc, ◌<◌, T, ℤ, pos, neg_ℤ, ◌+ℤ◌, ◌*ℤ◌, ◌<ℤ◌}
 use Rattle.std.proofs.Common.{sym, ◌∙◌, ap, subst, inl, inr, arith}
@@ -6,7 +7,8 @@ use Rattle.std.specs.Int.Signed.{lt_z, lt_z_no, <ℤ_irrefl}
 use Rattle.integers.specs.Differences.{gaps, eq_out, lt_in}
 use Rattle.integers.specs.Variables.{linear}
 use Rattle.integers.specs.Order.{mul_positive}
-use Rattle.integers.specs.Vectors.{zero3, neg3, shift3, shift2, image, image_shift}
+use Rattle.integers.specs.Vectors.{zero3, neg3, shift3, shift2, image}
+use Rattle.integers.proofs.Vectors.{image_shift}
 use Rattle.integers.specs.declared.V3.{V3}
 use Rattle.integers.specs.declared.Matrix.{Matrix}
 use Rattle.meaning.specs.declared.Nest.{Nest}

@@ -8,7 +8,8 @@ use mathlib.Core.List.Memᴰ.{map as in_map}
 use mathlib.Core.List.{List, [], map, reverse, Memᴰ as In}
 use Rattle.std.proofs.lemmas.List.{length-map}
 use Rattle.std.proofs.Math.IntN.{ℤ_discrete}
-use Rattle.integers.specs.Vectors.{zero2, shift2, image, same2, image_shift}
+use Rattle.integers.specs.Vectors.{zero2, shift2, image, same2}
+use Rattle.integers.proofs.Vectors.{image_shift}
 use Rattle.integers.specs.declared.V3.{V3}
 use Rattle.integers.specs.declared.V2.{V2}
 use Rattle.meaning.specs.declared.Nest.{Nest}
@@ -27,7 +28,8 @@ use Rattle.geometry.specs.Segments.{at_in, in_at, at_box, first_at}
 use Rattle.geometry.specs.Processes.{Layout, RunAt, is_computing}
 use Rattle.geometry.proofs.Processes.{computes}
 use Rattle.geometry.specs.BoxLines.{line_on, on_line_in, line_self, line_same}
-use Rattle.geometry.specs.Pipes.{Accepted, On, OnePipe, flip_pipe, join_pipe, still_elements, in_pipe, in_used, moving_elements, pipe_in_lem, in_space_lem, one_pipe, still_place}
+use Rattle.geometry.specs.Pipes.{Accepted, On, OnePipe, flip_pipe, join_pipe, still_elements, in_pipe, in_used, moving_elements}
+use Rattle.geometry.specs.Pipes.{pipe_in_lem, in_space_lem, one_pipe, still_place}
 
 module _ {n : Nest} {s : Stream} (h : Accepted n s) where
   pub in_on : {y e : V2} → Inside (space n) y → In e (pipe_elements n s y) → On n s y e

@@ -5,7 +5,8 @@ use mathlib.Core.List.{List, [], ◌∷◌, Memᴰ as In}
 use Rattle.std.proofs.Math.Dec.{not_T}
 use Rattle.integers.specs.Differences.{gaps, parts, up, lt_out}
 use Rattle.integers.specs.Variables.{linear}
-use Rattle.integers.specs.Vectors.{shift3, dot_shift}
+use Rattle.integers.specs.Vectors.{shift3}
+use Rattle.integers.proofs.Vectors.{dot_shift}
 use Rattle.integers.specs.declared.V3.{V3}
 use Rattle.integers.specs.declared.V2.{V2}
 use Rattle.meaning.specs.declared.Nest.{Nest}

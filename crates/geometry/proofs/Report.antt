@@ -4,8 +4,10 @@ use Rattle.std.proofs.Common.{sym, ◌∙◌, ap, subst, subst₂, arith}
 use Rattle.std.specs.Int.Signed.{<ℤ_irrefl}
 use Rattle.integers.specs.Differences.{gaps}
 use Rattle.integers.specs.Variables.{linear}
-use Rattle.integers.specs.Ring.{ring, quotes, solve, solve3}
-use Rattle.integers.specs.Vectors.{sub3, scale3, shift3, dot, zero2, neg2, shift2, image, dot_shift}
+use Rattle.integers.specs.Ring.{ring, quotes, solve3}
+use Rattle.integers.proofs.Ring.{solve}
+use Rattle.integers.specs.Vectors.{sub3, scale3, shift3, dot, zero2, neg2, shift2, image}
+use Rattle.integers.proofs.Vectors.{dot_shift}
 use Rattle.integers.specs.declared.V3.{V3}
 use Rattle.integers.specs.declared.V2.{V2}
 use Rattle.meaning.specs.declared.Nest.{Nest}

@@ -10,7 +10,7 @@ use Rattle.meaning.specs.Array.{array_of, pipe_order}
 use Rattle.meaning.specs.Demand3.{Guarantee}
 use Rattle.lists.specs.Members.{yes_any}
 use Rattle.geometry.specs.Descriptions.{laid}
-use Rattle.geometry.specs.PipeOrder.{numbers_all, list_length_lem}
+use Rattle.geometry.proofs.PipeOrder.{numbers_all, list_length_lem}
 use Rattle.network.specs.Plain.{Among, Described, streams_are}
 use Rattle.network.proofs.Starts.{proper}
 use Rattle.network.proofs.Demand as Demand

@@ -20,7 +20,7 @@ use Rattle.meaning.specs.Calls.{length_of, answer, refused_by, table, Written, p
 use Rattle.meaning.specs.Demand2.{TableSays, EveryPass, WrittenOrder, PlainSays, DemandTwo}
 use Rattle.geometry.specs.Instances.{within_in, in_within, instances_sorted, distinct}
 use Rattle.geometry.specs.Descriptions.{laid}
-use Rattle.geometry.specs.Passes.{every_pass}
+use Rattle.geometry.proofs.Passes.{every_pass}
 use Rattle.guarantee.specs.Acceptance.{accepted_not_refused}
 use Rattle.guarantee.specs.TableRows.{left_rows, rows_are, table_says}
 

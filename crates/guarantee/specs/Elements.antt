@@ -15,7 +15,7 @@ use Rattle.meaning.specs.Points.{Inside}
 use Rattle.geometry.specs.Boxes.{box_has, points_inside}
 use Rattle.geometry.specs.RowOrder.{row_lt}
 use Rattle.geometry.specs.Descriptions.{Laid}
-use Rattle.geometry.specs.Wiring.{wired}
+use Rattle.geometry.proofs.Wiring.{wired}
 use Rattle.geometry.specs.Arrays.{stream_at, pipe_is}
 use Rattle.lists.specs.Sums.{total_next}
 use Rattle.network.specs.Wiring.{element_pipe, element_at}

@@ -23,10 +23,11 @@ use Rattle.geometry.specs.Places.{get_d_in, found, distinct_at, position_is}
 use Rattle.geometry.specs.Instances.{within_in, in_within, distinct}
 use Rattle.geometry.specs.Boxes.{points_inside, box_has}
 use Rattle.geometry.specs.RowOrder.{row_at_lem, row_lt, row_number}
-use Rattle.geometry.specs.Processes.{run_at, firing_of, firing_lt, instance_firing, instance_at_lem, firing_instance}
-use Rattle.geometry.specs.Firings.{runs_length, runs_at}
+use Rattle.geometry.specs.Processes.{run_at, firing_of}
+use Rattle.geometry.proofs.Processes.{firing_lt, instance_firing, instance_at_lem, firing_instance}
+use Rattle.geometry.proofs.Firings.{runs_length, runs_at}
 use Rattle.geometry.specs.Counts.{counts_total}
-use Rattle.geometry.specs.Passes.{instance_is}
+use Rattle.geometry.proofs.Passes.{instance_is}
 use Rattle.geometry.specs.Descriptions.{Laid}
 use Rattle.geometry.specs.Arrays.{one_number}
 use Rattle.abstract_network.specs.Cases.{Order, less, at_least, order}

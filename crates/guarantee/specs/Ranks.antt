@@ -20,7 +20,8 @@ use Rattle.meaning.specs.Array.{Stop, stop_of, Array, array_of, stops_on, elemen
 use Rattle.lists.specs.Tests.{is_true}
 use Rattle.geometry.specs.Places.{rank}
 use Rattle.geometry.specs.Descriptions.{Laid}
-use Rattle.geometry.specs.Wiring.{process_at, keeping}
+use Rattle.geometry.specs.Wiring.{process_at}
+use Rattle.geometry.proofs.Wiring.{keeping}
 use Rattle.geometry.specs.Arrays.{stream_at, PipeIs}
 use Rattle.network.specs.Wiring.{rank_at}
 use Rattle.guarantee.specs.Stops.{accepted, stops_are, stops_length, elements_length, stop_entry}

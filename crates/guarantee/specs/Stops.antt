@@ -31,7 +31,8 @@ use Rattle.geometry.specs.Pipes.{Accepted, same_elements}
 use Rattle.geometry.specs.Positions.{at_pipe}
 use Rattle.geometry.specs.Elements.{entry_of, entries_entry}
 use Rattle.geometry.specs.Descriptions.{Laid}
-use Rattle.geometry.specs.Wiring.{process_at, element_at, wired, flowing}
+use Rattle.geometry.specs.Wiring.{process_at, element_at}
+use Rattle.geometry.proofs.Wiring.{wired, flowing}
 use Rattle.geometry.specs.Arrays.{stream_at, PipeIs, pipe_is, pipe_of_lem, through, place_on_lem}
 use Rattle.lists.specs.Tests.{any_position, is_true, is_false}
 use Rattle.network.specs.Wiring.{stop_pipe, element_at as element_on}

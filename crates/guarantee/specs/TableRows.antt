@@ -31,10 +31,12 @@ use Rattle.geometry.specs.Numbers.{decide, yes_cond, no_cond}
 use Rattle.geometry.specs.Places.{get_d_in}
 use Rattle.geometry.specs.Boxes.{inside_points, points_inside, points_sorted}
 use Rattle.geometry.specs.Segments.{sent_distinct, at_in, in_at, first_at, first_least, last_at, last_greatest, none_first, segment}
-use Rattle.geometry.specs.Processes.{Layout, RunAt, computes, is_computing}
+use Rattle.geometry.specs.Processes.{Layout, RunAt, is_computing}
+use Rattle.geometry.proofs.Processes.{computes}
 use Rattle.geometry.specs.Pipes.{Accepted, in_space_lem}
-use Rattle.geometry.specs.Report.{increment_is, first_element, last_element, soak_report, drain_report, null_report}
-use Rattle.geometry.specs.PipeLists.{moving, pipe_elements_lem, pipe_ends, some_element, soaks}
+use Rattle.geometry.specs.Report.{increment_is, first_element, last_element}
+use Rattle.geometry.proofs.Report.{soak_report, drain_report, null_report}
+use Rattle.geometry.proofs.PipeLists.{moving, pipe_elements_lem, pipe_ends, some_element, soaks}
 use Rattle.geometry.specs.TwoLoops.{Planar, planar, no_third, low_point}
 use Rattle.geometry.specs.Descriptions.{Laid, laid}
 use Rattle.geometry.specs.Passes.{RowOf}

@@ -20,12 +20,13 @@ use Rattle.meaning.specs.Array.{Array, array_of, count_at, instance_at, pipe_num
 use Rattle.meaning.specs.Rules.{process_on}
 use Rattle.geometry.specs.Numbers.{decide, yes_cond}
 use Rattle.geometry.specs.Instances.{within_in}
-use Rattle.geometry.specs.Processes.{instance_at_lem}
-use Rattle.geometry.specs.Passes.{instance_is}
+use Rattle.geometry.proofs.Processes.{instance_at_lem}
+use Rattle.geometry.proofs.Passes.{instance_is}
 use Rattle.geometry.specs.Positions.{at_pipe}
 use Rattle.geometry.specs.Clock.{Clock}
 use Rattle.geometry.specs.Descriptions.{Laid}
-use Rattle.geometry.specs.Wiring.{process_at, wired, flowing}
+use Rattle.geometry.specs.Wiring.{process_at}
+use Rattle.geometry.proofs.Wiring.{wired, flowing}
 use Rattle.geometry.specs.Arrays.{stream_at, PipeIs, pipe_is}
 use Rattle.abstract_network.specs.Cases.{Order, less, at_least, order}
 use Rattle.network.specs.Wiring.{Course, moving, stationary as still}

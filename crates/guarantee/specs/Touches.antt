@@ -20,10 +20,12 @@ use Rattle.meaning.specs.Rules.{process_on, stream_on}
 use Rattle.lists.specs.Tests.{is_true}
 use Rattle.geometry.specs.Numbers.{decide}
 use Rattle.geometry.specs.Boxes.{inside_points, points_inside, box_has}
-use Rattle.geometry.specs.Processes.{run_at, firing_of, firing_lt, instance_firing}
+use Rattle.geometry.specs.Processes.{run_at, firing_of}
+use Rattle.geometry.proofs.Processes.{firing_lt, instance_firing}
 use Rattle.geometry.specs.Elements.{entry_of, home_of, index_of}
 use Rattle.geometry.specs.Descriptions.{Laid}
-use Rattle.geometry.specs.Wiring.{process_at, element_at, wired, flowing, keeping, meeting}
+use Rattle.geometry.specs.Wiring.{process_at, element_at}
+use Rattle.geometry.proofs.Wiring.{wired, flowing, keeping, meeting}
 use Rattle.geometry.specs.Arrays.{stream_at, PipeIs, pipe_is, pipe_of_lem, one_number}
 use Rattle.abstract_network.specs.Turns.{Before, upstream, sooner}
 use Rattle.network.specs.Wiring.{kind_of, net_of, rank_at, used_index, UsedAt, stop_pipe, element_pipe, element_at as element_on}

@@ -28,7 +28,7 @@ use Rattle.geometry.specs.Places.{ahead, get_d_in, position_past, ahead_lt, rank
 use Rattle.geometry.specs.Boxes.{row_irr, row_asym, row_distinct, inside_points, points_inside, points_sorted}
 use Rattle.geometry.specs.BoxLines.{Way, Way.on, Way.back, way, march_on, march_back}
 use Rattle.geometry.specs.Pipes.{Accepted, OnePipe, flip_pipe, join_pipe, pipe_in_lem, in_pipe}
-use Rattle.geometry.specs.Soaks.{soak_rank}
+use Rattle.geometry.proofs.Soaks.{soak_rank}
 use Rattle.geometry.specs.Elements.{entry_of, entry_pipe, entry_is, one_entry}
 use Rattle.geometry.specs.Arrays.{one_number}
 use Rattle.layout.specs.Spans.{process_of}

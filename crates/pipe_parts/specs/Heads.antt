@@ -15,8 +15,9 @@ use Rattle.meaning.specs.Points.{Inside}
 use Rattle.lists.specs.Members.{any_yes}
 use Rattle.geometry.specs.Places.{ahead_lt}
 use Rattle.geometry.specs.RowOrder.{row_at_lem}
-use Rattle.geometry.specs.Processes.{computes}
-use Rattle.geometry.specs.Pipes.{Accepted, in_pipe, same_pipe, same_elements, touched_in, no_pipe_lem}
+use Rattle.geometry.proofs.Processes.{computes}
+use Rattle.geometry.specs.Pipes.{Accepted, in_pipe, same_pipe, same_elements, touched_in}
+use Rattle.geometry.proofs.Pipes.{no_pipe_lem}
 use Rattle.geometry.specs.Elements.{entry_of, entry_pipe, entry_is, entry_before}
 use Rattle.layout.specs.Spans.{process_of}
 use Rattle.survey.specs.declared.Flow.{Flow}

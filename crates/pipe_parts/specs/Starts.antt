@@ -17,7 +17,7 @@ use Rattle.meaning.specs.Pipes.{is_entry, is_pipe, pipe_elements}
 use Rattle.lists.specs.Tests.{filter_fewer}
 use Rattle.geometry.specs.Places.{rank, rank_zero, rank_yes, rank_no}
 use Rattle.geometry.specs.Pipes.{Accepted}
-use Rattle.geometry.specs.Elements.{pipes_total}
+use Rattle.geometry.proofs.Elements.{pipes_total}
 use Rattle.layout.specs.Spans.{process_of}
 use Rattle.survey.specs.declared.Flow.{Flow}
 use Rattle.lanes.specs.Flow.{Seen}

@@ -23,10 +23,12 @@ use Rattle.geometry.specs.Numbers.{yes_cond, neg_not}
 use Rattle.geometry.specs.Places.{ahead, get_d_in}
 use Rattle.geometry.specs.Boxes.{box_has, points_inside}
 use Rattle.geometry.specs.Segments.{last_at}
-use Rattle.geometry.specs.Processes.{RunAt, computing_count, computes as run_first}
-use Rattle.geometry.specs.Pipes.{Accepted, OnePipe, flip_pipe, join_pipe, passes, same_elements, no_pipe_lem, still_length}
+use Rattle.geometry.specs.Processes.{RunAt, computing_count}
+use Rattle.geometry.proofs.Processes.{computes as run_first}
+use Rattle.geometry.specs.Pipes.{Accepted, OnePipe, flip_pipe, join_pipe, passes, same_elements, still_length}
+use Rattle.geometry.proofs.Pipes.{no_pipe_lem}
 use Rattle.geometry.specs.Moving.{index_is, length_is}
-use Rattle.geometry.specs.Soaks.{soak_first, still_total, drain_is}
+use Rattle.geometry.proofs.Soaks.{soak_first, still_total, drain_is}
 use Rattle.geometry.specs.Elements.{entry_of, entry_pipe, entry_is}
 use Rattle.geometry.specs.RowOrder.{row_lt}
 use Rattle.geometry.specs.Arrays.{one_number}

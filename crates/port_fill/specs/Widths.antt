@@ -17,8 +17,9 @@ use Rattle.geometry.specs.Places.{get_d_in}
 use Rattle.geometry.specs.Boxes.{inside_points, points_inside}
 use Rattle.geometry.specs.RowOrder.{row_lt}
 use Rattle.geometry.specs.Segments.{at_box}
-use Rattle.geometry.specs.Pipes.{Accepted, in_on}
-use Rattle.geometry.specs.Elements.{elements_distinct}
+use Rattle.geometry.specs.Pipes.{Accepted}
+use Rattle.geometry.proofs.Pipes.{in_on}
+use Rattle.geometry.proofs.Elements.{elements_distinct}
 use Rattle.addresses.specs.Ends.{back_of, on_of, exit_of, back_inside, on_inside, last_inside}
 use Rattle.layout.specs.Spans.{process_of}
 use Rattle.lanes.specs.Held.{entry_number}

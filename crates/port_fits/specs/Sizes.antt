@@ -12,7 +12,7 @@ use Rattle.lists.specs.Members.{each_length}
 use Rattle.lists.specs.Sums.{part_ends}
 use Rattle.geometry.specs.Descriptions.{laid}
 use Rattle.geometry.specs.Arrays.{pipe_count_lem}
-use Rattle.geometry.specs.PipeOrder.{list_length_lem}
+use Rattle.geometry.proofs.PipeOrder.{list_length_lem}
 use Rattle.network.specs.Wiring.{Wired, stop_pipe}
 use Rattle.guarantee.proofs.Wired.{wired}
 use Rattle.addresses.specs.Indices.{process_count_lem, stream_count_lem, word_count_lem}

@@ -19,7 +19,7 @@ use Rattle.meaning.specs.Walk.{walk_tests, walk_refusal, untouched_on_walk, walk
 use Rattle.geometry.specs.Tests.{one_applies}
 use Rattle.geometry.specs.Processes.{Layout}
 use Rattle.geometry.specs.Descriptions.{walk_passes, walk_layout}
-use Rattle.geometry.specs.Walk.{whole_walk, any_on_walk}
+use Rattle.geometry.proofs.Walk.{whole_walk, any_on_walk}
 use Rattle.guarantee.specs.Acceptance.{accepted_not_refused}
 use Rattle.guarantee.proofs.Demand1.{demand_one}
 

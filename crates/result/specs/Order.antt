@@ -9,7 +9,7 @@ use Rattle.meaning.specs.Lists.{numbers}
 use Rattle.meaning.specs.Calls.{length_of}
 use Rattle.lists.specs.Members.{map_at, numbers_length, numbers_at}
 use Rattle.geometry.specs.Places.{found}
-use Rattle.geometry.specs.PipeOrder.{numbers_all, list_length_lem}
+use Rattle.geometry.proofs.PipeOrder.{numbers_all, list_length_lem}
 use Rattle.addresses.specs.Orders.{found_at}
 use Rattle.figures.specs.Shares.{elements_most_lem}
 use Rattle.element_places.specs.Order.{PlacesOf, Placeable, place_of_element}

@@ -11,7 +11,7 @@ use Rattle.lists.specs.Members.{map_at}
 use Rattle.lists.specs.Fills.{fill_one}
 use Rattle.geometry.specs.Places.{get_d_in, Found, found}
 use Rattle.geometry.specs.Descriptions.{Laid}
-use Rattle.geometry.specs.PipeOrder.{numbers_lt, numbers_all, list_length_lem}
+use Rattle.geometry.proofs.PipeOrder.{numbers_lt, numbers_all, list_length_lem}
 use Rattle.addresses.specs.Orders.{found_at}
 use Rattle.element_places.specs.Spread.{spread, spread_length, spread_puts}
 use Rattle.element_places.specs.Order.{PlacesOf}

@@ -22,7 +22,7 @@ use Rattle.geometry.specs.Boxes.{box_has, points_inside}
 use Rattle.geometry.specs.RowOrder.{row_at_lem, row_lt, row_number}
 use Rattle.geometry.specs.Processes.{Layout}
 use Rattle.geometry.specs.Accept.{touch, touched_few}
-use Rattle.geometry.specs.Walk.{walk_length, any_on_walk}
+use Rattle.geometry.proofs.Walk.{walk_length, any_on_walk}
 use Rattle.vectors.specs.Within.{Rows}
 use Rattle.numbering.specs.Ranges.{Bounded, point_small}
 use Rattle.counting.specs.declared.Form.{Form}

@@ -17,9 +17,10 @@ use Rattle.meaning.specs.Points.{Within as InBounds}
 use Rattle.meaning.specs.Walk.{own_line, walk}
 use Rattle.lists.specs.Members.{map_at, each_part, each_length, numbers_length, numbers_at}
 use Rattle.lists.specs.Sums.{total_none, total_next}
-use Rattle.geometry.specs.Processes.{Layout, run_at, instance_at_lem}
+use Rattle.geometry.specs.Processes.{Layout, run_at}
+use Rattle.geometry.proofs.Processes.{instance_at_lem}
 use Rattle.geometry.specs.Places.{get_d_in}
-use Rattle.geometry.specs.Walk.{walk_length, nothing_else}
+use Rattle.geometry.proofs.Walk.{walk_length, nothing_else}
 use Rattle.vectors.specs.Within.{Within}
 use Rattle.numbering.specs.Ranges.{Bounded, point_small}
 use Rattle.survey.specs.declared.Ground.{Ground}

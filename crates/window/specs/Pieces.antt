@@ -16,7 +16,7 @@ use Rattle.meaning.specs.Array.{Pipe, Array, array_of, no_pipe, pipe_number, ele
 use Rattle.meaning.specs.Accept.{refusal_of}
 use Rattle.meaning.specs.Calls.{length_of, refused_by, window}
 use Rattle.geometry.specs.Descriptions.{Laid, laid}
-use Rattle.geometry.specs.PipeOrder.{list_length_lem}
+use Rattle.geometry.proofs.PipeOrder.{list_length_lem}
 use Rattle.decode.specs.Refusals.{refuses, passes, accepts}
 use Rattle.declines.specs.Tests.{window_lengths, window_fits}
 use Rattle.figures.specs.Shares.{Described, described}
