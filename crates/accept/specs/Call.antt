@@ -3,7 +3,7 @@ use Rattle.std.specs.Prelude.{◌≡◌, List, ℕ}
 use Rattle.std.proofs.Common.{◌∙◌, ap, ap₂, ne_eqb}
 use Rattle.meaning.specs.declared.Figures.{Figures}
 use Rattle.meaning.specs.declared.Divisors.{Divisors}
-use Rattle.meaning.specs.declared.Acceptance.TheVariants.{Accepted, Refused}
+use Rattle.meaning.specs.Answers.{Accepted, Refused}
 use Rattle.meaning.specs.declared.Limits.{Limits}
 use Rattle.meaning.specs.Description.{description_of}
 use Rattle.meaning.specs.Accept.{refusal_of, figures, divisors, accept}

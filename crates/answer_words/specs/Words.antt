@@ -2,10 +2,7 @@
 use Rattle.std.specs.Prelude.{◌≡◌, List, [], ℕ, ◌+◌, ◌*◌, ◌≤◌, length, get_or, set}
 use Rattle.std.proofs.Common.{◌∙◌, ap, arith}
 use Rattle.std.proofs.Math.Seq.{set_out}
-use Rattle.meaning.specs.declared.Answer.{Answer}
-use Rattle.meaning.specs.declared.Ran.{Ran}
-use Rattle.meaning.specs.declared.Readiness.{Readiness}
-use Rattle.meaning.specs.Answers.{answer_number, ran_number, ran_values, ready_number, ready_values}
+use Rattle.meaning.specs.Answers.{answer_number, ran_number, ran_values, ready_number, ready_values, Answer, ReadyAnswer, RunAnswer}
 use Rattle.answer_words.specs.declared.Words.{Words}
 
 -- a number, and values, 0 where there are none

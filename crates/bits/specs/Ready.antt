@@ -9,7 +9,7 @@ use Rattle.std.proofs.Math.Dec.{ltb}
 use Rattle.std.proofs.lemmas.Bool.{eqb-false}
 use Rattle.meaning.specs.Lists.{filter, position, numbers}
 use Rattle.meaning.specs.declared.Limits.{Limits}
-use Rattle.meaning.specs.declared.Readiness.TheVariants.{Ready}
+use Rattle.meaning.specs.Answers.{Ready}
 use Rattle.meaning.specs.Array.{process_count}
 use Rattle.meaning.specs.Rules.{Memory}
 use Rattle.meaning.specs.Tests.{◌if◌}

@@ -5,11 +5,9 @@ use Rattle.std.proofs.Common.{sym, ◌∙◌, eq-eqb, ne_eqb}
 use Prim.Native.Nat.{ℕ, zero, suc, ◌+◌, ◌*◌, ◌-◌, ◌/◌, ◌≤◌, ◌<◌}
 use native.Mathlib.Omega.{arith}
 use Rattle.meaning.specs.declared.Limits.{Limits}
-use Rattle.meaning.specs.declared.Answer.{Answer}
-use Rattle.meaning.specs.declared.Answer.TheVariants.{Done}
 use Rattle.meaning.specs.Limits.{limits_of}
 use Rattle.meaning.specs.Rules.{Memory, memory_of}
-use Rattle.meaning.specs.Answers.{answer_number}
+use Rattle.meaning.specs.Answers.{answer_number, Answer, Done}
 use Rattle.meaning.specs.Calls.{start, step, run, ready_call, window, result}
 use Rattle.meaning.specs.Demand3.{CallStep, CallRun, CallReady, CallWindow, CallResult, Told, leaves, memory_after, Demand3}
 use Rattle.answer_words.specs.declared.Words.{Words}

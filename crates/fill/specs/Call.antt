@@ -3,7 +3,7 @@ use Rattle.std.specs.Prelude.{◌≡◌, refl, List, ℕ, suc, ◌≤◌, eqb, l
 use Rattle.std.proofs.Common.{sym, ◌∙◌, arith}
 use borrow.Author.Tests.{eq-eqb, ne_eqb, ltb-false}
 use Rattle.integers.specs.Fill.{fill_by}
-use Rattle.meaning.specs.declared.Answer.TheVariants.{Done, Refused}
+use Rattle.meaning.specs.Answers.{Done, Refused}
 use Rattle.meaning.specs.Tests.{refusal}
 use Rattle.meaning.specs.Generator.{after, fill_tests, fill}
 use Rattle.lists.specs.Fills.{fill_front}

@@ -14,7 +14,8 @@ use Rattle.meaning.specs.Loops.{place_of, increment}
 use Rattle.meaning.specs.Space.{row_index, space, processes, count, first, last}
 use Rattle.meaning.specs.Array.{runs, array_of, runs_of, count_at, instance_at, process_count, stream_count}
 use Rattle.meaning.specs.State.{Firings, read}
-use Rattle.meaning.specs.Rules.{Fire, ready, ready_to_use, fire_instance}
+use Rattle.meaning.specs.declared.Step.TheVariants.{Fire}
+use Rattle.meaning.specs.Rules.{ready, ready_to_use, fire_instance}
 use Rattle.meaning.specs.Points.{Within, At}
 use Rattle.meaning.specs.Demand2.{row_at, RunBy, RunOnce, EveryPass}
 use Rattle.lists.specs.Members.{map_at}

@@ -12,13 +12,12 @@ use Rattle.integers.specs.declared.V3.{V3}
 use Rattle.meaning.specs.declared.Limits.{Limits}
 use Rattle.meaning.specs.declared.Stream.{Stream}
 use Rattle.meaning.specs.declared.Description.{Description}
-use Rattle.meaning.specs.declared.Acceptance.TheVariants.{Accepted, Refused}
 use Rattle.meaning.specs.Lists.{each, numbers, numbers_from}
 use Rattle.meaning.specs.Tests.{Test}
 use Rattle.meaning.specs.Points.{Directed, Within}
 use Rattle.meaning.specs.Description.{sizes_of, description_of, streams_of, stream_of as decoded, no_stream, written}
 use Rattle.meaning.specs.Accept.{stream_tests, tests_from, all_tests, refusal_of, figures, divisors, accept, Accepts}
-use Rattle.meaning.specs.Answers.{accept_number}
+use Rattle.meaning.specs.Answers.{accept_number, Accepted, Refused}
 use Rattle.meaning.specs.Conditions.{stream_of, Meets, StreamMeets, AcceptedExactly, Condition, Condition.Board, Condition.Begins}
 use Rattle.meaning.specs.Conditions.{Condition.Sizes-fit, Condition.Long, Condition.Words-fit, Condition.Bounds-fit, Condition.Instances}
 use Rattle.meaning.specs.Conditions.{Condition.Place-rank, Condition.Increment, Condition.Processes, Condition.Rank, Condition.Line}

@@ -3,7 +3,7 @@ use Rattle.std.specs.Prelude.{◌≡◌, refl, List, ℕ, ◌*◌, ◌≤◌, eq
 use Rattle.std.proofs.Common.{sym, ◌∙◌, arith}
 use borrow.Author.Tests.{eq-eqb, ne_eqb, ltb-false}
 use Rattle.meaning.specs.declared.Sizes.{Sizes}
-use Rattle.meaning.specs.declared.Made.TheVariants.{Made, Refused}
+use Rattle.meaning.specs.Answers.{Made, Refused}
 use Rattle.meaning.specs.Tests.{refusal}
 use Rattle.meaning.specs.Description.{words_of, refused2}
 use Rattle.meaning.specs.Generator.{made_words, make_tests, make}

@@ -13,8 +13,6 @@ use Rattle.meaning.specs.declared.Stream.{Stream}
 use Rattle.meaning.specs.declared.Description.{Description}
 use Rattle.meaning.specs.declared.Figures.{Figures}
 use Rattle.meaning.specs.declared.Divisors.{Divisors}
-use Rattle.meaning.specs.declared.Acceptance.{Acceptance}
-use Rattle.meaning.specs.declared.Acceptance.TheVariants.{Accepted, Refused}
 use Rattle.meaning.specs.Lists.{any, total}
 use Rattle.meaning.specs.Tests.{Test, ◌if◌, refusal}
 use Rattle.meaning.specs.Loops.{instances, step_of, place_of, unshortened, divisor, increment}
@@ -23,7 +21,7 @@ use Rattle.meaning.specs.Streams.{line, stationary, hop, elements, touched}
 use Rattle.meaning.specs.Pipes.{pipe, entries, pipe_elements}
 use Rattle.meaning.specs.Description.{sizes_of, description_of, streams_of, written, refused1, refused2, refused3, refused4, refused5}
 use Rattle.meaning.specs.Body.{element_count}
-use Rattle.meaning.specs.Answers.{accept_number}
+use Rattle.meaning.specs.Answers.{accept_number, Acceptance, Accepted, Refused}
 
 -- ---- 33: the board
 

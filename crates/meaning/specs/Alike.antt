@@ -2,10 +2,9 @@
 use Rattle.std.specs.Prelude.{◌≡◌, List, ℕ}
 use Rattle.meaning.specs.declared.Limits.{Limits}
 use Rattle.meaning.specs.declared.Row.{Row}
-use Rattle.meaning.specs.declared.Acceptance.TheVariants.{Refused}
 use Rattle.meaning.specs.Rules.{Memory}
 use Rattle.meaning.specs.Accept.{accept}
-use Rattle.meaning.specs.Answers.{answer_number, ran_number, ready_number}
+use Rattle.meaning.specs.Answers.{answer_number, ran_number, ready_number, Refused}
 use Rattle.meaning.specs.Calls.{table, start, step, run, ready_call, window, result, plain_run}
 use Rattle.meaning.specs.Demand1.{Declined, NothingChanged}
 

@@ -2,8 +2,7 @@
 -- lists of calls that are told different boards is part of demand 3 (`Demand3.told`).
 use Rattle.std.specs.Prelude.{◌≡◌, ◌↔◌, List, ◌++◌, ℕ, ◌≤◌, ◌<◌, length}
 use Rattle.meaning.specs.declared.Limits.{Limits}
-use Rattle.meaning.specs.declared.Acceptance.{Acceptance}
-use Rattle.meaning.specs.declared.Acceptance.TheVariants.{Refused}
+use Rattle.meaning.specs.Answers.{Acceptance, Refused}
 use Rattle.meaning.specs.Limits.{limits_of, gauge_limits, bench_limits, UpTo}
 use Rattle.meaning.specs.Tests.{refusal}
 use Rattle.meaning.specs.Loops.{instances}

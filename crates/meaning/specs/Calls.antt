@@ -7,10 +7,7 @@ use Rattle.meaning.specs.declared.Limits.{Limits}
 use Rattle.meaning.specs.declared.Stream.{Stream}
 use Rattle.meaning.specs.declared.Description.{Description}
 use Rattle.meaning.specs.declared.Row.{Row}
-use Rattle.meaning.specs.declared.Answer.{Answer}
-use Rattle.meaning.specs.declared.Answer.TheVariants.{Done, Refused}
-use Rattle.meaning.specs.declared.Ran as Ran
-use Rattle.meaning.specs.declared.Readiness as Readiness
+use Rattle.meaning.specs.Answers.{Answer, Done, Ran, Ready, ReadyAnswer, Refused, RunAnswer}
 use Rattle.meaning.specs.Lists.{any, every, filter, position, total, numbers}
 use Rattle.meaning.specs.Tests.{Test, ◌if◌, refusal}
 use Rattle.meaning.specs.Space.{processes, count, first, last, computing}
@@ -21,7 +18,9 @@ use Rattle.meaning.specs.Accept.{refusal_of, state_words}
 use Rattle.meaning.specs.Array.{Array, array_of, row_soak, process_count, stream_count, pipe_number, elements_on, pipe_order, part_of}
 use Rattle.meaning.specs.Array.{on_pipe}
 use Rattle.meaning.specs.State.{Received, read}
-use Rattle.meaning.specs.Rules.{sound, Step, Send, Take, Fire, Give, Receive, Memory, ready, apply, steps_of, any_ready, Found, at}
+use Rattle.meaning.specs.declared.Step.{Step}
+use Rattle.meaning.specs.declared.Step.TheVariants.{Send, Take, Fire, Give, Receive}
+use Rattle.meaning.specs.Rules.{sound, Memory, ready, apply, steps_of, any_ready, Found, at}
 use Rattle.meaning.specs.Rules.{nothing, run_steps, apply_all}
 
 -- ---- what the calls test
@@ -170,13 +169,13 @@ module _ (l : Limits) (s : List ℕ) where
   -- ---- RUN
 
   -- "does a given number of steps, fewer only when none is ready, always the lowest ready; it answers steps done and whether any is ready"
-  unfoldable pub run : ℕ → Memory → Left Ran.Ran
+  unfoldable pub run : ℕ → Memory → Left RunAnswer
   run steps M =
       let n = refused_by (memory_tests d M) in
       let done = run_steps A steps M in
       let M' = apply_all A M done in
       record {
-        answer = cond (eqb n 0) (Ran.TheVariants.Ran (length done) (any_ready A M'.state)) (Ran.TheVariants.Refused n);
+        answer = cond (eqb n 0) (Ran (length done) (any_ready A M'.state)) (Refused n);
         memory = cond (eqb n 0) M' M;
       }
 
@@ -191,7 +190,7 @@ module _ (l : Limits) (s : List ℕ) where
   ready_word st k = total (λ b. cond (ltb (64 * k + b) (process_count A) && can_move st (64 * k + b)) (2 ^ b) 0) (numbers 64)
 
   pub record Readied : Type 0 where
-    pub answer : Readiness.Readiness
+    pub answer : ReadyAnswer
     pub words : List ℕ
 
   -- "27: fewer than 16 words"
@@ -205,8 +204,8 @@ module _ (l : Limits) (s : List ℕ) where
       let ps = numbers (process_count A) in
       record {
         answer =
-            cond (eqb n 0) (Readiness.TheVariants.Ready (length (filter (can_move M.state) ps)) (position (can_move M.state) ps))
-            (Readiness.TheVariants.Refused n);
+            cond (eqb n 0) (Ready (length (filter (can_move M.state) ps)) (position (can_move M.state) ps))
+            (Refused n);
         words = cond (eqb n 0) (map (ready_word M.state) (numbers 16) ++ drop 16 words) words;
       }
 

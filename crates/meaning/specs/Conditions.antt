@@ -14,7 +14,7 @@ use Rattle.meaning.specs.declared.Nest.{Nest}
 use Rattle.meaning.specs.declared.Stream.{Stream}
 use Rattle.meaning.specs.declared.Line.{Line as BodyLine}
 use Rattle.meaning.specs.declared.Description.{Description}
-use Rattle.meaning.specs.declared.Acceptance.TheVariants.{Accepted, Refused}
+use Rattle.meaning.specs.Answers.{Accepted, Refused}
 use Rattle.meaning.specs.Lists.{each, numbers}
 use Rattle.meaning.specs.Loops.{step_of, place_of}
 use Rattle.meaning.specs.Space.{Box}

@@ -10,7 +10,7 @@ use Rattle.meaning.specs.declared.Nest.{Nest}
 use Rattle.meaning.specs.declared.Stream.{Stream}
 use Rattle.meaning.specs.declared.Description.{Description}
 use Rattle.meaning.specs.declared.Row.{Row}
-use Rattle.meaning.specs.declared.Answer.TheVariants.{Done}
+use Rattle.meaning.specs.Answers.{Done}
 use Rattle.meaning.specs.Sorted.{Sorted, Distinct}
 use Rattle.meaning.specs.Loops.{step_of, place_of, increment}
 use Rattle.meaning.specs.Space.{Box, processes}
@@ -22,7 +22,8 @@ use Rattle.meaning.specs.Accept.{Accepts}
 use Rattle.meaning.specs.Conditions.{LeastBox, Moves, stream_of}
 use Rattle.meaning.specs.Array.{array_of}
 use Rattle.meaning.specs.State.{Firings, read}
-use Rattle.meaning.specs.Rules.{Fire, ready, do_fire, fire_instance}
+use Rattle.meaning.specs.declared.Step.TheVariants.{Fire}
+use Rattle.meaning.specs.Rules.{ready, do_fire, fire_instance}
 use Rattle.meaning.specs.Calls.{length_of, table, plain_run}
 
 -- ---- processes and their instances

@@ -3,15 +3,16 @@ use Rattle.std.specs.Prelude.{◌≡◌, ◌↔◌, Bool, true, false, not, cond
 use Rattle.std.specs.Prelude.{drop, replicate}
 use Rattle.meaning.specs.declared.Limits.{Limits}
 use Rattle.meaning.specs.declared.Description.{Description}
-use Rattle.meaning.specs.declared.Answer.TheVariants.{Done, Refused}
 use Rattle.meaning.specs.Lists.{filter, every, numbers}
 use Rattle.meaning.specs.Description.{description_of, streams_of}
 use Rattle.meaning.specs.Body.{gather, final_values}
 use Rattle.meaning.specs.Accept.{total_steps}
 use Rattle.meaning.specs.Array.{array_of, pipe_number, pipe_at, elements_on, pipe_order, part_of}
 use Rattle.meaning.specs.State.{words}
-use Rattle.meaning.specs.Rules.{Step, Receive, Send, Take, Fire, Give, Memory, any_ready, Found, at, nothing, run_steps, total_of}
-use Rattle.meaning.specs.Answers.{answer_number, ran_number, ready_number}
+use Rattle.meaning.specs.declared.Step.{Step}
+use Rattle.meaning.specs.declared.Step.TheVariants.{Receive, Send, Take, Fire, Give}
+use Rattle.meaning.specs.Rules.{Memory, any_ready, Found, at, nothing, run_steps, total_of}
+use Rattle.meaning.specs.Answers.{answer_number, ran_number, ready_number, Done, Refused}
 use Rattle.meaning.specs.Alike.{Serves}
 use Rattle.meaning.specs.Calls.{start, step, run, ready_call, window, result, step_of, length_of, state_length}
 

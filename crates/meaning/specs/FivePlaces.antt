@@ -5,7 +5,7 @@ use mathlib.Core.List.{List, ◌∷◌, Memᴰ as In}
 use Rattle.integers.specs.declared.V3.{V3}
 use Rattle.meaning.specs.declared.Limits.{Limits}
 use Rattle.meaning.specs.declared.Description.{Description}
-use Rattle.meaning.specs.declared.Acceptance.TheVariants.{Refused}
+use Rattle.meaning.specs.Answers.{Refused}
 use Rattle.meaning.specs.Limits.{limits_of, former_limits}
 use Rattle.meaning.specs.Loops.{step_of}
 use Rattle.meaning.specs.Points.{Between, IsLine}

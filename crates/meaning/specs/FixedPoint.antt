@@ -7,8 +7,7 @@ use Rattle.integers.specs.Bytes.{bits_at, word_at}
 use Rattle.meaning.specs.declared.Limits.{Limits}
 use Rattle.meaning.specs.declared.Line.{Line}
 use Rattle.meaning.specs.declared.Description.{Description}
-use Rattle.meaning.specs.declared.Acceptance.{Acceptance}
-use Rattle.meaning.specs.declared.Acceptance.TheVariants.{Refused}
+use Rattle.meaning.specs.Answers.{Acceptance, Refused}
 use Rattle.meaning.specs.Lists.{any, each, numbers}
 use Rattle.meaning.specs.Tests.{Test, ◌if◌, refusal}
 use Rattle.meaning.specs.Points.{Between}

@@ -5,9 +5,7 @@ use mathlib.Core.List.{List, [], ◌∷◌, Memᴰ as In}
 use Rattle.integers.specs.Bytes.{word_at}
 use Rattle.meaning.specs.declared.Limits.{Limits}
 use Rattle.meaning.specs.declared.Sizes.{Sizes}
-use Rattle.meaning.specs.declared.Acceptance as Acceptance
-use Rattle.meaning.specs.declared.Answer.TheVariants.{Done, Refused}
-use Rattle.meaning.specs.declared.Made as Made
+use Rattle.meaning.specs.Answers.{Done, Made, Refused}
 use Rattle.meaning.specs.Description.{sizes_of, direction_at, step_at, range_at, in_range}
 use Rattle.meaning.specs.Accept.{accept}
 use Rattle.meaning.specs.Conditions.{Known, SizesFit, word_total, Condition, Condition.Begins, Condition.Sizes-fit, Condition.Long}
@@ -65,7 +63,7 @@ abbrev pub description_from : ℕ → Sizes → List ℕ → List ℕ
 description_from seed z out = take (4 * word_total z) (make seed z out).output
 
 abbrev pub MadeWhole : ℕ → Sizes → List ℕ → Type 0
-MadeWhole seed z out = (make seed z out).answer ≡ Made.TheVariants.Made (4 * word_total z)
+MadeWhole seed z out = (make seed z out).answer ≡ Made (4 * word_total z)
 
 -- the conditions of 1 to 4
 abbrev pub conditions_before : List Condition
@@ -74,13 +72,13 @@ conditions_before = Begins ∷ Sizes-fit ∷ Long ∷ Words-fit ∷ []
 pub record Makes (seed : ℕ) (z : Sizes) (out : List ℕ) : Type 0 where
   -- "29 for seed zero, checked before anything else; 30 for sizes that Accept would decline by 2, next; 31 for an output too short, last";
   -- all other calls answer the number of bytes
-  pub zero_seed : seed ≡ 0 → (make seed z out).answer ≡ Made.TheVariants.Refused 29
-  pub sizes : (seed ≡ 0 → ⊥) → (SizesFit z → ⊥) → (make seed z out).answer ≡ Made.TheVariants.Refused 30
-  pub short : (seed ≡ 0 → ⊥) → SizesFit z → length out < 4 * word_total z → (make seed z out).answer ≡ Made.TheVariants.Refused 31
+  pub zero_seed : seed ≡ 0 → (make seed z out).answer ≡ Refused 29
+  pub sizes : (seed ≡ 0 → ⊥) → (SizesFit z → ⊥) → (make seed z out).answer ≡ Refused 30
+  pub short : (seed ≡ 0 → ⊥) → SizesFit z → length out < 4 * word_total z → (make seed z out).answer ≡ Refused 31
   pub whole : (seed ≡ 0 → ⊥) → SizesFit z → 4 * word_total z ≤ length out → MadeWhole seed z out
   -- the sizes of 30 are those that Accept declines by 2
   pub by_two : (seed ≡ 0 → ⊥) → (l : Limits) (s : List ℕ) → Known l → 12 ≤ length s → sizes_of s ≡ z
-      → (accept l s ≡ Acceptance.TheVariants.Refused 2) ↔ ((make seed z out).answer ≡ Made.TheVariants.Refused 30)
+      → (accept l s ≡ Refused 2) ↔ ((make seed z out).answer ≡ Refused 30)
   -- "a whole description of given sizes", "its words after the three sizes drawn in file order", one round each
   pub given : MadeWhole seed z out → sizes_of (description_from seed z out) ≡ z
   pub words : MadeWhole seed z out → (k : ℕ) → 3 ≤ k → k < word_total z

@@ -5,8 +5,7 @@ use Rattle.std.specs.Prelude.{negsuc, nat_abs, ◌+ℤ◌, ◌-ℤ◌}
 use Rattle.std.specs.Int.Bits.{bit_xor}
 use Rattle.meaning.specs.declared.Range.{Range}
 use Rattle.meaning.specs.declared.Sizes.{Sizes}
-use Rattle.meaning.specs.declared.Answer.{Answer}
-use Rattle.meaning.specs.declared.Made as Made
+use Rattle.meaning.specs.Answers.{Answer, Made, MakeAnswer, Refused}
 use Rattle.meaning.specs.Lists.{numbers, numbers_from}
 use Rattle.meaning.specs.Tests.{Test, ◌if◌, refusal}
 use Rattle.meaning.specs.Description.{bytes, words_of, range_at, is_direction, refused2}
@@ -95,7 +94,7 @@ made z seed = bytes (made_words z seed)
 
 -- an answer, and the output afterwards
 pub record Described : Type 0 where
-  pub answer : Made.Made
+  pub answer : MakeAnswer
   pub output : List ℕ
 
 -- "29 for seed zero, checked before anything else; 30 for sizes that Accept would decline by 2, next; 31 for an output too short, last"
@@ -107,6 +106,6 @@ unfoldable pub make : ℕ → Sizes → List ℕ → Described
 make seed z out =
     let k = refusal (make_tests seed z out) in
     record {
-      answer = cond (eqb k 0) (Made.TheVariants.Made (4 * words_of z)) (Made.TheVariants.Refused k);
+      answer = cond (eqb k 0) (Made (4 * words_of z)) (Refused k);
       output = cond (eqb k 0) (made z seed ++ drop (4 * words_of z) out) out;
     }

@@ -7,7 +7,7 @@ use Rattle.integers.specs.Bytes.{bits_at, word_at}
 use Rattle.integers.specs.declared.V3.{V3}
 use Rattle.meaning.specs.declared.Limits.{Limits}
 use Rattle.meaning.specs.declared.Line.{Line}
-use Rattle.meaning.specs.declared.Acceptance.TheVariants.{Refused}
+use Rattle.meaning.specs.Answers.{Refused}
 use Rattle.meaning.specs.Description.{sizes_of, line_at, no_line, description_of, lines_of}
 use Rattle.meaning.specs.Accept.{accept, Accepts}
 use Rattle.meaning.specs.Conditions.{Known, SizesFit, former_total, GuardFits, Condition, Condition.Board, Condition.Begins}

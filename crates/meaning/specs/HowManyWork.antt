@@ -7,13 +7,12 @@ use Rattle.integers.specs.declared.V3.{V3}
 use Rattle.meaning.specs.declared.Limits.{Limits}
 use Rattle.meaning.specs.declared.Nest.{Nest}
 use Rattle.meaning.specs.declared.Description.{Description}
-use Rattle.meaning.specs.declared.Answer.TheVariants.{Done, Refused}
 use Rattle.meaning.specs.Lists.{filter, total}
 use Rattle.meaning.specs.Sorted.{Distinct}
 use Rattle.meaning.specs.Points.{Between}
 use Rattle.meaning.specs.Description.{sizes_of, step_at, place_at, description_of}
 use Rattle.meaning.specs.Accept.{accept}
-use Rattle.meaning.specs.Answers.{accept_number}
+use Rattle.meaning.specs.Answers.{accept_number, Done, Refused}
 use Rattle.meaning.specs.Conditions.{Known}
 use Rattle.meaning.specs.StepVectors.{vectors, with_step, step_vectors}
 

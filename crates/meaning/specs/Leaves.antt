@@ -6,7 +6,7 @@ use Rattle.integers.specs.declared.V3.{V3}
 use Rattle.meaning.specs.declared.Limits.{Limits}
 use Rattle.meaning.specs.declared.Line.{Line}
 use Rattle.meaning.specs.declared.Description.{Description}
-use Rattle.meaning.specs.declared.Answer.TheVariants.{Done}
+use Rattle.meaning.specs.Answers.{Done}
 use Rattle.meaning.specs.Loops.{instances}
 use Rattle.meaning.specs.Operations.{modulus}
 use Rattle.meaning.specs.Description.{description_of, lines_of}

@@ -8,8 +8,7 @@ use Rattle.integers.specs.declared.V2.{V2}
 use Rattle.meaning.specs.declared.Limits.{Limits}
 use Rattle.meaning.specs.declared.Nest.{Nest}
 use Rattle.meaning.specs.declared.Row.{Row}
-use Rattle.meaning.specs.declared.Acceptance.{Acceptance}
-use Rattle.meaning.specs.declared.Acceptance.TheVariants.{Refused}
+use Rattle.meaning.specs.Answers.{Acceptance, Refused}
 use Rattle.meaning.specs.Lists.{each, numbers}
 use Rattle.meaning.specs.Tests.{Test, ◌if◌, refusal}
 use Rattle.meaning.specs.Loops.{place_of, increment}

@@ -3,6 +3,8 @@
 use Rattle.std.specs.Prelude.{Bool, cond, ◌&&◌, ◌||◌, List, [], ◌∷◌, ◌++◌, map, ℕ, zero, suc, ◌+◌, ◌-◌, eqb, leb, ltb, length, get_or, set}
 use Rattle.std.specs.Prelude.{take}
 use Rattle.integers.specs.declared.V3.{V3}
+use Rattle.meaning.specs.declared.Step.{Step}
+use Rattle.meaning.specs.declared.Step.TheVariants.{Send, Take, Fire, Give, Receive}
 use Rattle.meaning.specs.Lists.{every, any, each, numbers}
 use Rattle.meaning.specs.Body.{run_lines}
 use Rattle.meaning.specs.Array.{Array, count_at, instance_at, process_count, stream_count, pipe_number, pipe_at, stops_on, elements_on}
@@ -209,14 +211,6 @@ module _ (A : Array) where
   received_then out st q = set out (part_start A q + read A st (Received q)) (oldest st q (stops_on A q))
 
 -- ---- steps
-
--- send and receive of a pipe, take and give of a process and a stream, fire of a process
-pub data Step : Type 0 where
-  Send : ℕ → Step
-  Take : ℕ → ℕ → Step
-  Fire : ℕ → Step
-  Give : ℕ → ℕ → Step
-  Receive : ℕ → Step
 
 -- what a run works on: the waiting and the received list, and the state
 pub record Memory : Type 0 where

@@ -2,13 +2,12 @@
 -- and the call, for any board, bytes and k: the answer, and the lent counts afterwards.
 use Rattle.std.specs.Prelude.{Bool, cond, List, [], ◌∷◌, ◌++◌, map, ℕ, zero, suc, ◌+◌, ◌*◌, eqb, ltb, length, take, drop, ℤ, pos, neg_ℤ}
 use Rattle.meaning.specs.declared.Limits.{Limits}
-use Rattle.meaning.specs.declared.Answer.{Answer}
 use Rattle.meaning.specs.Lists.{filter, each, numbers}
 use Rattle.meaning.specs.Tests.{Test, ◌if◌, refusal}
 use Rattle.meaning.specs.Loops.{progression}
 use Rattle.meaning.specs.Description.{bytes, sizes_of, step_at, description_of, refused5}
 use Rattle.meaning.specs.Accept.{refused33, refused6, refused7, byte_tests, accept}
-use Rattle.meaning.specs.Answers.{accept_number}
+use Rattle.meaning.specs.Answers.{accept_number, Answer}
 use Rattle.meaning.specs.Calls.{answer}
 
 -- ---- the vectors

@@ -9,7 +9,6 @@ use Rattle.meaning.specs.declared.Limits.{Limits}
 use Rattle.meaning.specs.declared.Nest.{Nest}
 use Rattle.meaning.specs.declared.Stream.{Stream}
 use Rattle.meaning.specs.declared.Description.{Description}
-use Rattle.meaning.specs.declared.Acceptance.{Acceptance}
 use Rattle.meaning.specs.Lists.{any, each, numbers}
 use Rattle.meaning.specs.Tests.{Test, ◌if◌, refusal}
 use Rattle.meaning.specs.Loops.{instances, step_of, place_of, increment}
@@ -19,7 +18,7 @@ use Rattle.meaning.specs.Points.{Within}
 use Rattle.meaning.specs.Streams.{elements, touches}
 use Rattle.meaning.specs.Description.{description_of, streams_of, written}
 use Rattle.meaning.specs.Accept.{refused33, stream_tests, nest_tests, byte_tests, answer_of, accept}
-use Rattle.meaning.specs.Answers.{accept_number}
+use Rattle.meaning.specs.Answers.{accept_number, Acceptance}
 
 -- ---- the walk
 

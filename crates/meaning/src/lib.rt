@@ -180,37 +180,26 @@ pub struct Row {
     pub drain: [u32; 6],
 }
 
-// The answers of the calls; a refusal has document 01's number.
+// What Run answers: the steps done, and whether any is ready.
 #[derive(Clone, Copy)]
-pub enum Acceptance {
-    Accepted(Figures, Divisors),
-    Refused(u32),
+pub struct Ran {
+    pub steps: u32,
+    pub ready: bool,
 }
 
-// Of Table, Start, Step, Result, Plain run and Fill.
+// What Ready answers: how many processes can take, fire or give, and the lowest (the number of processes when none).
 #[derive(Clone, Copy)]
-pub enum Answer {
-    Done,
-    Refused(u32),
+pub struct Readiness {
+    pub count: u32,
+    pub lowest: u32,
 }
 
-// Of Run: the steps done, and whether any is ready.
+// A step of the network: send and receive of a pipe, take and give of a process and a stream, fire of a process.
 #[derive(Clone, Copy)]
-pub enum Ran {
-    Ran { steps: u32, ready: bool },
-    Refused(u32),
-}
-
-// Of Ready: how many processes can take, fire or give, and the lowest (the number of processes when none).
-#[derive(Clone, Copy)]
-pub enum Readiness {
-    Ready { count: u32, lowest: u32 },
-    Refused(u32),
-}
-
-// Of Make: the number of bytes.
-#[derive(Clone, Copy)]
-pub enum Made {
-    Made { bytes: u32 },
-    Refused(u32),
+pub enum Step {
+    Send(usize),
+    Take(usize, usize),
+    Fire(usize),
+    Give(usize, usize),
+    Receive(usize),
 }

@@ -3,7 +3,8 @@ use Rattle.std.specs.Prelude.{◌≡◌, refl, ◌⊎◌, Bool, true, false, con
 use Rattle.std.proofs.Common.{sym, ◌∙◌, ap, inl, inr, true≢false, arith, ltb-true, ne_eqb}
 use Rattle.meaning.specs.declared.Limits.{Limits}
 use Rattle.meaning.specs.Array.{Array, process_count, stream_count, pipe_number, on_pipe}
-use Rattle.meaning.specs.Rules.{Take, Give, Receive, at, nothing}
+use Rattle.meaning.specs.declared.Step.TheVariants.{Take, Give, Receive}
+use Rattle.meaning.specs.Rules.{at, nothing}
 use Rattle.meaning.specs.Calls.{A, has_port, if_there, step_of}
 use Rattle.lists.specs.Tests.{both_true}
 use Rattle.ports.specs.Rows.{row_of}

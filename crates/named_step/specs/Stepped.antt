@@ -4,8 +4,7 @@ use Rattle.std.proofs.Math.Path.{refl, sym}
 use Rattle.std.proofs.Common.{◌∙◌}
 use Rattle.meaning.specs.declared.Description.{Description}
 use Rattle.meaning.specs.declared.Limits.{Limits}
-use Rattle.meaning.specs.declared.Answer.{Answer}
-use Rattle.meaning.specs.declared.Answer.TheVariants.{Done, Refused}
+use Rattle.meaning.specs.Answers.{Answer, Done, Refused}
 use Rattle.meaning.specs.Tests.{Test, ◌if◌, refusal}
 use Rattle.meaning.specs.Description.{description_of}
 use Rattle.meaning.specs.Array.{array_of}

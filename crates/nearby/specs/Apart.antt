@@ -3,7 +3,7 @@ use Rattle.std.specs.Prelude.{◌≡◌, refl, ℕ, zero, suc, ◌<◌}
 use Rattle.std.proofs.Common.{sym, ◌∙◌, ap, le_refl, arith}
 use Rattle.meaning.specs.Array.{Array, stops_on, pipe_through}
 use Rattle.meaning.specs.State.{word_count}
-use Rattle.meaning.specs.Rules.{Step}
+use Rattle.meaning.specs.declared.Step.{Step}
 use Rattle.abstract_network.specs.Counters.{put, get, fire}
 use Rattle.abstract_network.specs.Counters as Abstract
 use Rattle.network.proofs.Places.{layout}

@@ -4,7 +4,9 @@ use Rattle.std.specs.Prelude.{◌≡◌, refl, Bool, true, ◌⊎◌, ℕ, zero,
 use Rattle.std.proofs.Common.{sym, ◌∙◌, ap, ap₂, subst₂, inl, inr, le_refl, arith, lt-ltb, le-ltb}
 use Rattle.meaning.specs.Array.{Array, pipe_number, stops_on, pipe_through, on_pipe, place_on}
 use Rattle.meaning.specs.State.{Word, Firings, Taken, Given, Hand, Keep, Place, Sent, Received, End, index, word_count}
-use Rattle.meaning.specs.Rules.{process_on, stream_on, put_in, taken_out, sound, Step, Send, Take, Fire, Give, Receive, Memory, ready}
+use Rattle.meaning.specs.declared.Step.{Step}
+use Rattle.meaning.specs.declared.Step.TheVariants.{Send, Take, Fire, Give, Receive}
+use Rattle.meaning.specs.Rules.{process_on, stream_on, put_in, taken_out, sound, Memory, ready}
 use Rattle.meaning.specs.Rules.{apply}
 use Rattle.abstract_network.specs.Counters.{put, get, fire, put≢fire, get≢fire}
 use Rattle.abstract_network.specs.Counters as Abstract

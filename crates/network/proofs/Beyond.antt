@@ -10,7 +10,8 @@ use Rattle.meaning.specs.declared.Description.{Description}
 use Rattle.meaning.specs.Description.{description_of}
 use Rattle.meaning.specs.Accept.{refusal_of}
 use Rattle.meaning.specs.Array.{Array, array_of}
-use Rattle.meaning.specs.Rules.{Step, Memory, apply_all}
+use Rattle.meaning.specs.declared.Step.{Step}
+use Rattle.meaning.specs.Rules.{Memory, apply_all}
 use Rattle.meaning.specs.Answers.{answer_number, ran_number}
 use Rattle.meaning.specs.Calls.{state_length, step, run}
 use Rattle.meaning.specs.Demand3.{Call, CallStep, CallRun, CallReady, CallWindow, CallResult, Told, leaves, grants, memory_after}

@@ -6,14 +6,14 @@ use Rattle.std.proofs.lemmas.List.{length-map, length-replicate}
 use Rattle.std.proofs.Math.Seq.{take-length}
 use Rattle.meaning.specs.declared.Limits.{Limits}
 use Rattle.meaning.specs.declared.Description.{Description}
-use Rattle.meaning.specs.declared.Answer.TheVariants.{Done, Refused}
 use Rattle.meaning.specs.Description.{description_of}
 use Rattle.meaning.specs.Body.{final_values}
 use Rattle.meaning.specs.Accept.{refusal_of}
 use Rattle.meaning.specs.Array.{Array, array_of, pipe_number, pipe_at, elements_on, pipe_order, part_of}
 use Rattle.meaning.specs.State.{words}
-use Rattle.meaning.specs.Rules.{Step, Memory, total_of, apply_all}
-use Rattle.meaning.specs.Answers.{answer_number}
+use Rattle.meaning.specs.declared.Step.{Step}
+use Rattle.meaning.specs.Rules.{Memory, total_of, apply_all}
+use Rattle.meaning.specs.Answers.{answer_number, Done, Refused}
 use Rattle.meaning.specs.Calls.{length_of, state_length, started, start, all_out, in_element_order, result}
 use Rattle.meaning.specs.Demand3.{Told, memory_after, granted_by, receives, all_received, final_value, Holds, finish, SameMemory}
 use Rattle.meaning.specs.Demand3.{declined_by}

@@ -7,7 +7,8 @@ use Rattle.std.proofs.Math.Bool.{false}
 use Rattle.std.proofs.Math.Dec.{eqb}
 use Rattle.std.proofs.Math.ListN.{get_or-eq_default}
 use Rattle.meaning.specs.Array.{Array, Pipe, count_at, process_count, pipe_number, no_pipe, stops_on, elements_on, part_start, pipe_through}
-use Rattle.meaning.specs.Rules.{process_on, stream_on, Send, Take, Fire, Give, Receive, Memory, ready, in_order, any_ready, apply_all}
+use Rattle.meaning.specs.declared.Step.TheVariants.{Send, Take, Fire, Give, Receive}
+use Rattle.meaning.specs.Rules.{process_on, stream_on, Memory, ready, in_order, any_ready, apply_all}
 use Rattle.meaning.specs.Rules as Rules
 use Rattle.meaning.specs.Demand3.{receives}
 use Rattle.abstract_network.specs.Cases.{Order, less, at_least, order}

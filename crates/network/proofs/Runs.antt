@@ -10,7 +10,8 @@ use Rattle.std.proofs.lemmas.Bool.{eqb-false}
 use Rattle.meaning.specs.Lists.{filter}
 use Rattle.meaning.specs.Array.{Array, stops_on, elements_on, part_start, list_length, pipe_through}
 use Rattle.meaning.specs.State.{index, word_count}
-use Rattle.meaning.specs.Rules.{Send, Take, Fire, Give, Receive, Memory, ready, apply, apply_all}
+use Rattle.meaning.specs.declared.Step.TheVariants.{Send, Take, Fire, Give, Receive}
+use Rattle.meaning.specs.Rules.{Memory, ready, apply, apply_all}
 use Rattle.meaning.specs.Rules as Rules
 use Rattle.meaning.specs.Demand3.{is_receive, receives}
 use Rattle.abstract_network.specs.Cases.{Order, less, at_least, order}

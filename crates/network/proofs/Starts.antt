@@ -9,7 +9,7 @@ use Rattle.std.proofs.Math.ListN.{get_or-append}
 use Rattle.std.proofs.lemmas.Bool.{not-false}
 use Rattle.meaning.specs.declared.Limits.{Limits}
 use Rattle.meaning.specs.declared.Description.{Description}
-use Rattle.meaning.specs.declared.Answer.TheVariants.{Done, Refused}
+use Rattle.meaning.specs.Answers.{Done, Refused}
 use Rattle.meaning.specs.Description.{description_of}
 use Rattle.meaning.specs.Accept.{refusal_of}
 use Rattle.meaning.specs.Array.{Array, array_of, pipe_order}

@@ -9,7 +9,8 @@ use Rattle.meaning.specs.Lists.{numbers}
 use Rattle.meaning.specs.Array.{Array, count_at, instance_at, process_count, stream_count, stops_on, elements_on, part_start, list_length}
 use Rattle.meaning.specs.Array.{pipe_through}
 use Rattle.meaning.specs.State.{Firings, Received, word_count, read}
-use Rattle.meaning.specs.Rules.{stream_on, oldest, body_at, Send, Take, Fire, Give, Receive, Memory, apply, apply_all}
+use Rattle.meaning.specs.declared.Step.TheVariants.{Send, Take, Fire, Give, Receive}
+use Rattle.meaning.specs.Rules.{stream_on, oldest, body_at, Memory, apply, apply_all}
 use Rattle.meaning.specs.Rules as Rules
 use Rattle.lists.specs.Rows.{same_numbers}
 use Rattle.abstract_network.specs.Counters.{fire, Guard, OneMore, put≢fire, get≢fire}

@@ -12,7 +12,9 @@ use Rattle.meaning.specs.Tests.{Test, ◌if◌, refusal}
 use Rattle.meaning.specs.Description.{description_of}
 use Rattle.meaning.specs.Accept.{refusal_of}
 use Rattle.meaning.specs.Array.{Array, array_of, process_count, stream_count, pipe_number, on_pipe}
-use Rattle.meaning.specs.Rules.{Step, Send, Take, Fire, Give, Receive, Memory, ready, apply, in_order, Found, at, nothing, lowest}
+use Rattle.meaning.specs.declared.Step.{Step}
+use Rattle.meaning.specs.declared.Step.TheVariants.{Send, Take, Fire, Give, Receive}
+use Rattle.meaning.specs.Rules.{Memory, ready, apply, in_order, Found, at, nothing, lowest}
 use Rattle.meaning.specs.Rules.{run_steps}
 use Rattle.meaning.specs.Rules.{apply_all}
 use Rattle.meaning.specs.Calls.{or_else, memory_tests, refused_by, has_port, if_there, step_of, is_nothing, ready_at, applied, step, run}

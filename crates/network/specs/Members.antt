@@ -11,7 +11,9 @@ use mathlib.Core.List.Memᴰ.{append_left as left}
 use mathlib.Core.List.Memᴰ.{append_right as right}
 use Rattle.meaning.specs.Lists.{any, each, numbers}
 use Rattle.meaning.specs.Array.{Array, process_count, stream_count, pipe_number, pipe_through, on_pipe}
-use Rattle.meaning.specs.Rules.{Step, Send, Take, Fire, Give, Receive, ready_to_take, ready_to_give, ready, steps_of, in_order, at}
+use Rattle.meaning.specs.declared.Step.{Step}
+use Rattle.meaning.specs.declared.Step.TheVariants.{Send, Take, Fire, Give, Receive}
+use Rattle.meaning.specs.Rules.{ready_to_take, ready_to_give, ready, steps_of, in_order, at}
 use Rattle.meaning.specs.Rules.{first_ready}
 use Rattle.lists.specs.Members.{any_yes, yes_any, map_in, in_each, each_in, numbers_in, in_numbers}
 use Rattle.lists.specs.Tests.{is_true, both_true}

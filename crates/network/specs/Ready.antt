@@ -11,7 +11,8 @@ use Rattle.meaning.specs.Array.{on_pipe}
 use Rattle.meaning.specs.State.{Received, Firings, Taken, Given, Sent, read}
 use Rattle.meaning.specs.Rules.{process_on, stream_on, put_in, taken_out, fill, has_room, ready_to_take, ready_to_use, ready_to_fire}
 use Rattle.meaning.specs.Rules.{ready_to_give}
-use Rattle.meaning.specs.Rules.{Send, Take, Fire, Give, Receive, ready}
+use Rattle.meaning.specs.declared.Step.TheVariants.{Send, Take, Fire, Give, Receive}
+use Rattle.meaning.specs.Rules.{ready}
 use Rattle.meaning.specs.Rules as Rules
 use Rattle.abstract_network.specs.Counters.{Use, Step, put, get, fire, Counts, At, Guard}
 use Rattle.abstract_network.specs.Sound.{Sound}

@@ -6,7 +6,6 @@ use Rattle.std.proofs.Common.{◌∙◌, arith, ext_get_or}
 use borrow.Author.Tests.{eqb-true, eq-eqb}
 use Rattle.meaning.specs.declared.Limits.{Limits}
 use Rattle.meaning.specs.declared.Description.{Description}
-use Rattle.meaning.specs.declared.Answer.TheVariants.{Done, Refused}
 use Rattle.meaning.specs.Lists.{position}
 use Rattle.meaning.specs.Tests.{refusal}
 use Rattle.meaning.specs.Loops.{instances}
@@ -14,7 +13,7 @@ use Rattle.meaning.specs.Description.{description_of}
 use Rattle.meaning.specs.Body.{final_values}
 use Rattle.meaning.specs.Array.{Array, array_of, pipe_order}
 use Rattle.meaning.specs.Rules.{Memory}
-use Rattle.meaning.specs.Answers.{answer_number}
+use Rattle.meaning.specs.Answers.{answer_number, Done, Refused}
 use Rattle.meaning.specs.Calls.{length_of, answer, refused_by, all_out, in_element_order, Written, result_tests, result}
 use Rattle.meaning.specs.Demand3.{CallResult, final_value}
 use Rattle.lists.specs.Tests.{position_passes, any_position}

@@ -4,8 +4,7 @@ use Rattle.std.proofs.Common.{sym, ◌∙◌, ap}
 use Rattle.std.proofs.Math.Path.{subst}
 use borrow.Author.Tests.{ne_eqb}
 use Rattle.meaning.specs.declared.Description.{Description}
-use Rattle.meaning.specs.declared.Answer.{Answer}
-use Rattle.meaning.specs.declared.Answer.TheVariants.{Done, Refused}
+use Rattle.meaning.specs.Answers.{Answer, Done, Refused}
 use Rattle.meaning.specs.declared.Limits.{Limits}
 use Rattle.meaning.specs.Tests.{Test, refusal}
 use Rattle.meaning.specs.Limits.{gauge_limits}

@@ -6,8 +6,7 @@ use Rattle.std.proofs.Math.Bool.{true, false, cond}
 use Rattle.std.proofs.Math.Dec.{ltb}
 use borrow.Author.Tests.{ne_eqb, le-ltb, ltb-false}
 use Rattle.meaning.specs.declared.Limits.{Limits}
-use Rattle.meaning.specs.declared.Readiness.{Readiness}
-use Rattle.meaning.specs.declared.Readiness.TheVariants.{Ready, Refused}
+use Rattle.meaning.specs.Answers.{Ready, ReadyAnswer, Refused}
 use Rattle.meaning.specs.Tests.{◌if◌, refusal}
 use Rattle.meaning.specs.Description.{description_of}
 use Rattle.meaning.specs.Array.{array_of}

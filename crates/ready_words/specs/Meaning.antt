@@ -6,7 +6,8 @@ use Rattle.std.proofs.Math.Bool.{true, cond, ◌||◌}
 use mathlib.Core.List.{List, ◌∷◌, map}
 use Rattle.meaning.specs.Lists.{any, numbers}
 use Rattle.meaning.specs.Array.{Array, stream_count}
-use Rattle.meaning.specs.Rules.{sound, Take, Fire, Give, Memory, ready, steps_of}
+use Rattle.meaning.specs.declared.Step.TheVariants.{Take, Fire, Give}
+use Rattle.meaning.specs.Rules.{sound, Memory, ready, steps_of}
 use Rattle.lists.specs.Rows.{same_any}
 use Rattle.lists.specs.Tests.{any_append, any_map, any_either}
 use Rattle.take_give.specs.Moves.{can_take, can_give}

@@ -5,11 +5,9 @@ use mathlib.Core.List.Memᴰ
 use mathlib.Core.List.Memᴰ.{head as here}
 use mathlib.Core.List.{List, ◌∷◌, Memᴰ as In}
 use Rattle.meaning.specs.declared.Limits.{Limits}
-use Rattle.meaning.specs.declared.Acceptance.{Acceptance}
-use Rattle.meaning.specs.declared.Acceptance.TheVariants.{Accepted, Refused}
 use Rattle.meaning.specs.Description.{sizes_of, description_of}
 use Rattle.meaning.specs.Accept.{refusal_of, accept, figures, divisors}
-use Rattle.meaning.specs.Answers.{accept_number}
+use Rattle.meaning.specs.Answers.{accept_number, Acceptance, Accepted, Refused}
 use Rattle.meaning.specs.Conditions.{Meets, Condition, Asks, conditions, FirstFails}
 use Rattle.meaning.specs.Alike.{AnsweredAlike, DeclinedBy}
 use Rattle.network.specs.Declined.{declined}

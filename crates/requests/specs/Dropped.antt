@@ -9,7 +9,7 @@ use mathlib.Core.List.Memᴰ.{tail as there}
 use mathlib.Core.List.{List, [], ◌∷◌, ◌++◌, Memᴰ as In}
 use Prim.Native.Nat.{ℕ, zero, suc}
 use Rattle.meaning.specs.declared.Limits.{Limits}
-use Rattle.meaning.specs.declared.Acceptance.TheVariants.{Refused}
+use Rattle.meaning.specs.Answers.{Refused}
 use Rattle.meaning.specs.Tests.{Test, ◌if◌, refusal}
 use Rattle.meaning.specs.Accept.{refusal_of, answer_of, accept}
 use Rattle.meaning.specs.Conditions.{Condition, Asks, AnsweredBy, AnsweredBy.accepted, AnsweredBy.refused}

@@ -7,10 +7,9 @@ use Rattle.std.proofs.Math.Bool.{true, false}
 use Rattle.std.proofs.Math.Decide.{ℕ_discrete}
 use Rattle.std.proofs.Math.Dec.{ltb}
 use Rattle.std.proofs.Math.ListN.{get_or-append}
-use Rattle.meaning.specs.declared.Answer.TheVariants.{Done, Refused}
 use Rattle.meaning.specs.Lists.{numbers}
 use Rattle.meaning.specs.Tests.{refusal}
-use Rattle.meaning.specs.Answers.{answer_number}
+use Rattle.meaning.specs.Answers.{answer_number, Done, Refused}
 use Rattle.meaning.specs.Generator.{round, after, before, fill}
 use Rattle.meaning.specs.GeneratedLoad.{Seed, place_of, Fills}
 use Rattle.lists.specs.Rows.{length_numbers, get_d_first}

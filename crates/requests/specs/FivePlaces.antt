@@ -9,7 +9,7 @@ use mathlib.Core.List.{List, ◌∷◌, Memᴰ as In}
 use Rattle.std.specs.Int.Signed.{lt_z}
 use Rattle.integers.specs.Differences.{le_out, lt_out, le_in}
 use Rattle.integers.specs.Words.{less, not_less}
-use Rattle.meaning.specs.declared.Acceptance.TheVariants.{Refused}
+use Rattle.meaning.specs.Answers.{Refused}
 use Rattle.meaning.specs.Limits.{limits_of, former_limits}
 use Rattle.meaning.specs.Lists.{numbers}
 use Rattle.meaning.specs.Loops.{step_of}

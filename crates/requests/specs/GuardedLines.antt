@@ -11,7 +11,7 @@ use Rattle.integers.specs.declared.V3.{V3}
 use Rattle.meaning.specs.declared.Limits.{Limits}
 use Rattle.meaning.specs.declared.Sizes.{Sizes}
 use Rattle.meaning.specs.declared.Line.{Line}
-use Rattle.meaning.specs.declared.Acceptance.TheVariants.{Refused}
+use Rattle.meaning.specs.Answers.{Refused}
 use Rattle.meaning.specs.Operations.{last_operation}
 use Rattle.meaning.specs.Guards.{index_of}
 use Rattle.meaning.specs.Description.{sizes_of, body_line, no_line, description_of, lines_of}

@@ -11,13 +11,11 @@ use Rattle.std.proofs.Math.ListN.{get_or-eq_default}
 use borrow.Author.Tests.{eq-eqb, ne_eqb, lt-ltb, le-ltb}
 use Rattle.meaning.specs.declared.Limits.{Limits}
 use Rattle.meaning.specs.declared.Description.{Description}
-use Rattle.meaning.specs.declared.Answer.{Answer}
-use Rattle.meaning.specs.declared.Answer.TheVariants.{Done, Refused}
 use Rattle.meaning.specs.Lists.{total, numbers}
 use Rattle.meaning.specs.Tests.{Test, ◌if◌, refusal}
 use Rattle.meaning.specs.Description.{sizes_of, description_of, refused1, refused2, refused3, refused4, refused5}
 use Rattle.meaning.specs.Accept.{refused6, refused7, byte_tests, refusal_of, accept}
-use Rattle.meaning.specs.Answers.{accept_number, answer_number}
+use Rattle.meaning.specs.Answers.{accept_number, answer_number, Answer, Done, Refused}
 use Rattle.meaning.specs.Calls.{answer}
 use Rattle.meaning.specs.Conditions.{Known}
 use Rattle.meaning.specs.StepVectors.{vectors, answer_to, answers_to, how_many, answer_count, counts_of, vector_tests, step_vectors}

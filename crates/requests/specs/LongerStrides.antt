@@ -8,7 +8,7 @@ use mathlib.Core.List.Memᴰ.{tail as there}
 use Rattle.integers.specs.declared.V3.{V3}
 use Rattle.meaning.specs.declared.Limits.{Limits}
 use Rattle.meaning.specs.declared.Nest.{Nest}
-use Rattle.meaning.specs.declared.Acceptance.TheVariants.{Refused}
+use Rattle.meaning.specs.Answers.{Refused}
 use Rattle.meaning.specs.Tests.{refusal}
 use Rattle.meaning.specs.Loops.{increment}
 use Rattle.meaning.specs.Points.{IsLine}

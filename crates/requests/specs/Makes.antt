@@ -13,11 +13,8 @@ use Rattle.std.proofs.Math.Seq.{take-append_seam}
 use Rattle.integers.specs.Bytes.{word_at}
 use Rattle.meaning.specs.declared.Limits.{Limits}
 use Rattle.meaning.specs.declared.Sizes.{Sizes}
-use Rattle.meaning.specs.declared.Acceptance as Acceptance
-use Rattle.meaning.specs.declared.Made.{Made as MadeAnswer}
-use Rattle.meaning.specs.declared.Made.TheVariants.{Made, Refused}
 use Rattle.meaning.specs.Tests.{refusal}
-use Rattle.meaning.specs.Answers.{made_number}
+use Rattle.meaning.specs.Answers.{made_number, Made, MakeAnswer, Refused}
 use Rattle.meaning.specs.Description.{sizes_of, words_of, in_range, refused2}
 use Rattle.meaning.specs.Accept.{refusal_of, accept}
 use Rattle.meaning.specs.Conditions.{Known, SizesFit, word_total, WordsFit, number_of, Condition, Condition.Board, Condition.Begins}
@@ -80,7 +77,7 @@ two (Touched i) e = absurd (omega arith)
 
 -- Accept declines by 2 exactly the sizes that do not fit
 by_sizes : (l : Limits) (s : List ℕ) → Known l → 12 ≤ length s
-    → (accept l s ≡ Acceptance.TheVariants.Refused 2) ↔ (SizesFit (sizes_of s) → ⊥)
+    → (accept l s ≡ Refused 2) ↔ (SizesFit (sizes_of s) → ⊥)
 by_sizes l s known long = (
   λ e. let f = (refused_exactly l s 2).0 e in subst (λ (c : Condition). Asks l s c → ⊥) (two f.failed f.number) f.fails,
   λ n. (refused_exactly l s 2).1
@@ -124,7 +121,7 @@ module _ (seed : ℕ) (z : Sizes) (out : List ℕ) where
           (rw (ne_eqb seed 0 n, f, g) (ap (λ (k : ℕ). Made (4 * k)) (total_is z))) (rw (ne_eqb seed 0 n, f, g) refl)
 
   -- one answer has one number
-  differ : {p q : MadeAnswer} → (make seed z out).answer ≡ p → (make seed z out).answer ≡ q → (made_number p ≡ made_number q → ⊥) → ⊥
+  differ : {p q : MakeAnswer} → (make seed z out).answer ≡ p → (make seed z out).answer ≡ q → (made_number p ≡ made_number q → ⊥) → ⊥
   differ e f n = n (ap made_number (sym e ∙ f))
 
   -- 30 exactly for sizes that do not fit
@@ -142,7 +139,7 @@ module _ (seed : ℕ) (z : Sizes) (out : List ℕ) where
       go (whole n m h a o) = differ a e (λ g. omega arith)
 
   by_two : (seed ≡ 0 → ⊥) → (l : Limits) (s : List ℕ) → Known l → 12 ≤ length s → sizes_of s ≡ z
-      → (accept l s ≡ Acceptance.TheVariants.Refused 2) ↔ ((make seed z out).answer ≡ Refused 30)
+      → (accept l s ≡ Refused 2) ↔ ((make seed z out).answer ≡ Refused 30)
   by_two n l s known long e =
       let b = by_sizes l s known long in (
         λ a. unfit_thirty n (λ f. b.0 a (subst SizesFit (sym e) f)),

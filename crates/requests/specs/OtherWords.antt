@@ -14,8 +14,7 @@ use Rattle.meaning.specs.declared.Sizes.{Sizes}
 use Rattle.meaning.specs.declared.Stream.{Stream}
 use Rattle.meaning.specs.declared.Line.{Line}
 use Rattle.meaning.specs.declared.Description.{Description}
-use Rattle.meaning.specs.declared.Acceptance.{Acceptance}
-use Rattle.meaning.specs.declared.Acceptance.TheVariants.{Accepted, Refused}
+use Rattle.meaning.specs.Answers.{Acceptance, Accepted, Refused}
 use Rattle.meaning.specs.Tests.{◌if◌, refusal}
 use Rattle.meaning.specs.Lists.{any, numbers_from}
 use Rattle.meaning.specs.Description.{sizes_of, left_at, right_at, direction_at, step_at, place_at, line_at}

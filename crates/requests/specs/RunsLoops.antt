@@ -3,7 +3,7 @@ use Rattle.std.specs.Prelude.{◌≡◌, ◌↔◌, true, List, ℕ, length}
 use Rattle.std.proofs.Common.{sym, ◌∙◌, ap}
 use Rattle.meaning.specs.declared.Limits.{Limits}
 use Rattle.meaning.specs.declared.Description.{Description}
-use Rattle.meaning.specs.declared.Answer.TheVariants.{Done}
+use Rattle.meaning.specs.Answers.{Done}
 use Rattle.meaning.specs.Loops.{instances}
 use Rattle.meaning.specs.Description.{description_of}
 use Rattle.meaning.specs.Accept.{refusal_of, answer_of, accept, Accepts}

@@ -5,8 +5,7 @@ use Rattle.std.proofs.Math.Path.{subst}
 use Rattle.std.proofs.lemmas.Bool.{not-false}
 use Rattle.meaning.specs.declared.Description.{Description}
 use Rattle.meaning.specs.declared.Limits.{Limits}
-use Rattle.meaning.specs.declared.Answer.{Answer}
-use Rattle.meaning.specs.declared.Answer.TheVariants.{Done, Refused}
+use Rattle.meaning.specs.Answers.{Answer, Done, Refused}
 use Rattle.meaning.specs.Lists.{every, numbers}
 use Rattle.meaning.specs.Tests.{Test, refusal}
 use Rattle.meaning.specs.Limits.{gauge_limits}

@@ -6,7 +6,9 @@ use Rattle.meaning.specs.Limits.{gauge_limits}
 use Rattle.meaning.specs.Description.{description_of}
 use Rattle.meaning.specs.Array.{Array, array_of, pipe_number}
 use Rattle.meaning.specs.State.{word_count}
-use Rattle.meaning.specs.Rules.{Step, Send, Take, Fire, Give, Receive, Memory, ready, apply}
+use Rattle.meaning.specs.declared.Step.{Step}
+use Rattle.meaning.specs.declared.Step.TheVariants.{Send, Take, Fire, Give, Receive}
+use Rattle.meaning.specs.Rules.{Memory, ready, apply}
 use Rattle.network.specs.Ready.{There, says_ready}
 use Rattle.network.specs.Decide.{said}
 use Rattle.network.proofs.Steps.{waiting_same, received_length, step_length}

@@ -7,7 +7,8 @@ use native.Mathlib.Omega.{arith}
 use Rattle.meaning.specs.Description.{description_of}
 use Rattle.meaning.specs.Lists.{position, numbers}
 use Rattle.meaning.specs.Array.{Array, array_of}
-use Rattle.meaning.specs.Rules.{Step, Memory, at, nothing, ready, apply, lowest, any_ready, run_steps, apply_all}
+use Rattle.meaning.specs.declared.Step.{Step}
+use Rattle.meaning.specs.Rules.{Memory, at, nothing, ready, apply, lowest, any_ready, run_steps, apply_all}
 use Rattle.network.specs.Calls.{apply_append}
 use Rattle.network.specs.Ready.{There}
 use Rattle.port_table.specs.declared.Size.{Size}

@@ -8,7 +8,8 @@ use Rattle.meaning.specs.Array.{Array, Pipe, process_count, stream_count, pipe_n
 use Rattle.meaning.specs.Array.{on_pipe}
 use Rattle.meaning.specs.Array.{place_on}
 use Rattle.meaning.specs.State.{Taken, Given, read}
-use Rattle.meaning.specs.Rules.{sound, Take, Give, Memory, ready, process_on, stream_on}
+use Rattle.meaning.specs.declared.Step.TheVariants.{Take, Give}
+use Rattle.meaning.specs.Rules.{sound, Memory, ready, process_on, stream_on}
 use Rattle.lists.specs.Tests.{both_true}
 use Rattle.ports.specs.declared.Port.{Port}
 use Rattle.ports.specs.Links.{word}

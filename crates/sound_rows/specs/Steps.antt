@@ -7,7 +7,8 @@ use Rattle.integers.specs.declared.V3.{V3}
 use Rattle.meaning.specs.declared.Line.{Line}
 use Rattle.meaning.specs.Array.{Array, stops_on, pipe_number, instance_at, on_pipe}
 use Rattle.meaning.specs.State.{Firings, read}
-use Rattle.meaning.specs.Rules.{sound, Send, Take, Fire, Give, Receive, Memory, ready, apply, with_state}
+use Rattle.meaning.specs.declared.Step.TheVariants.{Send, Take, Fire, Give, Receive}
+use Rattle.meaning.specs.Rules.{sound, Memory, ready, apply, with_state}
 use Rattle.ports.specs.declared.Port.{Port}
 use Rattle.ports.specs.declared.End.{End}
 use Rattle.ports.specs.Ports.{PortIs}

@@ -4,8 +4,7 @@ use Rattle.std.proofs.Math.Path.{refl}
 use Rattle.std.proofs.Common.{◌∙◌}
 use borrow.Author.Tests.{ne_eqb}
 use Rattle.meaning.specs.declared.Limits.{Limits}
-use Rattle.meaning.specs.declared.Answer.{Answer}
-use Rattle.meaning.specs.declared.Answer.TheVariants.{Refused}
+use Rattle.meaning.specs.Answers.{Answer, Refused}
 use Rattle.meaning.specs.Tests.{refusal}
 use Rattle.meaning.specs.Description.{description_of}
 use Rattle.meaning.specs.Rules.{Memory}

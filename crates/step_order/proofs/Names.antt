@@ -1,7 +1,8 @@
 -- Every rank is that of a step inside the array, and different ranks are different steps. Assumes nothing.
 use Rattle.std.specs.Prelude.{◌≡◌, refl, Bool, true, false, ℕ, ◌+◌, ◌*◌, ◌-◌, ◌/◌, ◌%◌, ◌<◌, ltb}
 use Rattle.std.proofs.Common.{sym, ◌∙◌, ap, ⊎_elim, div-add-mod', div-lt_iff_lt-mul, mod-lt, arith, ltb-true, ltb-false}
-use Rattle.meaning.specs.Rules.{Step, Send, Take, Fire, Give, Receive}
+use Rattle.meaning.specs.declared.Step.{Step}
+use Rattle.meaning.specs.declared.Step.TheVariants.{Send, Take, Fire, Give, Receive}
 use Rattle.port_table.specs.declared.Size.{Size}
 use Rattle.step_rules.specs.Fits.{Inside}
 use Rattle.step_order.specs.Ranks.{width, rank_count, name_at, step_at, take_rank, fire_rank, give_rank, receive_rank}

@@ -10,7 +10,9 @@ use Rattle.std.proofs.Math.ListN.{length, get_or-append}
 use Rattle.std.proofs.lemmas.List.{length-map}
 use Rattle.meaning.specs.Lists.{any, each, position, numbers}
 use Rattle.meaning.specs.Array.{Array, process_count, stream_count}
-use Rattle.meaning.specs.Rules.{Step, Send, Take, Fire, Give, Receive, at, nothing, first_ready, in_order, ready, any_ready, lowest}
+use Rattle.meaning.specs.declared.Step.{Step}
+use Rattle.meaning.specs.declared.Step.TheVariants.{Send, Take, Fire, Give, Receive}
+use Rattle.meaning.specs.Rules.{at, nothing, first_ready, in_order, ready, any_ready, lowest}
 use Rattle.lists.specs.Members.{map_at, each_length, each_at, numbers_length, numbers_at}
 use Rattle.lists.specs.Sums.{total_same}
 use Rattle.port_table.specs.declared.Size.{Size}

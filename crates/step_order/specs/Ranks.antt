@@ -1,7 +1,7 @@
 -- The step of a rank, and the rank of a step. Assumes nothing.
 use Rattle.std.specs.Prelude.{cond, ℕ, suc, ◌+◌, ◌*◌, ◌-◌, ◌/◌, ◌%◌, ◌≤◌, ◌<◌, eqb, ltb}
 use Rattle.std.proofs.Common.{mul-le-mul, mul-le-mul_right, arith}
-use Rattle.meaning.specs.Rules.{Step}
+use Rattle.meaning.specs.declared.Step.{Step}
 use Rattle.port_table.specs.declared.Size.{Size}
 use Rattle.step_rules.specs.Meaning.{step_named}
 use Rattle.step_order.specs.declared.Name.{Name}

@@ -5,7 +5,9 @@ use Rattle.std.proofs.Common.{◌∙◌, inl, inr, arith, ltb-true}
 use Rattle.std.proofs.Math.Bool.{true}
 use Rattle.meaning.specs.Array.{Array, process_count, pipe_number, count_at, instance_at, on_pipe}
 use Rattle.meaning.specs.State.{Firings, index, read}
-use Rattle.meaning.specs.Rules.{sound, Step, Send, Take, Fire, Give, Receive, Memory, ready, apply}
+use Rattle.meaning.specs.declared.Step.{Step}
+use Rattle.meaning.specs.declared.Step.TheVariants.{Send, Take, Fire, Give, Receive}
+use Rattle.meaning.specs.Rules.{sound, Memory, ready, apply}
 use Rattle.lists.specs.Tests.{both_true}
 use Rattle.geometry.specs.Processes.{run_at}
 use Rattle.layout.specs.Spans.{process_of}

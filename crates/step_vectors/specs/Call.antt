@@ -7,7 +7,7 @@ use borrow.Author.Tests.{eq-eqb, ne_eqb, ltb-false}
 use Rattle.integers.specs.declared.V3.{V3}
 use Rattle.meaning.specs.declared.Limits.{Limits}
 use Rattle.meaning.specs.declared.Description.{Description}
-use Rattle.meaning.specs.declared.Answer.TheVariants.{Done, Refused}
+use Rattle.meaning.specs.Answers.{Done, Refused}
 use Rattle.meaning.specs.Limits.{gauge_limits, UpTo}
 use Rattle.meaning.specs.Lists.{numbers}
 use Rattle.meaning.specs.Tests.{refusal}

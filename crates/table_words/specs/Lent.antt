@@ -5,12 +5,11 @@ use Rattle.std.proofs.lemmas.List.{length-map, length-replicate}
 use Rattle.std.proofs.lemmas.Bool.{eqb-false}
 use Rattle.integers.specs.Vectors.{zero2}
 use Rattle.integers.specs.declared.V2.{V2}
-use Rattle.meaning.specs.declared.Answer as Answer
 use Rattle.meaning.specs.declared.Row.{Row}
 use Rattle.meaning.specs.declared.Limits.{Limits}
 use Rattle.meaning.specs.Space.{processes}
 use Rattle.meaning.specs.Description.{description_of}
-use Rattle.meaning.specs.Answers.{answer_number}
+use Rattle.meaning.specs.Answers.{answer_number, Done, Refused}
 use Rattle.meaning.specs.Calls.{answer, row_of, table}
 use Rattle.lists.specs.Members.{map_at}
 use Rattle.process_row.specs.declared.Shape.{Shape}
@@ -34,7 +33,7 @@ table_words l s n = cond (eqb (table_number l s n) 0) (rows_words (rows_for l s)
 number_is : (n : ℕ) → answer_number (answer n) ≡ n
 number_is zero = refl
 number_is (suc n) =
-    ap (λ (b : Bool). answer_number (cond b Answer.TheVariants.Done (Answer.TheVariants.Refused (suc n)))) (ne_eqb (suc n) 0 (omega arith))
+    ap (λ (b : Bool). answer_number (cond b Done (Refused (suc n)))) (ne_eqb (suc n) 0 (omega arith))
 
 table_number_lem : (l : Limits) (s : List ℕ) (k : ℕ) → answer_number (table l s (replicate k marked)).answer ≡ refused_for l s k
 unfolding table

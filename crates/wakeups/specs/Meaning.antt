@@ -3,7 +3,9 @@ use Rattle.std.specs.Prelude.{◌≡◌, refl, Bool, true, false, cond, List, �
 use Rattle.std.proofs.Common.{sym, ◌∙◌, ap, ap₂, true≢false, arith, lt-ltb}
 use Rattle.meaning.specs.Array.{Array, pipe_number, pipe_at, on_pipe}
 use Rattle.meaning.specs.State.{Firings, Taken, index, word_count}
-use Rattle.meaning.specs.Rules.{sound, Step, Send, Take, Fire, Give, Receive, Memory, ready, apply}
+use Rattle.meaning.specs.declared.Step.{Step}
+use Rattle.meaning.specs.declared.Step.TheVariants.{Send, Take, Fire, Give, Receive}
+use Rattle.meaning.specs.Rules.{sound, Memory, ready, apply}
 use Rattle.ports.specs.declared.Port.{Port}
 use Rattle.ports.specs.declared.End.{End}
 use Rattle.ports.specs.Places.{pipe, pipe_on, stream_is, process_is}

@@ -1,7 +1,8 @@
 -- The ranks of a step's own steps. Assumes nothing.
 use Rattle.std.specs.Prelude.{◌≡◌, refl, ◌⊎◌, ℕ, ◌%◌, ◌≤◌, ◌<◌}
 use Rattle.std.proofs.Common.{sym, ◌∙◌, ap, subst, inl, inr, arith}
-use Rattle.meaning.specs.Rules.{Step, Send, Take, Fire, Give, Receive}
+use Rattle.meaning.specs.declared.Step.{Step}
+use Rattle.meaning.specs.declared.Step.TheVariants.{Send, Take, Fire, Give, Receive}
 use Rattle.port_table.specs.declared.Size.{Size}
 use Rattle.nearby.specs.Nearby.{Own, itself, take_give, take_fire, give_take, give_fire, fire_give}
 use Rattle.step_order.specs.declared.Name.{Name}

@@ -14,7 +14,8 @@ use Rattle.meaning.specs.Description.{nest_of, stream_of, body_line, description
 use Rattle.meaning.specs.Body.{run_lines, touched_from, scatter, execute, execute_all}
 use Rattle.meaning.specs.Accept.{tests_from, refusal_of, accept}
 use Rattle.meaning.specs.Array.{Array, insert_by_step, by_step, pipes_from, array_of}
-use Rattle.meaning.specs.Rules.{move_down, sound, write_all, Memory, Step, ready, in_order, apply, Found, at, nothing, first_ready}
+use Rattle.meaning.specs.declared.Step.{Step}
+use Rattle.meaning.specs.Rules.{move_down, sound, write_all, Memory, ready, in_order, apply, Found, at, nothing, first_ready}
 use Rattle.meaning.specs.Rules.{run_steps}
 use Rattle.meaning.specs.Rules.{apply_all}
 use Rattle.meaning.specs.Answers.{accept_values, answer_number, ran_values, ready_values}

@@ -2,7 +2,7 @@
 use mathlib.Core.Path.{◌∙◌, ap₂}
 use native.Mathlib.Omega.{arith}
 use borrow.Author.Rules.{rules}
-use Rattle.meaning.specs.declared.Readiness.TheVariants.{Ready}
+use Rattle.meaning.specs.Answers.{Ready}
 use Rattle.ready.specs.Call.{answer_few, many_words, answer_marked}
 use Rattle.ready.proofs.ready_opened.Goals as goal
 

@@ -1,7 +1,7 @@
 -- `step_vectors::step_vectors` meets its contract. Assumes nothing.
 use mathlib.Core.Path.{◌≡◌, sym, ◌∙◌, ap, subst}
 use Rattle.meaning.specs.declared.Limits.{Limits}
-use Rattle.meaning.specs.declared.Answer.TheVariants.{Done, Refused}
+use Rattle.meaning.specs.Answers.{Done, Refused}
 use Rattle.meaning.specs.Tests.{refusal}
 use Rattle.meaning.specs.Description.{description_of}
 use Rattle.meaning.specs.StepVectors.{vector_tests, step_vectors}

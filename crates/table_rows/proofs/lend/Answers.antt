@@ -3,7 +3,7 @@ use Rattle.std.proofs.Common.{◌≡◌, ◌++◌, ◌-◌, ◌≤◌, ℕ, List
 use Rattle.std.proofs.lemmas.List.{take-replicate, drop-replicate}
 use Rattle.meaning.specs.declared.Limits.{Limits}
 use Rattle.meaning.specs.declared.Row.{Row}
-use Rattle.meaning.specs.declared.Answer.{Answer}
+use Rattle.meaning.specs.Answers.{Answer}
 use Rattle.meaning.specs.Limits.{limits_of}
 use Rattle.meaning.specs.Calls.{table}
 use Rattle.table_rows.specs.Marked.{marked}
