@@ -1,0 +1,2 @@
+-- Refusals by name and by number.
+pub mod Numbers
