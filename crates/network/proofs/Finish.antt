@@ -8,7 +8,7 @@ use native.Mathlib.Omega.{arith}
 use Rattle.meaning.specs.Array.{Array, Pipe, count_at, pipe_number, stops_on, elements_on, pipe_through}
 use Rattle.meaning.specs.State.{Word, Firings, Taken, Given, Hand, Keep, Place, Sent, Received, End, index, word_count, words, read}
 use Rattle.meaning.specs.Rules.{total_of, Memory, apply_all}
-use Rattle.meaning.specs.Rules as Rules
+use Rattle.meaning.specs.declared.Step.{Step as RuleStep}
 use Rattle.abstract_network.specs.Cases.{Order, less, at_least, order}
 use Rattle.abstract_network.specs.Counters.{fire, all_put, all_get}
 use Rattle.abstract_network.specs.Claims.{Out, done, finish_link, finish_stop}
@@ -94,7 +94,7 @@ module _ {A : Array} (W : Wired A) (values : List ℕ) where
   final_word_lem R o (place q k i) (h, l, r) = finish_link (system_of W values) (good_of W values R) o q k i l
 
   -- a word of a slot has what the slot has; others are never written, and have no total
-  module _ (M₀ : Memory) (C : Cleared W values M₀) (l : List Rules.Step) (G : Grants A M₀ l) (out : all_done A l ≡ true) where
+  module _ (M₀ : Memory) (C : Cleared W values M₀) (l : List RuleStep) (G : Grants A M₀ l) (out : all_done A l ≡ true) where
     abbrev st : List ℕ
     st = (apply_all A M₀ l).state
 

@@ -5,7 +5,7 @@ use Rattle.std.proofs.Common.{◌∙◌, arith, drop-set-lt}
 use Rattle.meaning.specs.Array.{Array}
 use Rattle.meaning.specs.State.{Taken, Given, index, word_count}
 use Rattle.meaning.specs.Rules.{sound, Memory, apply_all}
-use Rattle.meaning.specs.Rules as Rules
+use Rattle.meaning.specs.declared.Step.{Step as RuleStep}
 use Rattle.network.proofs.Places.{layout}
 use Rattle.network.specs.Wiring.{Wired}
 use Rattle.network.specs.Slots.{word_of, word_live}
@@ -33,7 +33,7 @@ module _ {A : Array} (W : Wired A) where
     pub sound : sound A M'.state ≡ true
     pub written : Written W M.state M'.state
 
-  pub kept : {M : Memory} {l : List Rules.Step} → word_count A ≤ length M.state → sound A M.state ≡ true → Grants A M l
+  pub kept : {M : Memory} {l : List RuleStep} → word_count A ≤ length M.state → sound A M.state ≡ true → Grants A M l
       → Kept M (apply_all A M l)
   unfolding apply_all
   kept long e none = record { sound = e; written = nothing }

@@ -9,7 +9,7 @@ use Rattle.std.proofs.Math.ListN.{get_or-eq_default}
 use Rattle.meaning.specs.Array.{Array, Pipe, count_at, process_count, pipe_number, no_pipe, stops_on, elements_on, part_start, pipe_through}
 use Rattle.meaning.specs.declared.Step.TheVariants.{Send, Take, Fire, Give, Receive}
 use Rattle.meaning.specs.Rules.{process_on, stream_on, Memory, ready, in_order, any_ready, apply_all}
-use Rattle.meaning.specs.Rules as Rules
+use Rattle.meaning.specs.declared.Step.{Step as RuleStep}
 use Rattle.meaning.specs.Demand3.{receives}
 use Rattle.abstract_network.specs.Cases.{Order, less, at_least, order}
 use Rattle.lists.specs.Sums.{total_numbers}
@@ -54,7 +54,7 @@ module _ {A : Array} (W : Wired A) where
   module _ (st : List ℕ) (S : Sound (net_of A) (counts_of A st)) where
     -- a step of the array for every step of the abstract network that may be granted
     record Named (b : Step) : Type 0 where
-      name : Rules.Step
+      name : RuleStep
       inside : Listed A name
       there : There A name
       is : step_of A name ≡ b
@@ -106,7 +106,7 @@ module _ {A : Array} (W : Wired A) where
 
   module _ (values : List ℕ) where
     -- what holds after the steps of a list
-    pub record After (l : List Rules.Step) (M : Memory) : Type 0 where
+    pub record After (l : List RuleStep) (M : Memory) : Type 0 where
       -- what is received is final, the rest is 0
       pub stretch : (q i : ℕ) → q < pipe_number A → i < receives q l
           → get_or M.received (part_start A q + i) 0 ≡ plain (program_of W values) W.instances (stream_on A q) (element_at A q i)
@@ -117,7 +117,7 @@ module _ {A : Array} (W : Wired A) where
       pub most : length l ≤ step_total W
       pub reached : (length l ≡ step_total W) ↔ (all_done A l ≡ true)
 
-    module _ (M₀ : Memory) (C : Cleared W values M₀) (l : List Rules.Step) (G : Grants A M₀ l) where
+    module _ (M₀ : Memory) (C : Cleared W values M₀) (l : List RuleStep) (G : Grants A M₀ l) where
       abbrev M : Memory
       M = apply_all A M₀ l
 

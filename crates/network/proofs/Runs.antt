@@ -12,7 +12,7 @@ use Rattle.meaning.specs.Array.{Array, stops_on, elements_on, part_start, list_l
 use Rattle.meaning.specs.State.{index, word_count}
 use Rattle.meaning.specs.declared.Step.TheVariants.{Send, Take, Fire, Give, Receive}
 use Rattle.meaning.specs.Rules.{Memory, ready, apply, apply_all}
-use Rattle.meaning.specs.Rules as Rules
+use Rattle.meaning.specs.declared.Step.{Step as RuleStep}
 use Rattle.meaning.specs.Demand3.{is_receive, receives}
 use Rattle.abstract_network.specs.Cases.{Order, less, at_least, order}
 use Rattle.abstract_network.specs.Counters.{get, Counts, Guard, OneMore, put≢get, get≢fire}
@@ -88,7 +88,7 @@ module _ {A : Array} (W : Wired A) (values : List ℕ) where
   pub sound_of : {t : ℕ} {M : Memory} → Reached t M → Sound (net_of A) (counts_of A M.state)
   sound_of R = inv_sound (net_of A) (good_of R).inv
 
-  module _ {t : ℕ} {M : Memory} (R : Reached t M) (a : Rules.Step) (h : There A a) (e : ready A M.state a ≡ true) where
+  module _ {t : ℕ} {M : Memory} (R : Reached t M) (a : RuleStep) (h : There A a) (e : ready A M.state a ≡ true) where
     -- a ready step may be granted
     pub guard_of : Guard (net_of A) (counts_of A M.state) (step_of A a)
     guard_of = said (says_ready A M.state W (sound_of R) a h) e
@@ -112,7 +112,7 @@ module _ {A : Array} (W : Wired A) (values : List ℕ) where
 
   -- ---- lists of steps
 
-  pub reached_all : {t : ℕ} {M : Memory} {l : List Rules.Step} → Reached t M → Grants A M l → Reached (t + length l) (apply_all A M l)
+  pub reached_all : {t : ℕ} {M : Memory} {l : List RuleStep} → Reached t M → Grants A M l → Reached (t + length l) (apply_all A M l)
   unfolding apply_all
   reached_all {t} {M} R none = let e : t ≡ t + 0 = omega arith in subst (λ (t : ℕ). Reached t M) e R
   reached_all {t} {M} R (step {a = a} {l} h e g) =
@@ -120,7 +120,7 @@ module _ {A : Array} (W : Wired A) (values : List ℕ) where
       subst (λ (t : ℕ). Reached t (apply_all A (apply A M a) l)) d (reached_all {t = suc t} (reached_step R a h e) g)
 
   -- a step counts as a receive on q exactly if it is one
-  receive_counts : {c c' : Counts} (q : ℕ) (a : Rules.Step) → There A a → OneMore c c' (step_of A a)
+  receive_counts : {c c' : Counts} (q : ℕ) (a : RuleStep) → There A a → OneMore c c' (step_of A a)
       → c' (get q (stops_on A q)) ≡ c (get q (stops_on A q)) + cond (is_receive q a) 1 0
   receive_counts {c} q (Send r) h B = omega (arith, B.rest (get q (stops_on A q)) put≢get)
   receive_counts {c} q (Take p s) h B = omega (arith, B.rest (get q (stops_on A q)) inner)
@@ -141,7 +141,7 @@ module _ {A : Array} (W : Wired A) (values : List ℕ) where
       go false e = omega (arith, B.rest (get q (stops_on A q)) (λ i. let z : r ≡ q = cc in eqb-false r q e z))
 
   -- the counter of a pipe's output end counts the receives
-  pub receives_count : {t : ℕ} {M : Memory} {l : List Rules.Step} → Reached t M → Grants A M l → (q : ℕ)
+  pub receives_count : {t : ℕ} {M : Memory} {l : List RuleStep} → Reached t M → Grants A M l → (q : ℕ)
       → counts_of A (apply_all A M l).state (get q (stops_on A q)) ≡ counts_of A M.state (get q (stops_on A q)) + receives q l
   unfolding apply_all filter
   receives_count R none q = omega arith

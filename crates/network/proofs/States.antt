@@ -13,7 +13,7 @@ use Rattle.meaning.specs.State.{Firings, Taken, Given, Sent, Received, word_coun
 use Rattle.meaning.specs.Rules.{process_on, stream_on, put_in, taken_out, sound_link, sound_stop, sound_pipe, sound_port, sound_process}
 use Rattle.meaning.specs.Rules.{sound}
 use Rattle.meaning.specs.Rules.{Memory, ready, apply}
-use Rattle.meaning.specs.Rules as Rules
+use Rattle.meaning.specs.declared.Step.{Step as RuleStep}
 use Rattle.abstract_network.specs.Cases.{Order, less, at_least, order}
 use Rattle.abstract_network.specs.Counters.{put, get, fire}
 use Rattle.abstract_network.specs.Sound.{Balance, Sound}
@@ -217,7 +217,7 @@ module _ {A : Array} (W : Wired A) where
       let n : ◌≡◌ {A = ℕ} 0 1 = cc in omega arith
 
   -- every granted step keeps a sound state sound
-  pub sound_kept : (M : Memory) (a : Rules.Step) → word_count A ≤ length M.state → sound A M.state ≡ true → There A a
+  pub sound_kept : (M : Memory) (a : RuleStep) → word_count A ≤ length M.state → sound A M.state ≡ true → There A a
       → ready A M.state a ≡ true
       → sound A (apply A M a).state ≡ true
   unfolding Off Port

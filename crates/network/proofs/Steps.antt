@@ -11,7 +11,7 @@ use Rattle.meaning.specs.Array.{pipe_through}
 use Rattle.meaning.specs.State.{Firings, Received, word_count, read}
 use Rattle.meaning.specs.declared.Step.TheVariants.{Send, Take, Fire, Give, Receive}
 use Rattle.meaning.specs.Rules.{stream_on, oldest, body_at, Memory, apply, apply_all}
-use Rattle.meaning.specs.Rules as Rules
+use Rattle.meaning.specs.declared.Step.{Step as RuleStep}
 use Rattle.lists.specs.Rows.{same_numbers}
 use Rattle.abstract_network.specs.Counters.{fire, Guard, OneMore, put≢fire, get≢fire}
 use Rattle.abstract_network.specs.Sound.{Sound}
@@ -39,7 +39,7 @@ word_chosen A st q k false = refl
 -- ---- what no step changes
 
 module _ (A : Array) (M : Memory) where
-  pub waiting_same : (a : Rules.Step) → (apply A M a).waiting ≡ M.waiting
+  pub waiting_same : (a : RuleStep) → (apply A M a).waiting ≡ M.waiting
   unfolding apply
   waiting_same (Send q) = refl
   waiting_same (Take p s) = refl
@@ -47,7 +47,7 @@ module _ (A : Array) (M : Memory) where
   waiting_same (Give p s) = refl
   waiting_same (Receive q) = refl
 
-  pub received_length : (a : Rules.Step) → length (apply A M a).received ≡ length M.received
+  pub received_length : (a : RuleStep) → length (apply A M a).received ≡ length M.received
   unfolding apply
   received_length (Send q) = refl
   received_length (Take p s) = refl
@@ -58,12 +58,12 @@ module _ (A : Array) (M : Memory) where
 
 -- nor any list of steps
 module _ (A : Array) where
-  pub all_waiting : (M : Memory) (l : List Rules.Step) → (apply_all A M l).waiting ≡ M.waiting
+  pub all_waiting : (M : Memory) (l : List RuleStep) → (apply_all A M l).waiting ≡ M.waiting
   unfolding apply_all
   all_waiting M [] = refl
   all_waiting M (a ∷ l) = all_waiting (apply A M a) l ∙ waiting_same A M a
 
-  pub all_length : (M : Memory) (l : List Rules.Step) → length (apply_all A M l).received ≡ length M.received
+  pub all_length : (M : Memory) (l : List RuleStep) → length (apply_all A M l).received ≡ length M.received
   unfolding apply_all
   all_length M [] = refl
   all_length M (a ∷ l) = all_length (apply A M a) l ∙ received_length A M a
@@ -76,7 +76,7 @@ module _ {A : Array} (W : Wired A) where
     ports p h s l = has_port_lem A p s (W.on_all p s (omega arith) l)
 
     -- a step writes to slots only
-    pub step_written : (a : Rules.Step) → There A a → Guard (net_of A) (counts_of A M.state) (step_of A a)
+    pub step_written : (a : RuleStep) → There A a → Guard (net_of A) (counts_of A M.state) (step_of A a)
         → Written W M.state (apply A M a).state
     unfolding apply
     step_written (Send q) h g = send_written W M.state long S q h g.1 M.waiting
@@ -86,7 +86,7 @@ module _ {A : Array} (W : Wired A) where
     step_written (Receive q) h g = receive_written W M.state long S q h g.1
 
     -- and adds one to its counter, to no other
-    pub step_more : (a : Rules.Step) → There A a → Guard (net_of A) (counts_of A M.state) (step_of A a)
+    pub step_more : (a : RuleStep) → There A a → Guard (net_of A) (counts_of A M.state) (step_of A a)
         → OneMore (counts_of A M.state) (counts_of A (apply A M a).state) (step_of A a)
     unfolding apply
     step_more (Send q) h g = send_more W M.state long S q h g.1 M.waiting
@@ -95,7 +95,7 @@ module _ {A : Array} (W : Wired A) where
     step_more (Give p s) h g = give_more W M.state long S (pipe_through A p s) (place_at A p s) (has_port_lem A p s h).place_lt g.1
     step_more (Receive q) h g = receive_more W M.state long S q h g.1
 
-    pub step_length : (a : Rules.Step) → There A a → Guard (net_of A) (counts_of A M.state) (step_of A a)
+    pub step_length : (a : RuleStep) → There A a → Guard (net_of A) (counts_of A M.state) (step_of A a)
         → length (apply A M a).state ≡ length M.state
     step_length a h g = written_length W (step_written a h g)
 
@@ -132,7 +132,7 @@ module _ {A : Array} (W : Wired A) where
         (λ s u v. word_chosen A M.state (pipe_through A p s) (place_at A p s) (keeps_at A p s)))
 
     -- the step is granted by the abstract network
-    pub step_granted : (a : Rules.Step) → There A a → Guard (net_of A) (counts_of A M.state) (step_of A a)
+    pub step_granted : (a : RuleStep) → There A a → Guard (net_of A) (counts_of A M.state) (step_of A a)
         → Granted (system_of W values) (counts_of A M.state) (words_of A M.state (out_of A M.received)) (step_of A a)
         (counts_of A (apply A M a).state)
         (words_of A (apply A M a).state (out_of A (apply A M a).received))

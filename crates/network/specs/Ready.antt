@@ -13,7 +13,7 @@ use Rattle.meaning.specs.Rules.{process_on, stream_on, put_in, taken_out, fill, 
 use Rattle.meaning.specs.Rules.{ready_to_give}
 use Rattle.meaning.specs.declared.Step.TheVariants.{Send, Take, Fire, Give, Receive}
 use Rattle.meaning.specs.Rules.{ready}
-use Rattle.meaning.specs.Rules as Rules
+use Rattle.meaning.specs.declared.Step.{Step as RuleStep}
 use Rattle.abstract_network.specs.Counters.{Use, Step, put, get, fire, Counts, At, Guard}
 use Rattle.abstract_network.specs.Sound.{Sound}
 use Rattle.network.specs.Wiring.{net_of, Wired, stop_pipe, HasPort, has_port_lem, port_is, place_at}
@@ -23,7 +23,7 @@ use Rattle.network.specs.Decide.{says_use, says_offer}
 
 module _ (A : Array) where
   -- the step of the abstract network: send and give put into a link, take and receive get out of one
-  abbrev pub step_of : Rules.Step → Step
+  abbrev pub step_of : RuleStep → Step
   step_of (Send q) = put q 0
   step_of (Take p s) = get (pipe_through A p s) (place_at A p s)
   step_of (Fire p) = fire p
@@ -31,7 +31,7 @@ module _ (A : Array) where
   step_of (Receive q) = get q (stops_on A q)
 
   -- the step is one of the array's: its pipe or process is there, its process is on a pipe of the stream
-  abbrev pub There : Rules.Step → Type 0
+  abbrev pub There : RuleStep → Type 0
   There (Send q) = q < pipe_number A
   There (Take p s) = on_pipe A p s ≡ true
   There (Fire p) = p < process_count A
@@ -147,7 +147,7 @@ module _ (A : Array) where
               (λ s m. says_used p s h (has_port_lem A p s (W.on_all p s (omega arith) m))))
 
       -- ready says whether the abstract network may grant the step
-      pub says_ready : (a : Rules.Step) → There a → Says (Guard (net_of A) (counts_of A st) (step_of a)) (ready A st a)
+      pub says_ready : (a : RuleStep) → There a → Says (Guard (net_of A) (counts_of A st) (step_of a)) (ready A st a)
       unfolding c
       says_ready (Send q) h =
           let x = put_is q 0 h (omega arith) in
@@ -166,5 +166,5 @@ module _ (A : Array) where
           says_as (λ l. (le_refl (stops_on A q), l, λ o. absurd (omega arith))) (λ g. g.1)
           (says_filled q (stops_on A q) h (le_refl (stops_on A q)))
 
-      pub ready_exactly : (a : Rules.Step) → There a → (ready A st a ≡ true) ↔ Guard (net_of A) (counts_of A st) (step_of a)
+      pub ready_exactly : (a : RuleStep) → There a → (ready A st a ≡ true) ↔ Guard (net_of A) (counts_of A st) (step_of a)
       ready_exactly a h = (said (says_ready a h), says_true (says_ready a h))
