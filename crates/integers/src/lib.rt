@@ -55,47 +55,28 @@ pub struct Matrix {
 pub fn magnitude(a: i32) -> u32
     ensures { result ≡ nat_abs a }
 {
-    if a < 0 {
-        (-(a + 1)) as u32 + 1
-    } else {
-        a as u32
-    }
+    a.unsigned_abs()
 }
 
 // The signed number of 32 bits.
 pub fn signed(u: u32) -> i32
     ensures { result ≡ to_z w32 u }
 {
-    if u < 0x8000_0000 {
-        u as i32
-    } else {
-        -((0xffff_ffff - u) as i32) - 1
-    }
+    u.cast_signed()
 }
 
 // The 32 bits of a signed number.
 pub fn bits_of(z: i32) -> u32
     ensures { result ≡ of_z w32 z }
 {
-    let size = magnitude(z);
-    if z < 0 {
-        0xffff_ffff - (size - 1)
-    } else {
-        size
-    }
-}
-
-fn wide(b: u8) -> u32
-    ensures { (result ≡ b) × (result < 256) }
-{
-    b as u32
+    z.cast_unsigned()
 }
 
 // Byte i, and 0 past the end.
 pub fn byte_at(s: &[u8], i: usize) -> u32
     ensures { (result ≡ get_or s.now i 0) × (result < 256) }
 {
-    if i < s.len() { wide(s[i]) } else { 0 }
+    if i < s.len() { u32::from(s[i]) } else { 0 }
 }
 
 // Word k, least byte first: its bits.
