@@ -37,7 +37,11 @@ pub fn count(words: &[u64]) -> u32
     requires { 16 ≤ length words.now }
     ensures { result ≡ ones_of (take 16 words.now) }
 {
-    words[..WORDS].iter().map(|w| w.count_ones()).sum()
+    let mut n = 0;
+    for w in &words[..WORDS] {
+        n += w.count_ones();
+    }
+    n
 }
 
 // The lowest process whose bit is set, or `none`.

@@ -1,20 +1,23 @@
-use Rattle.std.proofs.Common.{rules, ◌≡◌, ◌<◌, ◌≤◌, length, take, ℕ, ◌+◌, ◌-◌, ◌*◌, ◌/◌, ◌%◌, Bool, true, false, nat_eq, nat_lt, List, [], ◌∷◌, ◌++◌, slice_index_or, slice_set, bit_and, bit_or, Fits, w8, w32, w64, Bor, MutBor}
-use Rattle.meaning.specs.Limits.{gauge_limits}
-use Rattle.bits.specs.Words.{cleared, marked, ones_of, lowest_from}
+-- `bits::lowest` meets its contract: the search among the words left finds what that among all sixteen does. Assumes nothing.
+use Rattle.std.proofs.Common.{◌≡◌, sym, ◌∙◌, ℕ, suc, ◌<◌, List, ◌∷◌, length, get_or, drop, ap, add-one, drop-cons, drop_of_length-le}
+use Rattle.bits.specs.Words.{lowest_from, lowest_past, lowest_here}
 use Rattle.bits.proofs.lowest.Goals as goal
 
--- src/lib.rt:48:5
-pub loop-k-init : goal.loop-k-init
-loop-k-init c = ?
+-- the words left, by the first of them
+left : (none k : ℕ) (words : List ℕ) → k < length words
+    → lowest_from none k (drop k words) ≡ lowest_from none k (get_or words k 0 ∷ drop (suc k) words)
+left none k words h = ap (lowest_from none k) (drop-cons words k 0 h)
 
--- src/lib.rt:50:13
 pub returns-then-w-ne0 : goal.returns-then-w-ne0
-returns-then-w-ne0 c = ?
+returns-then-w-ne0 c =
+    sym (lowest_here _ _ _ _ c.if-w-ne0.true) ∙ sym (left _ _ _ c.loop-k-test.true) ∙ c.loop-k.invariant
 
--- src/lib.rt:48:5
 pub loop-k-preserved : goal.loop-k-preserved
-loop-k-preserved c = ?
+loop-k-preserved c =
+    rw add-one (sym (lowest_past _ _ _ _ c.if-w-ne0.false) ∙ sym (left _ _ _ c.loop-k-test.true) ∙ c.loop-k.invariant)
 
--- src/lib.rt:44:1
 pub returns : goal.returns
-returns c = ?
+unfolding lowest_from
+returns c =
+    let l = c.loop-k in
+    rw (drop_of_length-le _ c.loop-k-test.false) at l.invariant
