@@ -46,13 +46,10 @@ pub fn course_of(n: Nest) -> Course
     requires { Bounded n }
     ensures { (result ≡ course_of n) × (Runs result) }
 {
-    let left = n.left;
-    let right = n.right;
-    let direction = n.direction;
     Course {
-        first: numbering::corner(direction, left, right),
-        last: numbering::corner(direction, right, left),
-        direction: direction,
+        first: numbering::corner(n.direction, n.left, n.right),
+        last: numbering::corner(n.direction, n.right, n.left),
+        direction: n.direction,
     }
 }
 
@@ -155,11 +152,9 @@ fn put_row(out: &mut [u32], from: usize, count: u32, first: i32, stride: i32)
         → out.new ≡ fill_by f (from + count) xs) }
 {
     let mut number = first;
-    let mut k: u32 = 0;
-    while k < count {
+    for k in 0..count {
         out[from + k as usize] = number as u32;
         number += stride;
-        k += 1;
     }
 }
 
@@ -172,12 +167,10 @@ fn put_plane(out: &mut [u32], from: usize, rows: u32, count: u32, first: i32, st
 {
     let mut number = first;
     let mut at = from;
-    let mut j: u32 = 0;
-    while j < rows {
+    for j in 0..rows {
         put_row(out, at, count, number, strides.z);
         number += strides.y;
         at += count as usize;
-        j += 1;
     }
 }
 
@@ -188,21 +181,16 @@ pub fn fill_numbers(n: Nest, m: Matrix, e: Extent, out: &mut [u32])
 {
     let turns = numbering::turns_of(n);
     let form = form_of(m, e);
-    let left = n.left;
-    let right = n.right;
-    let direction = n.direction;
-    let first = numbering::corner(direction, left, right);
-    let strides = strides_of(form, direction);
+    let first = numbering::corner(n.direction, n.left, n.right);
+    let strides = strides_of(form, n.direction);
     let rows = turns.middle;
     let count = turns.inner;
     let plane = (rows * count) as usize;
     let mut number = number_by(form, first) as i32;
-    let mut at: usize = 0;
-    let mut i: u32 = 0;
-    while i < turns.outer {
+    let mut at = 0;
+    for i in 0..turns.outer {
         put_plane(out, at, rows, count, number, strides);
         number += strides.x;
         at += plane;
-        i += 1;
     }
 }
