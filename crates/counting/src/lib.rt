@@ -58,28 +58,25 @@ pub fn next(c: Course, x: V3) -> V3
     requires { (Runs c) × (Within 64 x) }
     ensures { result ≡ next_of c x }
 {
-    let first = c.first;
-    let last = c.last;
-    let direction = c.direction;
-    if x.z == last.z {
-        if x.y == last.y {
+    if x.z == c.last.z {
+        if x.y == c.last.y {
             V3 {
-                x: x.x + direction.x,
-                y: first.y,
-                z: first.z,
+                x: x.x + c.direction.x,
+                y: c.first.y,
+                z: c.first.z,
             }
         } else {
             V3 {
                 x: x.x,
-                y: x.y + direction.y,
-                z: first.z,
+                y: x.y + c.direction.y,
+                z: c.first.z,
             }
         }
     } else {
         V3 {
             x: x.x,
             y: x.y,
-            z: x.z + direction.z,
+            z: x.z + c.direction.z,
         }
     }
 }
@@ -97,18 +94,14 @@ pub fn form_of(m: Matrix, e: Extent) -> Form
     requires { (Rows 4 m) × (Spanning (boxed e)) }
     ensures { result ≡ form_of m (boxed e) }
 {
-    let lo = e.lo;
-    let hi = e.hi;
-    let top = m.top;
-    let low = m.low;
-    let columns = (numbering::distance(lo.b, hi.b) + 1) as i32;
+    let columns = (numbering::distance(e.lo.b, e.hi.b) + 1) as i32;
     Form {
         weight: V3 {
-            x: weight_of(columns, top.x, low.x),
-            y: weight_of(columns, top.y, low.y),
-            z: weight_of(columns, top.z, low.z),
+            x: weight_of(columns, m.top.x, m.low.x),
+            y: weight_of(columns, m.top.y, m.low.y),
+            z: weight_of(columns, m.top.z, m.low.z),
         },
-        base: weight_of(columns, lo.a, lo.b),
+        base: weight_of(columns, e.lo.a, e.lo.b),
     }
 }
 
@@ -117,9 +110,7 @@ pub fn stride_of(e: Extent, v: V2) -> i32
     requires { (Spanning (boxed e)) × (Within2 4800 v) }
     ensures { result ≡ weigh (boxed e) v.a v.b }
 {
-    let lo = e.lo;
-    let hi = e.hi;
-    (numbering::distance(lo.b, hi.b) + 1) as i32 * v.a + v.b
+    (numbering::distance(e.lo.b, e.hi.b) + 1) as i32 * v.a + v.b
 }
 
 // The number that a form gives an instance.
@@ -127,8 +118,7 @@ pub fn number_by(f: Form, x: V3) -> u32
     requires { Numbers f x }
     ensures { result ≡ up (form_at f x) }
 {
-    let weight = f.weight;
-    (weight.x * x.x + weight.y * x.y + weight.z * x.z - f.base) as u32
+    (f.weight.x * x.x + f.weight.y * x.y + f.weight.z * x.z - f.base) as u32
 }
 
 // What a form gains by a turn of each loop.
@@ -136,11 +126,10 @@ fn strides_of(f: Form, direction: V3) -> V3
     requires { (Light f) × (Within 1 direction) }
     ensures { (result ≡ strides f direction) × (Within 6916 result) }
 {
-    let weight = f.weight;
     V3 {
-        x: weight.x * direction.x,
-        y: weight.y * direction.y,
-        z: weight.z * direction.z,
+        x: f.weight.x * direction.x,
+        y: f.weight.y * direction.y,
+        z: f.weight.z * direction.z,
     }
 }
 
