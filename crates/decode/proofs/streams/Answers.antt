@@ -1,5 +1,5 @@
 -- `decode::streams` meets its contract, as the loop that stores. Assumes nothing.
-use Rattle.std.proofs.Common.{◌≡◌, sym, ◌∙◌, arith}
+use Rattle.std.proofs.Common.{sym, ◌∙◌, arith}
 use Rattle.integers.specs.Fill.{fill_zero, fill_step, fill_done}
 use Rattle.decode.specs.Filled.{fill_is}
 use Rattle.decode.proofs.streams.Goals as goal

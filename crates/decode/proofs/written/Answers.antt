@@ -1,5 +1,5 @@
 -- `decode::written` meets its contract: what is left of the lines in use has the answer of all. Assumes nothing.
-use Rattle.std.proofs.Common.{◌≡◌, sym, ◌∙◌, eq-eqb, ne_eqb}
+use Rattle.std.proofs.Common.{sym, ◌∙◌, eq-eqb, ne_eqb}
 use Rattle.meaning.specs.Description.{no_line}
 use Rattle.lists.specs.Loops.{member_turn, member_stop, member_end}
 use Rattle.decode.proofs.written.Goals as goal

@@ -2,7 +2,6 @@
 use Rattle.std.proofs.Common.{◌≡◌, drop}
 use Rattle.std.specs.Prelude.{eqb}
 use Rattle.meaning.specs.Lists.{any}
-use Rattle.meaning.specs.Description.{written}
 use Rattle.decode.proofs.written.Given as goal
 
 abbrev pub invariant-loop-line : goal.invariant-loop-line
