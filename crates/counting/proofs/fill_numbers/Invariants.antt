@@ -24,13 +24,10 @@ use Rattle.counting.specs.Strides.{start_ready, start_word}
 use Rattle.counting.proofs.fill_numbers.Given as goal
 
 abbrev pub invariant-loop-i : goal.invariant-loop-i
-invariant-loop-i l = let turns = l.turns in let i = l.i in
-    (i ≤ turns.outer) × (length l.out ≡ length l.initial.out) × (l.number ≡ along l.initial.number l.strides.x i)
-    × (l.at ≡ i * (turns.middle * turns.inner))
+invariant-loop-i l = let i = l.i in
+    (l.number ≡ along l.initial.number l.strides.x i)
+    × (l.at ≡ i * (l.rows * l.count))
     × ((f : ℕ → ℕ)
-    → ((i : ℕ) → i < turns.outer
-    → AgreesAll f (i * (turns.middle * turns.inner)) turns.middle turns.inner (along l.initial.number l.strides.x i) l.strides)
+    → ((i : ℕ) → i < l.i-end
+    → AgreesAll f (i * (l.rows * l.count)) l.rows l.count (along l.initial.number l.strides.x i) l.strides)
     → l.out ≡ fill_by f l.at l.initial.out)
-
-abbrev pub decreases-loop-i : goal.decreases-loop-i
-decreases-loop-i l = l.turns.outer - l.i

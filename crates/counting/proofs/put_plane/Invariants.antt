@@ -18,9 +18,6 @@ use Rattle.counting.proofs.put_plane.Given as goal
 
 abbrev pub invariant-loop-j : goal.invariant-loop-j
 invariant-loop-j l =
-    (l.j ≤ l.rows) × (length l.out ≡ length l.initial.out) × (l.number ≡ along l.first l.strides.y l.j) × (l.at ≡ l.from + l.j * l.count)
+    (l.number ≡ along l.first l.strides.y l.j) × (l.at ≡ l.from + l.j * l.count)
     × ((f : ℕ → ℕ) (xs : List ℕ) → AgreesAll f l.from l.rows l.count l.first l.strides → l.initial.out ≡ fill_by f l.from xs
     → l.out ≡ fill_by f (l.from + l.j * l.count) xs)
-
-abbrev pub decreases-loop-j : goal.decreases-loop-j
-decreases-loop-j l = l.rows - l.j

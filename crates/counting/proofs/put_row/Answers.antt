@@ -43,8 +43,6 @@ module _ {count : ℕ} {first stride : ℤ} (h : RowFits count first stride) whe
 pub loop-k-init : goal.loop-k-init
 loop-k-init c =
     let a = c.args in (
-      omega arith,
-      refl,
       along_zero (to_z w32 (of_z w32 a.first)) (to_z w32 (of_z w32 a.stride)),
       λ f xs g e. e ∙ ap (λ (k : ℕ). fill_by f k xs) (sym (add-zero a.from)),
     )
@@ -53,24 +51,22 @@ pub overflow_cast-out : goal.overflow_cast-out
 overflow_cast-out c =
     let l = c.loop-k in
     let h = c.requires.0 in
-    cast_of tt (holds h l.invariant.0 l.invariant.2) (h.some l.k c.loop-k-test.true)
+    cast_of tt (holds h l.auto.k-end l.invariant.0) (h.some l.k c.loop-k-test.true)
 
 pub overflow_add-number : goal.overflow_add-number
 overflow_add-number c =
     let l = c.loop-k in
-    let h = c.requires.0 in fits tt (add (holds h l.invariant.0 l.invariant.2) (at tt h.small))
+    let h = c.requires.0 in fits tt (add (holds h l.auto.k-end l.invariant.0) (at tt h.small))
 
 pub loop-k-preserved : goal.loop-k-preserved
 loop-k-preserved c =
     let l = c.loop-k in
     let h = c.requires.0 in
     let t = c.loop-k-test.true in (
-      omega arith,
-      simp length-set l.invariant.1,
-      next h l.invariant.0 l.invariant.2,
+      next h l.auto.k-end l.invariant.0,
       λ f xs g e.
-          ap₂ (λ (m : List ℕ) (v : ℕ). set m (c.args.from + l.k) v) (l.invariant.3 f xs g e)
-          (number h t l.invariant.2 ∙ sym (g l.k t))
+          ap₂ (λ (m : List ℕ) (v : ℕ). set m (c.args.from + l.k) v) (l.invariant.1 f xs g e)
+          (number h t l.invariant.0 ∙ sym (g l.k t))
           ∙ sym (fill_step f (c.args.from + l.k) xs)
           ∙ ap (λ (k : ℕ). fill_by f k xs) (sym (one_more c.args.from l.k)),
     )
@@ -79,8 +75,8 @@ pub returns : goal.returns
 returns c =
     let l = c.loop-k in
     let h = c.requires.0 in
-    let e : l.k ≡ c.args.count = omega (arith, l.invariant.0, c.loop-k-test.false) in (
-      l.invariant.1,
+    let e : l.k ≡ c.args.count = omega (arith, l.auto.k-end, c.loop-k-test.false) in (
+      l.auto.out,
       λ f xs g q.
-          l.invariant.3 f xs (λ k m. g k m ∙ ap up (sym (words h k))) q ∙ ap (λ (k : ℕ). fill_by f (c.args.from + k) xs) e,
+          l.invariant.1 f xs (λ k m. g k m ∙ ap up (sym (words h k))) q ∙ ap (λ (k : ℕ). fill_by f (c.args.from + k) xs) e,
     )

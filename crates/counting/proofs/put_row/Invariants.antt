@@ -19,9 +19,6 @@ use Rattle.counting.proofs.put_row.Given as goal
 
 abbrev pub invariant-loop-k : goal.invariant-loop-k
 invariant-loop-k l =
-    (l.k ≤ l.count) × (length l.out ≡ length l.initial.out) × (l.number ≡ along l.first l.stride l.k)
+    (l.number ≡ along l.first l.stride l.k)
     × ((f : ℕ → ℕ) (xs : List ℕ) → Agrees f l.from l.count l.first l.stride → l.initial.out ≡ fill_by f l.from xs
     → l.out ≡ fill_by f (l.from + l.k) xs)
-
-abbrev pub decreases-loop-k : goal.decreases-loop-k
-decreases-loop-k l = l.count - l.k

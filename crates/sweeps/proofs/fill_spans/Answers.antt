@@ -14,8 +14,6 @@ clear-requires c = omega (arith, c.requires.words)
 pub loop-k-init : goal.loop-k-init
 loop-k-init c =
     let w = c.requires in (
-      omega arith,
-      refl,
       subst (Most 0 c.args.points) (sym c.clear.ensures) (most_zero _ _ w.few w.words),
       refl,
     )
@@ -29,9 +27,9 @@ meet-requires c =
     let p = c.point_of-p in
     record {
       point = omega (arith, p.ensures.1, c.requires.few);
-      words = l.invariant.1 ∙ c.clear.auto.out ∙ c.requires.words;
+      words = l.auto.spans ∙ c.clear.auto.out ∙ c.requires.words;
       number = omega arith;
-      before = l.invariant.2.at p.result p.ensures.1;
+      before = l.invariant.0.at p.result p.ensures.1;
     }
 
 pub loop-k-preserved : goal.loop-k-preserved
@@ -40,10 +38,8 @@ loop-k-preserved c =
     let p = c.point_of-p in
     let l = c.loop-k in
     let h = taken_length c.requires.table in (
-      omega arith,
-      ap length e ∙ turn_length c.args.back l.k p.result l.spans ∙ l.invariant.1,
-      rw e (most_turn c.args.back p.result c.requires.few p.ensures.1 (l.invariant.1 ∙ c.clear.auto.out ∙ c.requires.words) l.invariant.2),
-      rw (e, p.ensures.0) (sweep_step (turn c.args.back) _ _ _ (omega arith)) ∙ l.invariant.3,
+      rw e (most_turn c.args.back p.result c.requires.few p.ensures.1 (l.auto.spans ∙ c.clear.auto.out ∙ c.requires.words) l.invariant.0),
+      rw (e, p.ensures.0) (sweep_step (turn c.args.back) _ _ _ (omega arith)) ∙ l.invariant.1,
     )
 
 pub returns : goal.returns
@@ -51,5 +47,5 @@ returns c =
     let a = c.args in
     let h = taken_length c.requires.table in
     swept a.back c.requires
-    (sym (sweep_done (turn a.back) _ _ _ (omega arith)) ∙ c.loop-k.invariant.3
+    (sym (sweep_done (turn a.back) _ _ _ (omega arith)) ∙ c.loop-k.invariant.1
     ∙ ap (sweep (turn a.back) 0 (take a.instances a.numbers.now)) c.clear.ensures)

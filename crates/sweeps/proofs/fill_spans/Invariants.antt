@@ -10,9 +10,6 @@ use Rattle.sweeps.proofs.fill_spans.Given as goal
 
 abbrev pub invariant-loop-k : goal.invariant-loop-k
 invariant-loop-k l =
-    (l.k ≤ l.instances) × (length l.spans ≡ length l.initial.spans) × (Most l.k l.points l.spans)
+    (Most l.k l.points l.spans)
     × (sweep (turn l.back) l.k (drop l.k (take l.instances l.numbers)) l.spans
     ≡ sweep (turn l.back) 0 (take l.instances l.numbers) l.initial.spans)
-
-abbrev pub decreases-loop-k : goal.decreases-loop-k
-decreases-loop-k l = l.instances - l.k
