@@ -5,12 +5,12 @@ use borrow.Author.Rules.{rules}
 use Rattle.send_receive.specs.Moves.{receive_facts}
 use Rattle.send_receive.proofs.receive.Goals as goal
 
-pub bounds-state-last : goal.bounds-state-last
-bounds-state-last c =
+pub bounds-state-e : goal.bounds-state-e
+bounds-state-e c =
     omega (arith, receive_facts c.args.state.now c.args.e c.requires.2)
 
-pub bounds-out-offset : goal.bounds-out-offset
-bounds-out-offset c =
+pub bounds-out-e : goal.bounds-out-e
+bounds-out-e c =
     omega (arith, receive_facts c.args.state.now c.args.e c.requires.2)
 
 pub overflow_sub-n : goal.overflow_sub-n

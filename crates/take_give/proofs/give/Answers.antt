@@ -6,8 +6,8 @@ use borrow.Author.Rules.{rules}
 use Rattle.take_give.specs.Moves.{give_facts}
 use Rattle.take_give.proofs.give.Goals as goal
 
-pub bounds-state-room : goal.bounds-state-room
-bounds-state-room c =
+pub bounds-state-k : goal.bounds-state-k
+bounds-state-k c =
     omega (arith, give_facts c.args.state.now c.args.k c.requires.1)
 
 pub bounds-state-from-2 : goal.bounds-state-from-2
