@@ -1,7 +1,6 @@
 -- `send_receive::send` meets its contract: an end that may send has sent less than its total and has a free place, so the count and the
 -- place are in range. Assumes nothing.
 use native.Mathlib.Omega.{arith}
-use borrow.Author.Rules.{rules}
 use Rattle.send_receive.specs.Moves.{send_facts}
 use Rattle.send_receive.proofs.send.Goals as goal
 
@@ -16,7 +15,3 @@ bounds-state-e c =
 pub overflow_cast-state : goal.overflow_cast-state
 overflow_cast-state c =
     omega (arith, send_facts c.args.state.now c.args.e c.requires.2)
-
-pub returns : goal.returns
-returns c =
-    rw (c.word-x.ensures.0, c.fill-n.ensures)
