@@ -21,11 +21,7 @@ fn outside(a: u32, b: u32, n: u32) -> bool
 pub fn size_refused(z: Sizes) -> bool
     ensures { result ≡ refused2 z }
 {
-    if outside(2, 3, z.loops) {
-        true
-    } else {
-        outside(1, 6, z.streams) || outside(1, 8, z.lines)
-    }
+    outside(2, 3, z.loops) || outside(1, 6, z.streams) || outside(1, 8, z.lines)
 }
 
 // Numbers from 0 on.
@@ -101,12 +97,8 @@ pub fn is_direction(z: Sizes, k: u32) -> bool
     requires { Sized z }
     ensures { result ≡ is_direction z k }
 {
-    let direction = 3 + z.loops + z.loops;
-    if k < direction {
-        false
-    } else {
-        k < direction + z.loops
-    }
+    let direction = 3 + 2 * z.loops;
+    (direction..direction + z.loops).contains(&k)
 }
 
 // Whether a range has a word.
@@ -150,11 +142,5 @@ fn above_z(a: V3, b: V3) -> bool
 pub fn bound_refused(n: Nest) -> bool
     ensures { result ≡ refused5 n }
 {
-    let left = n.left;
-    let right = n.right;
-    if above_x(left, right) {
-        true
-    } else {
-        above_y(left, right) || above_z(left, right)
-    }
+    above_x(n.left, n.right) || above_y(n.left, n.right) || above_z(n.left, n.right)
 }
