@@ -40,21 +40,15 @@ fn line_range(z: Sizes, j: u32) -> Range
     requires { Sized z }
     ensures { result ≡ line_range z j }
 {
-    if j == 0 {
-        return up_to(LAST_OPERATION);
-    }
-    if j < 4 {
-        return up_to(z.streams + 1);
-    }
-    if j == 4 {
-        return up_to(z.loops - 1);
-    }
-    if j == 5 {
-        return up_to(3);
-    }
-    Range {
-        least: -64,
-        greatest: 64,
+    match j {
+        0 => up_to(LAST_OPERATION),
+        1..=3 => up_to(z.streams + 1),
+        4 => up_to(z.loops - 1),
+        5 => up_to(3),
+        _ => Range {
+            least: -64,
+            greatest: 64,
+        },
     }
 }
 
