@@ -1,13 +1,11 @@
 -- `counting::fill_numbers` meets its contract: plane by plane, each begins a stride of the outermost loop on. Assumes nothing.
-use mathlib.Core.Path.{◌≡◌, refl, sym, ◌∙◌, ap, subst, subst₂}
-use Prim.Native.Nat.{ℕ, ◌+◌, ◌*◌, ◌-◌, ◌≤◌, ◌<◌}
+use mathlib.Core.Path.{◌≡◌, sym, ◌∙◌, ap, subst, subst₂}
+use Prim.Native.Nat.{ℕ, ◌+◌, ◌*◌}
 use native.Mathlib.Nat.{mul-le-mul_right}
 use native.Mathlib.Omega.{arith}
 use lib.IntN.{ℤ}
-use lib.ListN.{length}
 use mir.Syntax.{w32}
 use mir.Val.{to_z}
-use borrow.Author.Rules.{rules}
 use Rattle.integers.specs.Differences.{Abs}
 use Rattle.integers.specs.Words.{Holds, at, leaf, box, add, fits}
 use Rattle.integers.specs.Fill.{fill_by, fill_zero}
@@ -19,7 +17,7 @@ use Rattle.numbering.specs.Turns.{turning, plane_most, all_most}
 use Rattle.numbering.specs.Extents.{Spanning, box_spanning}
 use Rattle.counting.specs.Forms.{Numbers}
 use Rattle.lists.specs.Fills.{fill_list}
-use Rattle.counting.specs.Strides.{along, along_zero, along_next, PlaneFits, AgreesAll, number_at, Counted, counted_by, form_words}
+use Rattle.counting.specs.Strides.{along_zero, along_next, PlaneFits, AgreesAll, number_at, counted_by, form_words}
 use Rattle.counting.specs.Strides.{start_ready, start_word}
 use Rattle.counting.proofs.fill_numbers.Goals as goal
 

@@ -18,4 +18,4 @@ abbrev pub test : List ℕ → Sizes → ℕ → Bool
 test s z k = in_range z k (word_at s k)
 
 abbrev pub invariant-loop-k : goal.invariant-loop-k
-invariant-loop-k l = every (test l.s l.z) (numbers_from l.k (l.k-end - l.k)) ≡ every (test l.s l.z) (numbers_from 3 (l.k-end - 3))
+invariant-loop-k l = every (test l.s l.z) (numbers_from l.k (l.words - l.k)) ≡ every (test l.s l.z) (numbers_from 3 (l.words - 3))

@@ -1,11 +1,9 @@
 -- `sweeps::fill_spans` meets its contract: the pass over the instances that are left gives the whole pass. Assumes nothing.
-use mathlib.Core.Path.{◌≡◌, refl, sym, ◌∙◌, ap, subst}
-use Prim.Native.Nat.{◌≤◌, ◌-◌}
+use mathlib.Core.Path.{refl, sym, ◌∙◌, ap, subst}
 use native.Mathlib.Omega.{arith}
-use lib.ListN.{length, take, drop}
-use borrow.Author.Rules.{rules}
+use lib.ListN.{take}
 use Rattle.sweeps.specs.Sweep.{sweep, sweep_step, sweep_done, taken_length}
-use Rattle.sweeps.specs.Turns.{turn, turn_length, Most, most_zero, most_turn, swept}
+use Rattle.sweeps.specs.Turns.{turn, Most, most_zero, most_turn, swept}
 use Rattle.sweeps.proofs.fill_spans.Goals as goal
 
 pub clear-requires : goal.clear-requires
