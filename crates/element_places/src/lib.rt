@@ -199,6 +199,13 @@ pub fn fill_places(v: Survey, spans: &[u32], lanes: &[u16], places: &mut [u16])
         let f = survey::flow_at(v, i as usize);
         let first = elements::elements_in(v, i);
         let a = LANES * i as usize;
-        fill_stream(f, v.ground.processes, first, spans, &lanes[a..a + LANES], places);
+        fill_stream(
+            f,
+            v.ground.processes,
+            first,
+            spans,
+            &lanes[a..a + LANES],
+            places,
+        );
     }
 }

@@ -1,6 +1,6 @@
 -- `element_places::fill_stream` meets its contract: the pipes that enter at the first p processes have said where their elements wait, and
 -- the next one's part begins at the start. Assumes nothing.
-use mathlib.Core.Path.{◌≡◌, refl, sym, ◌∙◌, ap, ap₂}
+use mathlib.Core.Path.{◌≡◌, sym, ◌∙◌, ap, ap₂}
 use mathlib.Core.List.{List}
 use Prim.Native.Nat.{ℕ, suc, ◌+◌}
 use native.Mathlib.Omega.{arith}

@@ -2,7 +2,6 @@
 use mathlib.Core.Path.{◌≡◌, refl, sym, ◌∙◌, ap}
 use Prim.Native.Nat.{ℕ, ◌+◌}
 use native.Mathlib.Omega.{arith}
-use lib.ListN.{length-set}
 use Rattle.integers.specs.Differences.{up}
 use Rattle.element_places.specs.Spread.{spread, spread_zero, spread_step}
 use Rattle.element_places.specs.Runs.{number_after, counts}

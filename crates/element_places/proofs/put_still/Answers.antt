@@ -1,5 +1,4 @@
 -- `element_places::put_still` meets its contract: the processes passed so far have said where their elements wait. Assumes nothing.
-use mathlib.Core.Path.{refl}
 use Prim.Native.Nat.{◌≤◌}
 use native.Mathlib.Omega.{arith}
 use Rattle.layout.specs.Spans.{process_of}
