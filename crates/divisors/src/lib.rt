@@ -15,7 +15,8 @@ fn stream_divisor(v: Survey, i: u32) -> u32
     ensures { result ≡ stream_divisor v.description i }
 {
     if i < v.description.sizes.streams {
-        survey::flow_at(v, i as usize).divisor
+        let f = survey::flow_at(v, i as usize);
+        f.divisor
     } else {
         0
     }

@@ -14,7 +14,7 @@ returns-then-i-v c =
     let d = c.args.v.description in
     let i = c.args.i in
     let t = c.if-i-v.true in
-    (flow_is c.requires.0 i t c.flow_at.ensures).divisor_is
+    (flow_is c.requires.0 i t c.flow_at-f.ensures).divisor_is
     ∙ ap (λ (r : Stream). divisor r.map) (sym (get_or-take d.sizes.streams d.streams i no_stream t))
     ∙ sym (in_use d c.requires.0.in_use i t)
 
