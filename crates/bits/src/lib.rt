@@ -14,16 +14,14 @@ ghost use Rattle.std.specs.Prelude.{◌≡◌, ◌<◌, ◌≤◌, length, take}
 ghost use Rattle.meaning.specs.Limits.{gauge_limits};
 ghost use Rattle.bits.specs.Words.{cleared, marked, ones_of, lowest_from};
 
+const WORDS: usize = 16;
+
 // Clears the first sixteen words; those beyond stay.
 pub fn clear(words: &mut [u64])
     requires { 16 ≤ length words.old }
     ensures { words.new ≡ cleared words.old }
 {
-    let mut k = 0usize;
-    while k < 16 {
-        words[k] = 0;
-        k += 1;
-    }
+    words[..WORDS].fill(0);
 }
 
 // Sets the bit of process p.
@@ -31,8 +29,7 @@ pub fn mark(words: &mut [u64], p: u32)
     requires { (16 ≤ length words.old) × (p < gauge_limits.processes) }
     ensures { words.new ≡ marked words.old p }
 {
-    let k = (p / 64) as usize;
-    words[k] |= 1u64 << (p % 64);
+    words[(p / 64) as usize] |= 1 << (p % 64);
 }
 
 // How many bits are set.
@@ -40,11 +37,9 @@ pub fn count(words: &[u64]) -> u32
     requires { 16 ≤ length words.now }
     ensures { result ≡ ones_of (take 16 words.now) }
 {
-    let mut n = 0u32;
-    let mut counted = 0usize;
-    while counted < 16 {
-        n += u64::count_ones(words[counted]);
-        counted += 1;
+    let mut n = 0;
+    for w in &words[..WORDS] {
+        n += w.count_ones();
     }
     n
 }
@@ -54,13 +49,10 @@ pub fn lowest(words: &[u64], none: u32) -> u32
     requires { 16 ≤ length words.now }
     ensures { result ≡ lowest_from none 0 (take 16 words.now) }
 {
-    let mut k = 0usize;
-    while k < 16 {
-        let w = words[k];
-        if w != 0 {
-            return 64 * k as u32 + u64::trailing_zeros(w);
+    for (k, w) in words[..WORDS].iter().enumerate() {
+        if *w != 0 {
+            return 64 * k as u32 + w.trailing_zeros();
         }
-        k += 1;
     }
     none
 }

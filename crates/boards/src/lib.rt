@@ -13,14 +13,14 @@ pub fn limits_of(board: u32) -> Limits
 {
     if board == 1 {
         return Limits {
-            board: board,
+            board,
             instances: BENCH_INSTANCES,
             processes: BENCH_PROCESSES,
             hop: HOP,
         };
     }
     Limits {
-        board: board,
+        board,
         instances: GAUGE_INSTANCES,
         processes: GAUGE_PROCESSES,
         hop: HOP,

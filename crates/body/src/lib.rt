@@ -35,11 +35,8 @@ pub fn run_lines(x: V3, lines: [Line; 8], count: u32, registers: &mut [u32; 8])
     requires { Fit 6 count lines }
     ensures { registers.new ≡ run_lines x (take count lines) registers.old }
 {
-    let n = count as usize;
-    let mut i = 0;
-    while i < n {
+    for i in 0..count as usize {
         run_line(x, lines[i], registers);
-        i += 1;
     }
 }
 
@@ -49,11 +46,8 @@ pub fn gather(store: &[u32], places: &[u32]) -> [u32; 8]
     ensures { result ≡ registers (gather store.now places.now) }
 {
     let mut out = [0u32; 8];
-    let mut i = 0;
-    while i < places.len() {
-        let place = places[i] as usize;
-        out[i] = store[place];
-        i += 1;
+    for (i, place) in places.iter().enumerate() {
+        out[i] = store[*place as usize];
     }
     out
 }
@@ -63,11 +57,8 @@ pub fn scatter(store: &mut [u32], places: &[u32], registers: [u32; 8])
     requires { Places (length store.old) places.now }
     ensures { store.new ≡ scatter store.old places.now registers }
 {
-    let mut i = 0;
-    while i < places.len() {
-        let place = places[i] as usize;
-        store[place] = registers[i];
-        i += 1;
+    for (i, place) in places.iter().enumerate() {
+        store[*place as usize] = registers[i];
     }
 }
 

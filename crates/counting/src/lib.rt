@@ -46,13 +46,10 @@ pub fn course_of(n: Nest) -> Course
     requires { Bounded n }
     ensures { (result ≡ course_of n) × (Runs result) }
 {
-    let left = n.left;
-    let right = n.right;
-    let direction = n.direction;
     Course {
-        first: numbering::corner(direction, left, right),
-        last: numbering::corner(direction, right, left),
-        direction: direction,
+        first: numbering::corner(n.direction, n.left, n.right),
+        last: numbering::corner(n.direction, n.right, n.left),
+        direction: n.direction,
     }
 }
 
@@ -61,28 +58,25 @@ pub fn next(c: Course, x: V3) -> V3
     requires { (Runs c) × (Within 64 x) }
     ensures { result ≡ next_of c x }
 {
-    let first = c.first;
-    let last = c.last;
-    let direction = c.direction;
-    if x.z == last.z {
-        if x.y == last.y {
+    if x.z == c.last.z {
+        if x.y == c.last.y {
             V3 {
-                x: x.x + direction.x,
-                y: first.y,
-                z: first.z,
+                x: x.x + c.direction.x,
+                y: c.first.y,
+                z: c.first.z,
             }
         } else {
             V3 {
                 x: x.x,
-                y: x.y + direction.y,
-                z: first.z,
+                y: x.y + c.direction.y,
+                z: c.first.z,
             }
         }
     } else {
         V3 {
             x: x.x,
             y: x.y,
-            z: x.z + direction.z,
+            z: x.z + c.direction.z,
         }
     }
 }
@@ -100,18 +94,14 @@ pub fn form_of(m: Matrix, e: Extent) -> Form
     requires { (Rows 4 m) × (Spanning (boxed e)) }
     ensures { result ≡ form_of m (boxed e) }
 {
-    let lo = e.lo;
-    let hi = e.hi;
-    let top = m.top;
-    let low = m.low;
-    let columns = (numbering::distance(lo.b, hi.b) + 1) as i32;
+    let columns = (numbering::distance(e.lo.b, e.hi.b) + 1) as i32;
     Form {
         weight: V3 {
-            x: weight_of(columns, top.x, low.x),
-            y: weight_of(columns, top.y, low.y),
-            z: weight_of(columns, top.z, low.z),
+            x: weight_of(columns, m.top.x, m.low.x),
+            y: weight_of(columns, m.top.y, m.low.y),
+            z: weight_of(columns, m.top.z, m.low.z),
         },
-        base: weight_of(columns, lo.a, lo.b),
+        base: weight_of(columns, e.lo.a, e.lo.b),
     }
 }
 
@@ -120,9 +110,7 @@ pub fn stride_of(e: Extent, v: V2) -> i32
     requires { (Spanning (boxed e)) × (Within2 4800 v) }
     ensures { result ≡ weigh (boxed e) v.a v.b }
 {
-    let lo = e.lo;
-    let hi = e.hi;
-    (numbering::distance(lo.b, hi.b) + 1) as i32 * v.a + v.b
+    (numbering::distance(e.lo.b, e.hi.b) + 1) as i32 * v.a + v.b
 }
 
 // The number that a form gives an instance.
@@ -130,8 +118,7 @@ pub fn number_by(f: Form, x: V3) -> u32
     requires { Numbers f x }
     ensures { result ≡ up (form_at f x) }
 {
-    let weight = f.weight;
-    (weight.x * x.x + weight.y * x.y + weight.z * x.z - f.base) as u32
+    (f.weight.x * x.x + f.weight.y * x.y + f.weight.z * x.z - f.base) as u32
 }
 
 // What a form gains by a turn of each loop.
@@ -139,11 +126,10 @@ fn strides_of(f: Form, direction: V3) -> V3
     requires { (Light f) × (Within 1 direction) }
     ensures { (result ≡ strides f direction) × (Within 6916 result) }
 {
-    let weight = f.weight;
     V3 {
-        x: weight.x * direction.x,
-        y: weight.y * direction.y,
-        z: weight.z * direction.z,
+        x: f.weight.x * direction.x,
+        y: f.weight.y * direction.y,
+        z: f.weight.z * direction.z,
     }
 }
 
@@ -155,11 +141,9 @@ fn put_row(out: &mut [u32], from: usize, count: u32, first: i32, stride: i32)
         → out.new ≡ fill_by f (from + count) xs) }
 {
     let mut number = first;
-    let mut k: u32 = 0;
-    while k < count {
+    for k in 0..count {
         out[from + k as usize] = number as u32;
         number += stride;
-        k += 1;
     }
 }
 
@@ -172,12 +156,10 @@ fn put_plane(out: &mut [u32], from: usize, rows: u32, count: u32, first: i32, st
 {
     let mut number = first;
     let mut at = from;
-    let mut j: u32 = 0;
-    while j < rows {
+    for j in 0..rows {
         put_row(out, at, count, number, strides.z);
         number += strides.y;
         at += count as usize;
-        j += 1;
     }
 }
 
@@ -188,21 +170,16 @@ pub fn fill_numbers(n: Nest, m: Matrix, e: Extent, out: &mut [u32])
 {
     let turns = numbering::turns_of(n);
     let form = form_of(m, e);
-    let left = n.left;
-    let right = n.right;
-    let direction = n.direction;
-    let first = numbering::corner(direction, left, right);
-    let strides = strides_of(form, direction);
+    let first = numbering::corner(n.direction, n.left, n.right);
+    let strides = strides_of(form, n.direction);
     let rows = turns.middle;
     let count = turns.inner;
     let plane = (rows * count) as usize;
     let mut number = number_by(form, first) as i32;
-    let mut at: usize = 0;
-    let mut i: u32 = 0;
-    while i < turns.outer {
+    let mut at = 0;
+    for i in 0..turns.outer {
         put_plane(out, at, rows, count, number, strides);
         number += strides.x;
         at += plane;
-        i += 1;
     }
 }

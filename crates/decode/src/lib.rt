@@ -129,11 +129,8 @@ fn streams(s: &[u8], z: Sizes) -> [Stream; 6]
     ensures { result ≡ filled (stream_of s.now z) z.streams 6 no_stream }
 {
     let mut out = [no_stream(); 6];
-    let n = z.streams;
-    let mut i: u32 = 0;
-    while i < n {
+    for i in 0..z.streams {
         out[i as usize] = stream_of(s, z, i);
-        i += 1;
     }
     out
 }
@@ -144,11 +141,8 @@ fn lines(s: &[u8], z: Sizes) -> [Line; 8]
     ensures { result ≡ filled (body_line s.now z) z.lines 8 no_line }
 {
     let mut out = [no_line(); 8];
-    let n = z.lines;
-    let mut i: u32 = 0;
-    while i < n {
+    for i in 0..z.lines {
         out[i as usize] = line_of(s, z, i);
-        i += 1;
     }
     out
 }
@@ -202,8 +196,7 @@ pub fn stream(d: Description, i: usize) -> Stream
     requires { i < 6 }
     ensures { result ≡ get_or d.streams i no_stream }
 {
-    let all = d.streams;
-    all[i]
+    d.streams[i]
 }
 
 // Line i of a description.
@@ -211,8 +204,7 @@ pub fn line(d: Description, i: usize) -> Line
     requires { i < 8 }
     ensures { result ≡ get_or d.lines i no_line }
 {
-    let all = d.lines;
-    all[i]
+    d.lines[i]
 }
 
 // Whether i is some line's target.
@@ -220,13 +212,10 @@ pub fn written(d: Description, i: u32) -> bool
     requires { d.sizes.lines ≤ 8 }
     ensures { result ≡ written d i }
 {
-    let n = d.sizes.lines as usize;
-    let mut j: usize = 0;
-    while j < n {
-        if line(d, j).target == i {
+    for line in &d.lines[..d.sizes.lines as usize] {
+        if line.target == i {
             return true;
         }
-        j += 1;
     }
     false
 }

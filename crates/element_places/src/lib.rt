@@ -58,12 +58,8 @@ fn put_run(r: Run, places: &mut [u16])
     ensures { places.new
         ≡ spread (λ k. up (number_after r k)) (λ k. r.place + k) r.count places.old }
 {
-    let place = r.place;
-    let count = r.count;
-    let mut k: u32 = 0;
-    while k < count {
-        places[number_after(r, k) as usize] = (place + k) as u16;
-        k += 1;
+    for k in 0..r.count {
+        places[number_after(r, k) as usize] = (r.place + k) as u16;
     }
 }
 
@@ -75,17 +71,14 @@ fn run_of(f: Flow, spans: &[u32], first: u32, start: u32, q: usize) -> Run
     requires { Running f first spans.now q }
     ensures { RunOf f.nest f.stream first start (process_of f.nest q) result }
 {
-    let elements = f.elements;
-    let against = f.against;
-    let pass = f.pass;
     let e = pipes::first_element(f, spans, q);
-    let before = layout::reach_of(elements, against, e);
-    let stride = counting::stride_of(elements, pass);
+    let before = layout::reach_of(f.elements, f.against, e);
+    let stride = counting::stride_of(f.elements, f.pass);
     Run {
-        number: (first + numbering::row_number(elements, e)) as i32 - before as i32 * stride,
-        stride: stride,
+        number: (first + numbering::row_number(f.elements, e)) as i32 - before as i32 * stride,
+        stride,
         place: start,
-        count: before + 1 + layout::reach_of(elements, pass, e),
+        count: before + 1 + layout::reach_of(f.elements, f.pass, e),
     }
 }
 
@@ -116,9 +109,7 @@ fn process_on(f: Flow, y: V2, k: u32) -> u32
     requires { Lined f y k }
     ensures { (result < length (processes f.nest)) × (process_of f.nest result ≡ process_at f.nest f.stream y k) }
 {
-    let space = f.space;
-    let way = f.way;
-    numbering::row_number(space, vectors::moved(y, way, k))
+    numbering::row_number(f.space, vectors::moved(y, f.way, k))
 }
 
 // Process q says that its one element waits at a place, if it computes; how many elements it has.
@@ -130,8 +121,7 @@ fn put_own(f: Flow, spans: &[u32], first: u32, place: u32, q: usize, places: &mu
     if spans[q] == 0 {
         return 0;
     }
-    let elements = f.elements;
-    let e = first + numbering::row_number(elements, pipes::first_element(f, spans, q));
+    let e = first + numbering::row_number(f.elements, pipes::first_element(f, spans, q));
     places[e as usize] = place as u16;
     1
 }
@@ -141,16 +131,12 @@ fn put_still(f: Flow, spans: &[u32], first: u32, start: u32, p: usize, places: &
     requires { Walking f first start spans.now p places.old }
     ensures { Put f.nest f.stream first start (process_of f.nest p) places.old result places.new }
 {
-    let space = f.space;
-    let way = f.way;
-    let y = layout::point_at(space, p as u32);
-    let reach = layout::reach_of(space, way, y);
+    let y = layout::point_at(f.space, p as u32);
+    let reach = layout::reach_of(f.space, f.way, y);
     let mut place = start;
-    let mut k: u32 = 0;
-    while k <= reach {
+    for k in 0..reach + 1 {
         let q = process_on(f, y, k);
         place += put_own(f, spans, first, place, q as usize, places);
-        k += 1;
     }
     place - start
 }
@@ -196,10 +182,8 @@ fn fill_stream(
     ensures { places.new ≡ said f.nest f.stream first processes places.old }
 {
     let mut start = first;
-    let mut p: u32 = 0;
-    while p < processes {
+    for p in 0..processes {
         start += put_pipe(f, spans, lanes, first, start, p as usize, places);
-        p += 1;
     }
 }
 
@@ -211,15 +195,17 @@ pub fn fill_places(v: Survey, spans: &[u32], lanes: &[u16], places: &mut [u16])
         × (AllLanes v.description lanes.now) × (length places.old ≡ elements_most) }
     ensures { PlacesOf v.description places.new }
 {
-    let m = v.description.sizes.streams;
-    let processes = v.ground.processes;
-    let mut i: u32 = 0;
-    while i < m {
+    for i in 0..v.description.sizes.streams {
         let f = survey::flow_at(v, i as usize);
         let first = elements::elements_in(v, i);
         let a = LANES * i as usize;
-        let e = a + LANES;
-        fill_stream(f, processes, first, spans, &lanes[a..e], places);
-        i += 1;
+        fill_stream(
+            f,
+            v.ground.processes,
+            first,
+            spans,
+            &lanes[a..a + LANES],
+            places,
+        );
     }
 }

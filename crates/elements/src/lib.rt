@@ -23,12 +23,8 @@ pub fn elements_in(v: Survey, count: u32) -> u32
     ensures { result ≡ stream_start v.description.nest (streams_of v.description) count }
 {
     let mut sum: u32 = 0;
-    let mut i: u32 = 0;
-    while i < count {
-        let f = survey::flow_at(v, i as usize);
-        let elements = f.elements;
-        sum += numbering::size_of(elements);
-        i += 1;
+    for i in 0..count {
+        sum += numbering::size_of(survey::flow_at(v, i as usize).elements);
     }
     sum
 }

@@ -54,11 +54,9 @@ fn pipe_steps(f: Flow, spans: &[u32], lanes: &[u16], p: usize) -> u32
     requires { (Near f spans.now lanes.now p) × (is_entry f.nest f.stream (process_of f.nest p) ≡ true) }
     ensures { result ≡ steps_on f.nest f.stream (process_of f.nest p) }
 {
-    let space = f.space;
-    let way = f.way;
-    let y = layout::point_at(space, p as u32);
+    let y = layout::point_at(f.space, p as u32);
     let elements = pipes::total_at(f, spans, lanes, p);
-    2 * (elements * (layout::reach_of(space, way, y) + 2))
+    2 * (elements * (layout::reach_of(f.space, f.way, y) + 2))
 }
 
 // With the pipe of process p, if it is an entry.
@@ -82,10 +80,8 @@ fn sums_of(f: Flow, processes: u32, spans: &[u32], lanes: &[u16]) -> Sums
     ensures { result ≡ sums_over f.nest f.stream (entries f.nest f.stream) }
 {
     let mut sums = Sums { pipes: 0, steps: 0 };
-    let mut p: u32 = 0;
-    while p < processes {
+    for p in 0..processes {
         sums = added(f, spans, lanes, p as usize, sums);
-        p += 1;
     }
     sums
 }
@@ -126,7 +122,6 @@ fn totals_of(v: Survey, spans: &[u32], lanes: &mut [u16]) -> Totals
     ensures { (result ≡ totals_of v.description v.description.sizes.streams) × (Room result)
         × (AllLanes v.description lanes.new) }
 {
-    let m = v.description.sizes.streams;
     let processes = v.ground.processes;
     let mut totals = Totals {
         words: 0,
@@ -134,13 +129,10 @@ fn totals_of(v: Survey, spans: &[u32], lanes: &mut [u16]) -> Totals
         ends: 0,
         steps: 0,
     };
-    let mut i: u32 = 0;
-    while i < m {
+    for i in 0..v.description.sizes.streams {
         let a = LANES * i as usize;
-        let e = a + LANES;
         let f = survey::flow_at(v, i as usize);
-        totals = joined(totals, share_of(f, processes, spans, &mut lanes[a..e]));
-        i += 1;
+        totals = joined(totals, share_of(f, processes, spans, &mut lanes[a..a + LANES]));
     }
     totals
 }
@@ -155,8 +147,8 @@ pub fn figures_of(v: Survey, spans: &[u32], lanes: &mut [u16]) -> Figures
     let instances = v.ground.instances;
     let t = totals_of(v, spans, lanes);
     Figures {
-        processes: processes,
-        instances: instances,
+        processes,
+        instances,
         elements: elements::element_count(v),
         pipes: t.pipes,
         words: processes * (1 + t.words) + t.ends,

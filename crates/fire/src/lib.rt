@@ -15,14 +15,15 @@ use meaning::Line;
 use ports::{Port, word};
 
 // Whether firing f can use the element: the keep is filled, or the element of that firing is in hand, not yet used.
+#[tactic(auto, unfolding(crate::specs::Firing::uses))]
 fn uses(k: Port, x: usize, y: usize, f: usize) -> bool
     requires { (k.soak < 4294967296) × (y < 4294967296) × (f < 4294967296) }
     ensures { result ≡ uses k x y f }
 {
     if k.keeps {
-        if 0 < x { y < k.total } else { false }
+        0 < x && y < k.total
     } else {
-        if x == y + 1 { y == k.soak + f } else { false }
+        x == y + 1 && y == k.soak + f
     }
 }
 
@@ -31,9 +32,8 @@ pub fn can_use(state: &[u32], k: Port) -> bool
     requires { PortFits (length state.now) k }
     ensures { result ≡ can_use state.now k }
 {
-    let at = k.at;
-    let x = word(state, at);
-    let y = word(state, at + 1);
+    let x = word(state, k.at);
+    let y = word(state, k.at + 1);
     let f = word(state, k.fired);
     uses(k, x, y, f)
 }
@@ -53,10 +53,8 @@ fn used_words(ports: [Port; 6], streams: usize) -> [u32; 6]
     ensures { result ≡ fill_by (used_in ports) streams (replicate 6 0) }
 {
     let mut out = [0u32; 6];
-    let mut s = 0;
-    while s < streams {
+    for s in 0..streams {
         out[s] = used(ports[s]);
-        s += 1;
     }
     out
 }
@@ -73,10 +71,9 @@ pub fn fire(
     requires { ProcessFits (length state.old) ports streams × Fit streams count lines × (can_fire state.old ports streams ≡ true) }
     ensures { state.new ≡ fired x (take count lines) state.old ports streams }
 {
-    let k = ports[0];
-    let at = k.fired;
-    let f = word(state, at);
+    let fired = ports[0].fired;
+    let f = word(state, fired);
     let words = used_words(ports, streams);
     execute(x, lines, count, state, &words[0..streams]);
-    state[at] = (f + 1) as u32;
+    state[fired] = (f + 1) as u32;
 }

@@ -44,9 +44,7 @@ fn entry_number(f: Flow, p: u32, y: V2) -> u32
     requires { (Flows f) × (p < length (processes f.nest)) × (y ≡ get_or (points (boxed f.space)) p zero2) }
     ensures { (result ≡ entry_number f.nest f.stream p) × (result < length (processes f.nest)) }
 {
-    let space = f.space;
-    let back = f.back;
-    let k = layout::reach_of(space, back, y);
+    let k = layout::reach_of(f.space, f.back, y);
     (p as i32 - k as i32 * f.step) as u32
 }
 
@@ -85,20 +83,16 @@ pub fn fill_lanes(f: Flow, processes: u32, spans: &[u32], lanes: &mut [u16])
     requires { Fillable f processes spans.now lanes.old }
     ensures { Seen f spans.now lanes.new }
 {
-    let space = f.space;
-    let moving = f.moving;
-    let mut y = space.lo;
-    let mut p: u32 = 0;
-    while p < processes {
+    let mut y = f.space.lo;
+    for p in 0..processes {
         let e = entry_number(f, p, y);
         visit(
             lanes,
             p as usize,
             e as usize,
             spans[p as usize] != 0,
-            moving,
+            f.moving,
         );
-        y = layout::next_point(space, y);
-        p += 1;
+        y = layout::next_point(f.space, y);
     }
 }

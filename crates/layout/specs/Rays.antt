@@ -1,6 +1,6 @@
 -- How often one can go on in a box: the least that either coordinate allows. Assumes nothing.
-use Rattle.std.specs.Prelude.{◌≡◌, refl, true, false, ℕ, zero, suc, ◌*◌, ◌/◌, ◌≤◌, ◌<◌, ℤ, pos, negsuc, nat_abs, ◌+ℤ◌, ◌-ℤ◌, ◌*ℤ◌, ◌≤ℤ◌}
-use Rattle.std.specs.Prelude.{◌<ℤ◌}
+use Rattle.std.specs.Prelude.{◌≡◌, refl, true, false, ℕ, zero, suc, min, ◌*◌, ◌/◌, ◌≤◌, ◌<◌, ℤ, pos, negsuc, nat_abs, ◌-ℤ◌, ◌*ℤ◌, ◌≤ℤ◌}
+use Rattle.std.specs.Prelude.{◌+ℤ◌, ◌<ℤ◌}
 use Rattle.std.proofs.Common.{sym, ◌∙◌, ap, true≢false, le-div_iff_mul-le, div-le_self, arith, to_z, of_z}
 use Rattle.std.proofs.Math.IntN.{ℤ_discrete}
 use Rattle.std.specs.Int.{w32}
@@ -63,6 +63,17 @@ pub record Along (r : Ray) : Type 0 where
   pub low : Apart r.lo r.at
   pub high : Apart r.at r.hi
   pub by : Abs r.by 4800
+
+-- they are read back from their words unchanged
+same_ray : {lo hi at by l h a b : ℤ} → lo ≡ l → hi ≡ h → at ≡ a → by ≡ b
+    → ◌≡◌ {A = Ray} (record { lo = lo; hi = hi; at = at; by = by }) (record { lo = l; hi = h; at = a; by = b })
+same_ray e f g h = cc
+
+abbrev word : ℤ → ℤ
+word z = to_z w32 (of_z w32 z)
+
+pub along_words : {r : Ray} → Along r → ◌≡◌ {A = Ray} (record { lo = word r.lo; hi = word r.hi; at = word r.at; by = word r.by }) r
+along_words h = same_ray (at tt h.low.low).eq (at tt h.high.high).eq (at tt h.low.high).eq (at tt h.by).eq
 
 on_up : (i c : ℕ) (l r a : ℤ) → l ≤ℤ a → a ≤ℤ r → i * suc c ≤ up (r -ℤ a)
     → (l ≤ℤ (a +ℤ pos i *ℤ pos (suc c))) × ((a +ℤ pos i *ℤ pos (suc c)) ≤ℤ r)
@@ -191,19 +202,8 @@ module _ {k : Box} {d p : V2} (g : Going k d p) where
   reach_small = bounds.2
 
   -- how often one can go on is the least that either coordinate allows
-  module _ {u v : Ray} {a b : ℕ} (eu : u ≡ first_ray k d p) (ea : a ≡ room_of u) (ev : v ≡ second_ray k d p) (eb : b ≡ room_of v) where
-    pub reach_left : a < b → (a ≡ reach k d p) × (a ≤ 1536)
-    reach_left h =
-        let f = ea ∙ ap room_of eu in
-        let e = eb ∙ ap room_of ev in (
-          omega (arith, at_least a (omega arith) (omega arith), bounds.0),
-          omega (arith, at_least a (omega arith) (omega arith), reach_small),
-        )
-
-    pub reach_right : b ≤ a → (b ≡ reach k d p) × (b ≤ 1536)
-    reach_right h =
-        let f = ea ∙ ap room_of eu in
-        let e = eb ∙ ap room_of ev in (
-          omega (arith, at_least b (omega arith) (omega arith), bounds.1),
-          omega (arith, at_least b (omega arith) (omega arith), reach_small),
-        )
+  pub reach_least : {a b : ℕ} → a ≡ room_of (first_ray k d p) → b ≡ room_of (second_ray k d p)
+      → (min a b ≡ reach k d p) × (min a b ≤ 1536)
+  reach_least {a} {b} e f =
+      let l = at_least (min a b) (omega arith) (omega arith) in
+      (omega (arith, l, bounds.0, bounds.1), omega (arith, l, reach_small))

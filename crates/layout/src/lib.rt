@@ -23,7 +23,7 @@ ghost use Rattle.vectors.specs.Within.{Within, Within2};
 ghost use Rattle.numbering.specs.Ranges.{Bounded};
 ghost use Rattle.numbering.specs.Extents.{Spanning, boxed};
 ghost use Rattle.survey.specs.Surveys.{GroundOf};
-ghost use Rattle.layout.specs.Rays.{room_of, Along, first_ray, second_ray, Going};
+ghost use Rattle.layout.specs.Rays.{room_of, Along, Going};
 ghost use Rattle.layout.specs.Points.{next_point};
 ghost use Rattle.layout.specs.Codes.{code_of, coded};
 ghost use Rattle.layout.specs.Spans.{Spans, span_words, numbered};
@@ -54,32 +54,10 @@ struct Ray {
     by: i32,
 }
 
-fn first_ray(e: Extent, d: V2, p: V2) -> Ray
-    requires { Going (boxed e) d p }
-    ensures { result ≡ first_ray (boxed e) d p }
+fn ray_of(lo: i32, hi: i32, at: i32, by: i32) -> Ray
+    ensures { result ≡ record { lo = lo; hi = hi; at = at; by = by } }
 {
-    let lo = e.lo;
-    let hi = e.hi;
-    Ray {
-        lo: lo.a,
-        hi: hi.a,
-        at: p.a,
-        by: d.a,
-    }
-}
-
-fn second_ray(e: Extent, d: V2, p: V2) -> Ray
-    requires { Going (boxed e) d p }
-    ensures { result ≡ second_ray (boxed e) d p }
-{
-    let lo = e.lo;
-    let hi = e.hi;
-    Ray {
-        lo: lo.b,
-        hi: hi.b,
-        at: p.b,
-        by: d.b,
-    }
+    Ray { lo, hi, at, by }
 }
 
 // How many steps of a size a way has in it; most are of one, and then there is nothing to divide.
@@ -111,9 +89,9 @@ pub fn reach_of(e: Extent, d: V2, p: V2) -> u32
     requires { Going (boxed e) d p }
     ensures { (result ≡ reach (boxed e) d p) × (result ≤ 1536) }
 {
-    let a = room(first_ray(e, d, p));
-    let b = room(second_ray(e, d, p));
-    if a < b { a } else { b }
+    let a = room(ray_of(e.lo.a, e.hi.a, p.a, d.a));
+    let b = room(ray_of(e.lo.b, e.hi.b, p.b, d.b));
+    a.min(b)
 }
 
 // The point of a row number.
@@ -121,12 +99,10 @@ pub fn point_at(e: Extent, p: u32) -> V2
     requires { (Spanning (boxed e)) × (p < length (points (boxed e))) }
     ensures { result ≡ get_or (points (boxed e)) p zero2 }
 {
-    let lo = e.lo;
-    let hi = e.hi;
-    let columns = numbering::distance(lo.b, hi.b) + 1;
+    let columns = numbering::distance(e.lo.b, e.hi.b) + 1;
     V2 {
-        a: lo.a + (p / columns) as i32,
-        b: lo.b + (p % columns) as i32,
+        a: e.lo.a + (p / columns) as i32,
+        b: e.lo.b + (p % columns) as i32,
     }
 }
 
@@ -135,12 +111,10 @@ pub fn next_point(e: Extent, y: V2) -> V2
     requires { (Spanning (boxed e)) × (Within2 768 y) }
     ensures { result ≡ next_point (boxed e) y }
 {
-    let lo = e.lo;
-    let hi = e.hi;
-    if y.b == hi.b {
+    if y.b == e.hi.b {
         V2 {
             a: y.a + 1,
-            b: lo.b,
+            b: e.lo.b,
         }
     } else {
         V2 { a: y.a, b: y.b + 1 }
@@ -194,10 +168,8 @@ fn fill_firsts(n: Nest, processes: u32, firsts: &mut [u32])
     ensures { firsts.new
         ≡ fill_by (λ p. code_of (numbered n (get_or firsts.old p 0))) processes firsts.old }
 {
-    let mut p: u32 = 0;
-    while p < processes {
-        firsts[p as usize] = code_of(instance_numbered(n, firsts[p as usize]));
-        p += 1;
+    for p in 0..processes as usize {
+        firsts[p] = code_of(instance_numbered(n, firsts[p]));
     }
 }
 
@@ -207,14 +179,9 @@ pub fn fill_processes(n: Nest, g: Ground, spans: &mut [u32])
         × (length (processes n) ≤ gauge_limits.processes) × (length spans.old ≡ span_words) }
     ensures { Spans n spans.new }
 {
-    let place = n.place;
-    let direction = n.direction;
-    let increment = g.increment;
-    let space = g.space;
-    let processes = g.processes;
-    let back = vectors::against(direction, increment);
+    let back = vectors::against(n.direction, g.increment);
     let mut numbers = [0u32; INSTANCES];
-    counting::fill_numbers(n, place, space, &mut numbers);
-    sweeps::fill_spans(&numbers, g.instances, back, processes, spans);
-    fill_firsts(n, processes, &mut spans[FIRSTS..LASTS]);
+    counting::fill_numbers(n, n.place, g.space, &mut numbers);
+    sweeps::fill_spans(&numbers, g.instances, back, g.processes, spans);
+    fill_firsts(n, g.processes, &mut spans[FIRSTS..LASTS]);
 }

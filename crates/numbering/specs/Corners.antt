@@ -1,7 +1,7 @@
 -- The least and the greatest value of a row over the bounds, by the signs of its words, and with them the box around the images of all
 -- instances. Assumes nothing.
 use Rattle.std.specs.Prelude.{◌≡◌, refl, Bool, true, false, cond, suc, ℤ, pos, negsuc, ◌+ℤ◌, ◌*ℤ◌, ◌≤ℤ◌, ◌<ℤ◌}
-use Rattle.std.proofs.Common.{sym, ap, subst, mul-le-mul_left, arith}
+use Rattle.std.proofs.Common.{sym, subst, mul-le-mul_left, arith}
 use Rattle.std.specs.Int.Signed.{lt_z, ≤ℤ_refl}
 use Rattle.integers.specs.Differences.{gaps, zrules, lt_out}
 use Rattle.integers.specs.Variables.{linear}

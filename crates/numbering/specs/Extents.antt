@@ -1,5 +1,5 @@
 -- The bounds of the box around the images of all instances. Assumes nothing.
-use Rattle.std.specs.Prelude.{◌≡◌, refl, ℕ, suc, ◌≤◌, ◌<◌, length, get_or, ℤ, pos, negsuc, ◌≤ℤ◌}
+use Rattle.std.specs.Prelude.{◌≡◌, ℕ, ◌<◌, length, get_or, ℤ, pos, negsuc, ◌≤ℤ◌}
 use Rattle.std.proofs.Common.{arith}
 use Rattle.std.specs.Int.Signed.{≤ℤ_refl}
 use Rattle.integers.specs.Differences.{Abs, gaps, parts}

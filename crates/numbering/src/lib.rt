@@ -61,13 +61,10 @@ fn outer(n: Nest) -> Loop
     requires { Bounded n }
     ensures { (result ≡ outer_of n) × (Ranged result) }
 {
-    let left = n.left;
-    let right = n.right;
-    let direction = n.direction;
     Loop {
-        left: left.x,
-        right: right.x,
-        direction: direction.x,
+        left: n.left.x,
+        right: n.right.x,
+        direction: n.direction.x,
     }
 }
 
@@ -76,13 +73,10 @@ fn middle(n: Nest) -> Loop
     requires { Bounded n }
     ensures { (result ≡ middle_of n) × (Ranged result) }
 {
-    let left = n.left;
-    let right = n.right;
-    let direction = n.direction;
     Loop {
-        left: left.y,
-        right: right.y,
-        direction: direction.y,
+        left: n.left.y,
+        right: n.right.y,
+        direction: n.direction.y,
     }
 }
 
@@ -91,13 +85,10 @@ fn inner(n: Nest) -> Loop
     requires { Bounded n }
     ensures { (result ≡ inner_of n) × (Ranged result) }
 {
-    let left = n.left;
-    let right = n.right;
-    let direction = n.direction;
     Loop {
-        left: left.z,
-        right: right.z,
-        direction: direction.z,
+        left: n.left.z,
+        right: n.right.z,
+        direction: n.direction.z,
     }
 }
 
@@ -139,13 +130,12 @@ fn turns_before(n: Nest, k: u32) -> Turns
     ensures { Turned n k result }
 {
     let t = turns_of(n);
-    let inner = t.inner;
-    let plane = t.middle * inner;
+    let plane = t.middle * t.inner;
     let rest = k % plane;
     Turns {
         outer: k / plane,
-        middle: rest / inner,
-        inner: rest % inner,
+        middle: rest / t.inner,
+        inner: rest % t.inner,
     }
 }
 
@@ -204,18 +194,14 @@ pub fn extent_of(n: Nest, m: Matrix) -> Extent
     requires { (Bounded n) × (Rows 4 m) }
     ensures { (boxed result ≡ box_of n m) × (Spanning (boxed result)) }
 {
-    let left = n.left;
-    let right = n.right;
-    let top = m.top;
-    let low = m.low;
     Extent {
         lo: V2 {
-            a: outermost(top, left, right),
-            b: outermost(low, left, right),
+            a: outermost(m.top, n.left, n.right),
+            b: outermost(m.low, n.left, n.right),
         },
         hi: V2 {
-            a: outermost(top, right, left),
-            b: outermost(low, right, left),
+            a: outermost(m.top, n.right, n.left),
+            b: outermost(m.low, n.right, n.left),
         },
     }
 }
@@ -225,9 +211,7 @@ pub fn size_of(e: Extent) -> u32
     requires { Spanning (boxed e) }
     ensures { (result ≡ length (points (boxed e))) × (result ≤ 2362369) }
 {
-    let lo = e.lo;
-    let hi = e.hi;
-    (distance(lo.a, hi.a) + 1) * (distance(lo.b, hi.b) + 1)
+    (distance(e.lo.a, e.hi.a) + 1) * (distance(e.lo.b, e.hi.b) + 1)
 }
 
 // The number of a point of a box in row order.
@@ -235,7 +219,5 @@ pub fn row_number(e: Extent, p: V2) -> u32
     requires { (Spanning (boxed e)) × (Inside (boxed e) p) }
     ensures { result ≡ row_index (boxed e) p }
 {
-    let lo = e.lo;
-    let hi = e.hi;
-    distance(lo.a, p.a) * (distance(lo.b, hi.b) + 1) + distance(lo.b, p.b)
+    distance(e.lo.a, p.a) * (distance(e.lo.b, e.hi.b) + 1) + distance(e.lo.b, p.b)
 }

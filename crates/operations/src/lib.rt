@@ -9,14 +9,14 @@ ghost use Rattle.meaning.specs.Operations.{modulus, fixed_product, operate};
 fn exact(a: u32, b: u32) -> u64
     ensures { (result ≡ a * b) × (result ≤ (modulus - 1) * (modulus - 1)) }
 {
-    a as u64 * b as u64
+    u64::from(a) * u64::from(b)
 }
 
 // The product modulo 2^32.
 pub fn times(a: u32, b: u32) -> u32
     ensures { result ≡ (a * b) % modulus }
 {
-    (exact(a, b) % 0x1_0000_0000) as u32
+    a.wrapping_mul(b)
 }
 
 // The product of two 16.16 numbers: divided by 2^16, rounded down, modulo 2^32.
@@ -32,11 +32,11 @@ pub fn operate(op: u32, a: u32, b: u32) -> u32
 {
     match op {
         0 => a,
-        1 => std::num::wrapping_add_u32(a, b),
-        2 => std::num::wrapping_sub_u32(a, b),
+        1 => a.wrapping_add(b),
+        2 => a.wrapping_sub(b),
         3 => times(a, b),
-        4 => { if b < a { b } else { a } }
-        5 => { if a < b { b } else { a } }
+        4 => a.min(b),
+        5 => a.max(b),
         _ => fixed_times(a, b),
     }
 }

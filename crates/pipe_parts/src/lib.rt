@@ -31,11 +31,7 @@ pub fn is_entry(f: Flow, spans: &[u32], lanes: &[u16], p: usize) -> bool
     requires { Near f spans.now lanes.now p }
     ensures { result ≡ is_entry f.nest f.stream (process_of f.nest p) && is_pipe f.nest f.stream (process_of f.nest p) }
 {
-    if pipes::entry_at(f, spans, lanes, p) == p {
-        pipes::held_at(f, spans, lanes, p) != 0
-    } else {
-        false
-    }
+    pipes::entry_at(f, spans, lanes, p) == p && pipes::held_at(f, spans, lanes, p) != 0
 }
 
 // The elements that the pipe of process p has, if p is its entry.

@@ -163,12 +163,6 @@ pub record Near (f : Flow) (spans lanes : List ℕ) (p : ℕ) : Type 0 where
   pub seen : Seen f spans lanes
   pub lt : p < length (processes f.nest)
 
--- and a word for each of them
-pub record Filling (f : Flow) (count : ℕ) (spans lanes out : List ℕ) : Type 0 where
-  pub seen : Seen f spans lanes
-  pub counted : count ≡ length (processes f.nest)
-  pub room : count ≤ length out
-
 -- what a test of its count says
 pub computes_is : {f : Flow} {spans lanes : List ℕ} {p : ℕ} → Near f spans lanes p → computes f.nest p ≡ not (eqb (get_or spans p 0) 0)
 computes_is {p} h = ap (λ (k : ℕ). not (eqb k 0)) (sym (h.seen.of_spans.counts p h.lt))

@@ -1,7 +1,7 @@
 -- What a stream's words say: at each process its soak and its drain as the table has them. Assumes nothing.
 use Rattle.std.specs.Prelude.{◌≡◌, List, ℕ, ◌+◌, ◌≤◌, ◌<◌, length, get_or}
 use Rattle.std.proofs.Common.{sym, ◌∙◌, ap, arith}
-use borrow.Rule.Slice.PartMut.{put_mid, mid_of, mid_len}
+use borrow.Rule.Slice.PartMut.{put_mid, mid_of}
 use Rattle.integers.specs.Fill.{fill_by}
 use Rattle.meaning.specs.declared.Nest.{Nest}
 use Rattle.meaning.specs.declared.Stream.{Stream}
@@ -32,12 +32,3 @@ passed n s k c few xs a b long ea eb =
           ∙ part_at f k 0 1024 xs a ea (omega arith) 0 p (omega (arith, c)) few;
       drains = λ p l. part_at g k 1024 1024 xa b eb (omega (arith, la)) 0 p (omega (arith, c)) few;
     }
-
--- the second part has room
-pub second_room : (f : ℕ → ℕ) (k : ℕ) (xs a : List ℕ) → k ≤ 1024 → 2048 ≤ length xs → a ≡ fill_by f k (mid_of 0 1024 xs)
-    → k ≤ length (mid_of 1024 1024 (put_mid 0 1024 xs a))
-second_room f k xs a few long e =
-    omega (arith, mid_len 1024 2048 (put_mid 0 1024 xs a) (omega (arith, whole_length f k 0 1024 xs a e (omega arith))))
-
-pub first_room : (k : ℕ) (xs : List ℕ) → k ≤ 1024 → 2048 ≤ length xs → k ≤ length (mid_of 0 1024 xs)
-first_room k xs few long = omega (arith, mid_len 0 1024 xs (omega arith))

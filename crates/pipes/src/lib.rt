@@ -7,7 +7,7 @@
 
 #![tactic(auto)]
 
-ghost use Rattle.std.specs.Prelude.{◌≡◌, false, ◌+◌, ◌≤◌, ◌<◌, T, length, get_or};
+ghost use Rattle.std.specs.Prelude.{◌≡◌, ℕ, false, ◌+◌, ◌≤◌, ◌<◌, T, length, get_or};
 ghost use Rattle.meaning.specs.Limits.{gauge_limits};
 ghost use Rattle.integers.specs.Vectors.{image};
 ghost use Rattle.integers.specs.Fill.{fill_by};
@@ -17,7 +17,7 @@ ghost use Rattle.meaning.specs.Array.{row_soak};
 ghost use Rattle.layout.specs.Spans.{process_of};
 ghost use Rattle.lanes.specs.Held.{computes};
 ghost use Rattle.lanes.specs.Flow.{Flowing};
-ghost use Rattle.pipes.specs.Elements.{At, Near, row_drain, Filling};
+ghost use Rattle.pipes.specs.Elements.{At, Near, row_drain};
 ghost use Rattle.pipes.specs.Passed.{Passed};
 
 use integers::V2;
@@ -36,17 +36,17 @@ pub fn first_element(f: Flow, spans: &[u32], p: usize) -> V2
     requires { At f spans.now p }
     ensures { result ≡ image f.stream.map (first f.nest (process_of f.nest p)) }
 {
-    let map = f.stream.map;
-    vectors::image_of(map, layout::first_at(spans, p))
+    vectors::image_of(f.stream.map, layout::first_at(spans, p))
 }
 
 fn last_element(f: Flow, spans: &[u32], p: usize) -> V2
     requires { At f spans.now p }
     ensures { result ≡ image f.stream.map (last f.nest (process_of f.nest p)) }
 {
-    let n = f.nest;
-    let map = f.stream.map;
-    vectors::image_of(map, numbering::instance(n, spans[LASTS + p] - 1))
+    vectors::image_of(
+        f.stream.map,
+        numbering::instance(f.nest, spans[LASTS + p] - 1),
+    )
 }
 
 // Of a moving stream: its soak, its drain, and how many elements its pipe has.
@@ -54,29 +54,22 @@ fn soak_at(f: Flow, spans: &[u32], p: usize) -> u32
     requires { (At f spans.now p) × (T f.moving) }
     ensures { result ≡ soak f.nest f.stream (process_of f.nest p) }
 {
-    let elements = f.elements;
-    let against = f.against;
-    layout::reach_of(elements, against, first_element(f, spans, p))
+    layout::reach_of(f.elements, f.against, first_element(f, spans, p))
 }
 
 fn drain_at(f: Flow, spans: &[u32], p: usize) -> u32
     requires { (At f spans.now p) × (T f.moving) }
     ensures { result ≡ drain f.nest f.stream (process_of f.nest p) }
 {
-    let elements = f.elements;
-    let pass = f.pass;
-    layout::reach_of(elements, pass, last_element(f, spans, p))
+    layout::reach_of(f.elements, f.pass, last_element(f, spans, p))
 }
 
 fn length_at(f: Flow, spans: &[u32], p: usize) -> u32
     requires { (At f spans.now p) × (T f.moving) }
     ensures { (result ≡ length (pipe_elements f.nest f.stream (process_of f.nest p))) × (result ≤ gauge_limits.instances) }
 {
-    let elements = f.elements;
-    let against = f.against;
-    let pass = f.pass;
     let e = first_element(f, spans, p);
-    layout::reach_of(elements, against, e) + 1 + layout::reach_of(elements, pass, e)
+    layout::reach_of(f.elements, f.against, e) + 1 + layout::reach_of(f.elements, f.pass, e)
 }
 
 // ---- the lanes of a process
@@ -86,7 +79,7 @@ pub fn entry_at(f: Flow, spans: &[u32], lanes: &[u16], p: usize) -> usize
     requires { Near f spans.now lanes.now p }
     ensures { (result ≡ get_or lanes.now p 0) × (result < gauge_limits.processes) }
 {
-    lanes[p] as usize
+    usize::from(lanes[p])
 }
 
 // How many compute on it, and of a moving stream the number plus one of one of them.
@@ -95,7 +88,7 @@ pub fn held_at(f: Flow, spans: &[u32], lanes: &[u16], p: usize) -> u32
     ensures { result ≡ get_or lanes.now (2048 + get_or lanes.now p 0) 0 }
 {
     let e = entry_at(f, spans, lanes, p);
-    lanes[HELD + e] as u32
+    u32::from(lanes[HELD + e])
 }
 
 pub fn one_at(f: Flow, spans: &[u32], lanes: &[u16], p: usize) -> u32
@@ -103,7 +96,7 @@ pub fn one_at(f: Flow, spans: &[u32], lanes: &[u16], p: usize) -> u32
     ensures { result ≡ get_or lanes.now (gauge_limits.processes + get_or lanes.now p 0) 0 }
 {
     let e = entry_at(f, spans, lanes, p);
-    lanes[MARKS + e] as u32
+    u32::from(lanes[MARKS + e])
 }
 
 // Of a stationary stream: its soak, the number of computing processes before it on its pipe.
@@ -111,7 +104,7 @@ fn rank_at(f: Flow, spans: &[u32], lanes: &[u16], p: usize) -> u32
     requires { (Near f spans.now lanes.now p) × (T (computes f.nest p)) × (f.moving ≡ false) }
     ensures { result ≡ soak f.nest f.stream (process_of f.nest p) }
 {
-    let running = lanes[MARKS + p] as u32;
+    let running = u32::from(lanes[MARKS + p]);
     if f.turned {
         held_at(f, spans, lanes, p) - 1 - running
     } else {
@@ -178,26 +171,15 @@ fn drain_of(f: Flow, spans: &[u32], lanes: &[u16], p: usize) -> u32
     }
 }
 
-// The soaks of all processes; their drains.
-fn fill_soaks(f: Flow, processes: u32, spans: &[u32], lanes: &[u16], out: &mut [u32])
-    requires { Filling f processes spans.now lanes.now out.old }
-    ensures { out.new ≡ fill_by (λ p. row_soak f.nest f.stream (process_of f.nest p)) processes out.old }
+// The words of all processes, by what says the word of one.
+fn fill_rows<F: Fn(usize) -> u32>(processes: u32, row: F, out: &mut [u32])
+    requires room { processes ≤ length out.old }
+    requires ready { (p : ℕ) → p < processes → F.pre row p }
+    ensures { (word : ℕ → ℕ) → ((p r : ℕ) → p < processes → F.post row p r → r ≡ word p)
+        → out.new ≡ fill_by word processes out.old }
 {
-    let mut p: u32 = 0;
-    while p < processes {
-        out[p as usize] = soak_of(f, spans, lanes, p as usize);
-        p += 1;
-    }
-}
-
-fn fill_drains(f: Flow, processes: u32, spans: &[u32], lanes: &[u16], out: &mut [u32])
-    requires { Filling f processes spans.now lanes.now out.old }
-    ensures { out.new ≡ fill_by (λ p. row_drain f.nest f.stream (process_of f.nest p)) processes out.old }
-{
-    let mut p: u32 = 0;
-    while p < processes {
-        out[p as usize] = drain_of(f, spans, lanes, p as usize);
-        p += 1;
+    for p in 0..processes {
+        out[p as usize] = row(p as usize);
     }
 }
 
@@ -209,6 +191,14 @@ pub fn fill_stream(f: Flow, processes: u32, spans: &[u32], block: &mut [u32])
 {
     let mut lanes = [0u16; LANES];
     lanes::fill_lanes(f, processes, spans, &mut lanes);
-    fill_soaks(f, processes, spans, &lanes, &mut block[0..PROCESSES]);
-    fill_drains(f, processes, spans, &lanes, &mut block[PROCESSES..BLOCK]);
+    fill_rows(
+        processes,
+        |p| soak_of(f, spans, &lanes, p),
+        &mut block[0..PROCESSES],
+    );
+    fill_rows(
+        processes,
+        |p| drain_of(f, spans, &lanes, p),
+        &mut block[PROCESSES..BLOCK],
+    );
 }

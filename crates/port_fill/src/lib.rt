@@ -65,7 +65,7 @@ fn strand_of(hop: u32, processes: u32, stride: u32, t: Sums) -> Strand
     ensures { (result ≡ strand_from hop processes stride t) × (Narrow result) }
 {
     Strand {
-        hop: hop,
+        hop,
         stride: stride,
         offset: 1 + t.words,
         tail: processes * stride + t.ends,
@@ -77,13 +77,9 @@ fn stride_of(v: Survey) -> u32
     requires { (Described v.description) × (Surveyed v) }
     ensures { (result ≡ stride_of v.description) × (result ≤ process_words_most) }
 {
-    let m = v.description.sizes.streams;
-    let mut sum: u32 = 1;
-    let mut i: u32 = 0;
-    while i < m {
-        let f = survey::flow_at(v, i as usize);
-        sum += 4 + f.hop;
-        i += 1;
+    let mut sum = 1;
+    for i in 0..v.description.sizes.streams {
+        sum += 4 + survey::flow_at(v, i as usize).hop;
     }
     sum
 }
@@ -133,14 +129,12 @@ fn put_ends(
         × (ports.new ≡ end_rows f.nest f.stream g first base processes ports.old) }
 {
     let mut start = first;
-    let mut j: u32 = 0;
-    let mut p: u32 = 0;
-    while p < processes {
+    let mut j = 0;
+    for p in 0..processes {
         let total = pipe_parts::entering_length(f, spans, lanes, p as usize);
         pipe_parts::put_head(heads, p as usize, j, total);
         j += put_end(f, g, total, start, base, j, p, ports);
         start += total;
-        p += 1;
     }
     j
 }
@@ -177,10 +171,8 @@ fn put_ports(
     requires { (PortsFillable f g processes spans.now lanes.now heads.now i) × (length ports.old ≡ port_table_words) }
     ensures { ports.new ≡ port_rows f.nest f.stream g i processes ports.old }
 {
-    let mut p: u32 = 0;
-    while p < processes {
+    for p in 0..processes {
         put_port(f, g, spans, lanes, heads, i, p as usize, ports);
-        p += 1;
     }
 }
 
@@ -216,20 +208,16 @@ fn fill_streams(v: Survey, stride: u32, spans: &[u32], lanes: &[u16], ports: &mu
         × (length ports.old ≡ port_table_words) }
     ensures { PortsOf (array_of v.description) ports.new }
 {
-    let m = v.description.sizes.streams;
     let processes = v.ground.processes;
     let mut sums = Sums {
         words: 0,
         pipes: 0,
         ends: 0,
     };
-    let mut i: u32 = 0;
-    while i < m {
+    for i in 0..v.description.sizes.streams {
         let f = survey::flow_at(v, i as usize);
-        let hop = f.hop;
-        let g = strand_of(hop, processes, stride, sums);
+        let g = strand_of(f.hop, processes, stride, sums);
         let first = elements::elements_in(v, i);
-        let base = sums.pipes;
         let a = LANES * i as usize;
         let e = a + LANES;
         let pipes = fill_stream(
@@ -238,13 +226,12 @@ fn fill_streams(v: Survey, stride: u32, spans: &[u32], lanes: &[u16], ports: &mu
             processes,
             i as usize,
             first,
-            base,
+            sums.pipes,
             spans,
             &lanes[a..e],
             ports,
         );
-        sums = joined(sums, hop, pipes);
-        i += 1;
+        sums = joined(sums, f.hop, pipes);
     }
 }
 

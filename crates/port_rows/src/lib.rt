@@ -77,20 +77,13 @@ fn number_back(f: Flow, p: u32) -> u32
     (p as i32 - f.step) as u32
 }
 
-// A word of 16 bits as a number.
-fn wide(x: u16) -> u32
-    ensures { result ≡ x }
-{
-    x as u32
-}
-
 // The number of the pipe of process p in the stream, and how many elements it has, 0 without a pipe: both at the entry of its line.
 fn pipe_number(f: Flow, spans: &[u32], lanes: &[u16], heads: &[u16], p: usize) -> u32
     requires { PortGiven f spans.now lanes.now heads.now p }
     ensures { (result ≡ pipe_of f.nest f.stream p) × (result ≤ gauge_limits.processes) }
 {
     let e = pipes::entry_at(f, spans, lanes, p);
-    wide(heads[e])
+    u32::from(heads[e])
 }
 
 fn pipe_total(f: Flow, spans: &[u32], lanes: &[u16], heads: &[u16], p: usize) -> u32
@@ -98,7 +91,7 @@ fn pipe_total(f: Flow, spans: &[u32], lanes: &[u16], heads: &[u16], p: usize) ->
     ensures { result ≡ length (pipe_elements f.nest f.stream (process_of f.nest p)) }
 {
     let e = pipes::entry_at(f, spans, lanes, p);
-    wide(heads[TOTALS + e])
+    u32::from(heads[TOTALS + e])
 }
 
 // The soak of process p, whose pipe has so many elements: of a null process all of them.
@@ -130,10 +123,8 @@ fn link_of(f: Flow, g: Strand, sent: u32, p: u32) -> Link
     requires { (Flows f) × (p < length (processes f.nest)) × (Narrow g) × (sent ≤ state_words_most + end_words_most) }
     ensures { (result.after ≡ after_from f.nest f.stream g sent p) × (result.room ≡ room_from f.nest f.stream g sent p) }
 {
-    let space = f.space;
-    let way = f.way;
-    let y = layout::point_at(space, p);
-    if layout::reach_of(space, way, y) == 0 {
+    let y = layout::point_at(f.space, p);
+    if layout::reach_of(f.space, f.way, y) == 0 {
         Link {
             after: sent + 1,
             room: sent + 2,
@@ -151,7 +142,7 @@ fn link_of(f: Flow, g: Strand, sent: u32, p: u32) -> Link
 fn keeps(moving: bool, count: u32) -> bool
     ensures { result ≡ not moving && not (eqb count 0) }
 {
-    if moving { false } else { count != 0 }
+    !moving && count != 0
 }
 
 // The row of process p, which is on a pipe of so many elements.
@@ -171,7 +162,6 @@ fn port_of(
     let sent = end_at(g, pipe_number(f, spans, lanes, heads, p));
     let link = link_of(f, g, sent, p as u32);
     let count = spans[p];
-    let moving = f.moving;
     Port {
         at: port_at(g, p as u32) as usize,
         before: before_of(f, g, spans, lanes, sent, p) as usize,
@@ -182,7 +172,7 @@ fn port_of(
         soak: soak_of(f, spans, lanes, total, p) as usize,
         count: count as usize,
         total: total as usize,
-        keeps: keeps(moving, count),
+        keeps: keeps(f.moving, count),
     }
 }
 
@@ -193,7 +183,7 @@ fn off_of(g: Strand, count: u32, p: u32) -> Port
 {
     let at = port_at(g, p) as usize;
     Port {
-        at: at,
+        at,
         before: at,
         after: at + 1,
         room: at + 4,
@@ -225,12 +215,10 @@ pub fn end_of(f: Flow, g: Strand, total: u32, start: u32, j: u32, p: u32) -> End
         × (total ≡ length (pipe_elements f.nest f.stream (process_of f.nest p))) }
     ensures { result ≡ end_from f.nest f.stream g start j p }
 {
-    let space = f.space;
-    let way = f.way;
-    let y = layout::point_at(space, p);
+    let y = layout::point_at(f.space, p);
     let sent = end_at(g, j);
     let first = port_at(g, p);
-    let last = port_at(g, number_on(f, p, layout::reach_of(space, way, y)));
+    let last = port_at(g, number_on(f, p, layout::reach_of(f.space, f.way, y)));
     End {
         sent: sent as usize,
         after: first as usize,

@@ -39,11 +39,6 @@ port_words k =
 abbrev pub end_words : End → List ℕ
 end_words e = pack e.sent e.offset ∷ pack e.after e.total ∷ pack e.before e.hop ∷ []
 
--- 0 and 1 fit
-pub flag_low : (b : Bool) {w : ℕ} → w ≡ cond b 1 0 → w < high_end
-flag_low true e = omega (arith, e)
-flag_low false e = omega (arith, e)
-
 -- the row of five words, and of three
 abbrev pub port_unpacked : ℕ → ℕ → ℕ → ℕ → ℕ → Port
 port_unpacked a b c d e =

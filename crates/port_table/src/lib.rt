@@ -74,7 +74,7 @@ fn port_words(k: Port) -> [u32; PORT]
         pack(k.before, k.count),
         pack(k.after, k.total),
         pack(k.room, k.hop),
-        pack(k.fired, words::flag(k.keeps) as usize),
+        pack(k.fired, usize::from(k.keeps)),
     ]
 }
 
@@ -95,8 +95,7 @@ pub fn put_port(ports: &mut [u32], at: usize, k: Port)
     requires { (at + 5 ≤ length ports.old) × (PortWide k) }
     ensures { ports.new ≡ stored (port_words k) at 5 ports.old }
 {
-    let row = port_words(k);
-    words::store(ports, at, &row);
+    words::store(ports, at, &port_words(k));
 }
 
 // The row of a pipe's ends.
@@ -104,8 +103,7 @@ pub fn put_end(ports: &mut [u32], at: usize, e: End)
     requires { (at + 3 ≤ length ports.old) × (EndWide e) }
     ensures { ports.new ≡ stored (end_words e) at 3 ports.old }
 {
-    let row = end_words(e);
-    words::store(ports, at, &row);
+    words::store(ports, at, &end_words(e));
 }
 
 // The port's row at place `at`.
@@ -135,8 +133,8 @@ fn end_read(ports: &[u32], at: usize) -> End
     let sent = low(ports, at);
     let after = low(ports, at + 1);
     End {
-        sent: sent,
-        after: after,
+        sent,
+        after,
         room: after + 4,
         before: low(ports, at + 2),
         received: sent + 1,
@@ -168,12 +166,5 @@ pub fn ports_of(ports: &[u32], p: usize) -> [Port; 6]
     requires { (length ports.now ≡ port_table_words) × (p < gauge_limits.processes) }
     ensures { result ≡ ports_at ports.now p }
 {
-    [
-        port(ports, p, 0),
-        port(ports, p, 1),
-        port(ports, p, 2),
-        port(ports, p, 3),
-        port(ports, p, 4),
-        port(ports, p, 5),
-    ]
+    std::array::from_fn(|i| port(ports, p, i))
 }

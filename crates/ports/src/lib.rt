@@ -65,10 +65,7 @@ pub fn word(state: &[u32], i: usize) -> usize
 fn filled(put: usize, got: usize, hop: usize) -> usize
     ensures { result ≡ filled put got hop }
 {
-    if put <= got {
-        return 0;
-    }
-    if put - got < hop { put - got } else { hop }
+    put.saturating_sub(got).min(hop)
 }
 
 // The same where the two counts are words of a state.
@@ -84,10 +81,8 @@ pub fn move_down(state: &mut [u32], first: usize, n: usize)
     requires { first + n < length state.old }
     ensures { state.new ≡ moved_down state.old first n }
 {
-    let mut i = 0;
-    while i < n {
+    for i in 0..n {
         state[first + i] = state[first + i + 1];
-        i += 1;
     }
     state[first + n] = 0;
 }

@@ -30,14 +30,7 @@ fn by_stream(words: &[u32; COLUMNS], k: usize) -> [u32; 6]
     requires { k + 5 * (2 * gauge_limits.processes) < column_words }
     ensures { result ≡ by_stream words.now k }
 {
-    [
-        words[k],
-        words[k + BLOCK],
-        words[k + 2 * BLOCK],
-        words[k + 3 * BLOCK],
-        words[k + 4 * BLOCK],
-        words[k + 5 * BLOCK],
-    ]
+    std::array::from_fn(|i| words[k + i * BLOCK])
 }
 
 // The row of process p.
@@ -45,14 +38,11 @@ pub fn row_at(shape: Shape, words: &[u32; COLUMNS], p: usize) -> Row
     requires { Readable shape words.now p }
     ensures { result ≡ row_from shape words.now p }
 {
-    let nest = shape.nest;
-    let space = shape.space;
-    let last = words[LASTS + p];
     Row {
-        point: layout::point_at(space, p as u32),
+        point: layout::point_at(shape.space, p as u32),
         count: words[p],
         first: layout::first_at(words, p),
-        last: layout::instance_numbered(nest, last),
+        last: layout::instance_numbered(shape.nest, words[LASTS + p]),
         soak: by_stream(words, SPANS + p),
         drain: by_stream(words, DRAINS + p),
     }

@@ -77,7 +77,7 @@ fn lowest_bit(l: &[u64], k: usize) -> usize
     requires { k < length l.now }
     ensures { (result ≡ count_trailing_zeros 64 (get_or l.now k 0)) × (result ≤ 64) }
 {
-    u64::trailing_zeros(l[k]) as usize
+    l[k].trailing_zeros() as usize
 }
 
 // The lowest number in the set, 32,768 if it is empty.

@@ -31,13 +31,10 @@ fn can_move(ports: &[u32], state: &[u32], z: Size, p: usize) -> bool
     requires { (RowsFit (length state.now) ports.now z) × (p < z.processes) }
     ensures { result ≡ moves_by ports.now state.now z.streams p }
 {
-    let m = z.streams;
-    let mut i = 0;
-    while i < m {
+    for i in 0..z.streams {
         if can_pass(ports, state, z, p, i) {
             return true;
         }
-        i += 1;
     }
     step_rules::can_fire(ports, state, z, p)
 }
@@ -49,12 +46,9 @@ pub fn mark_ready(ports: &[u32], state: &[u32], z: Size, words: &mut [u64])
         ≡ marked_to (moves_by ports.now state.now z.streams) z.processes (cleared words.old) }
 {
     bits::clear(words);
-    let n = z.processes;
-    let mut p = 0;
-    while p < n {
+    for p in 0..z.processes {
         if can_move(ports, state, z, p) {
             bits::mark(words, p as u32);
         }
-        p += 1;
     }
 }

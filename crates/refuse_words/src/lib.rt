@@ -26,12 +26,10 @@ fn word_refused(s: &[u8], z: Sizes) -> bool
     ensures { result ≡ refused4 s.now z }
 {
     let words = decode::line_at(z, z.lines);
-    let mut k: u32 = 3;
-    while k < words {
+    for k in 3..words {
         if !in_range(s, z, k) {
             return true;
         }
-        k += 1;
     }
     false
 }

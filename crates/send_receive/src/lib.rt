@@ -13,7 +13,7 @@ use ports::{End, fill, move_down, word};
 fn below(x: usize, total: usize, n: usize, hop: usize) -> bool
     ensures { result ≡ below x total n hop }
 {
-    if x < total { n < hop } else { false }
+    x < total && n < hop
 }
 
 // Whether the pipe can send: a value waits, and its first link has a free place.
@@ -31,13 +31,10 @@ pub fn send(state: &mut [u32], waiting: &[u32], e: End)
     requires { EndFits (length state.old) e × (e.offset + e.total ≤ length waiting.now) × (can_send state.old e ≡ true) }
     ensures { state.new ≡ sent waiting.now state.old e }
 {
-    let at = e.sent;
-    let room = e.room;
-    let offset = e.offset;
-    let n = fill(state, at, e.after, e.hop);
-    let x = word(state, at);
-    state[room + n] = waiting[offset + x];
-    state[at] = (x + 1) as u32;
+    let n = fill(state, e.sent, e.after, e.hop);
+    let x = word(state, e.sent);
+    state[e.room + n] = waiting[e.offset + x];
+    state[e.sent] = (x + 1) as u32;
 }
 
 // Whether the pipe can receive: an element stands in its last link, and its part of the received list has a place left.
@@ -56,12 +53,9 @@ pub fn receive(state: &mut [u32], out: &mut [u32], e: End)
     ensures { (state.new ≡ received state.old e)
         × (out.new ≡ received_list out.old state.old e) }
 {
-    let at = e.received;
-    let last = e.last;
-    let offset = e.offset;
-    let n = fill(state, e.before, at, e.hop);
-    let x = word(state, at);
-    out[offset + x] = state[last];
-    move_down(state, last, n - 1);
-    state[at] = (x + 1) as u32;
+    let n = fill(state, e.before, e.received, e.hop);
+    let x = word(state, e.received);
+    out[e.offset + x] = state[e.last];
+    move_down(state, e.last, n - 1);
+    state[e.received] = (x + 1) as u32;
 }

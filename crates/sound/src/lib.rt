@@ -19,11 +19,8 @@ fn sound_ports(ports: &[u32], state: &[u32], z: Size, p: usize) -> bool
     requires { (RowsFit (length state.now) ports.now z) × (p < z.processes) }
     ensures { result ≡ ports_sound ports.now state.now z.streams p }
 {
-    let mut i = 0;
-    while i < z.streams {
-        if sound_rows::sound_port(state, port_table::port(ports, p, i)) {
-            i += 1;
-        } else {
+    for i in 0..z.streams {
+        if !sound_rows::sound_port(state, port_table::port(ports, p, i)) {
             return false;
         }
     }
@@ -35,11 +32,8 @@ fn sound_process(ports: &[u32], state: &[u32], z: Size, p: usize) -> bool
     requires { (RowsFit (length state.now) ports.now z) × (p < z.processes) }
     ensures { result ≡ process_sound ports.now state.now z.streams p }
 {
-    if sound_rows::sound_firings(state, port_table::port(ports, p, 0)) {
-        sound_ports(ports, state, z, p)
-    } else {
-        false
-    }
+    sound_rows::sound_firings(state, port_table::port(ports, p, 0))
+        && sound_ports(ports, state, z, p)
 }
 
 // Whether those of all processes are.
@@ -47,11 +41,8 @@ fn sound_processes(ports: &[u32], state: &[u32], z: Size) -> bool
     requires { RowsFit (length state.now) ports.now z }
     ensures { result ≡ every (process_sound ports.now state.now z.streams) (numbers z.processes) }
 {
-    let mut p = 0;
-    while p < z.processes {
-        if sound_process(ports, state, z, p) {
-            p += 1;
-        } else {
+    for p in 0..z.processes {
+        if !sound_process(ports, state, z, p) {
             return false;
         }
     }
@@ -63,11 +54,8 @@ fn sound_pipes(ports: &[u32], state: &[u32], z: Size) -> bool
     requires { RowsFit (length state.now) ports.now z }
     ensures { result ≡ every (pipe_sound ports.now state.now) (numbers z.pipes) }
 {
-    let mut q = 0;
-    while q < z.pipes {
-        if sound_rows::sound_end(state, port_table::end(ports, q)) {
-            q += 1;
-        } else {
+    for q in 0..z.pipes {
+        if !sound_rows::sound_end(state, port_table::end(ports, q)) {
             return false;
         }
     }
@@ -79,9 +67,5 @@ pub fn sound(ports: &[u32], state: &[u32], z: Size) -> bool
     requires { RowsFit (length state.now) ports.now z }
     ensures { result ≡ state_sound ports.now state.now z }
 {
-    if sound_processes(ports, state, z) {
-        sound_pipes(ports, state, z)
-    } else {
-        false
-    }
+    sound_processes(ports, state, z) && sound_pipes(ports, state, z)
 }

@@ -16,13 +16,15 @@ ghost use Rattle.sound_rows.specs.Sound.{link_holds, hand_holds, port_holds, por
 use ports::{End, Port, word};
 
 // Whether a link of hop places holds what was put in and not taken out.
+#[tactic(auto, unfolding(crate::specs::Sound::link_holds))]
 fn link_holds(put: usize, got: usize, hop: usize) -> bool
     ensures { result ≡ link_holds put got hop }
 {
-    if got <= put { put - got <= hop } else { false }
+    got <= put && put - got <= hop
 }
 
 // Whether hand and keep hold what was taken and not given: x and y of n elements.
+#[tactic(auto, unfolding(crate::specs::Sound::hand_holds))]
 fn hand_holds(keeps: bool, n: usize, x: usize, y: usize) -> bool
     requires { y < 4294967296 }
     ensures { result ≡ hand_holds keeps n x y }
@@ -34,30 +36,19 @@ fn hand_holds(keeps: bool, n: usize, x: usize, y: usize) -> bool
         if y == n {
             return x == n;
         }
-        if x == y + 1 { true } else { x == y + 2 }
+        x == y + 1 || x == y + 2
     } else {
-        if x == y { true } else { x == y + 1 }
+        x == y || x == y + 1
     }
 }
 
 // The same of a port and of the link into it.
+#[tactic(auto, unfolding(crate::specs::Sound::port_holds))]
 fn port_holds(k: Port, put: usize, x: usize, y: usize) -> bool
     requires { y < 4294967296 }
     ensures { result ≡ port_holds k put x y }
 {
-    if x <= k.total {
-        if y <= k.total {
-            if hand_holds(k.keeps, k.total, x, y) {
-                link_holds(put, x, k.hop)
-            } else {
-                false
-            }
-        } else {
-            false
-        }
-    } else {
-        false
-    }
+    x <= k.total && y <= k.total && hand_holds(k.keeps, k.total, x, y) && link_holds(put, x, k.hop)
 }
 
 // Whether the words of a port are sound.
@@ -65,26 +56,18 @@ pub fn sound_port(state: &[u32], k: Port) -> bool
     requires { PortFits (length state.now) k }
     ensures { result ≡ port_sound state.now k }
 {
-    let at = k.at;
     let put = word(state, k.before);
-    let x = word(state, at);
-    let y = word(state, at + 1);
+    let x = word(state, k.at);
+    let y = word(state, k.at + 1);
     port_holds(k, put, x, y)
 }
 
 // Of a pipe's ends and of its last link: x sent, y received.
+#[tactic(auto, unfolding(crate::specs::Sound::end_holds))]
 fn end_holds(e: End, put: usize, x: usize, y: usize) -> bool
     ensures { result ≡ end_holds e put x y }
 {
-    if x <= e.total {
-        if y <= e.total {
-            link_holds(put, y, e.hop)
-        } else {
-            false
-        }
-    } else {
-        false
-    }
+    x <= e.total && y <= e.total && link_holds(put, y, e.hop)
 }
 
 // Whether the words of a pipe's ends are sound.
@@ -103,6 +86,5 @@ pub fn sound_firings(state: &[u32], k: Port) -> bool
     requires { PortFits (length state.now) k }
     ensures { result ≡ leb (get_or state.now k.fired 0) k.count }
 {
-    let f = word(state, k.fired);
-    f <= k.count
+    word(state, k.fired) <= k.count
 }

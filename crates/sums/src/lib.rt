@@ -3,33 +3,16 @@
 
 #![tactic(auto)]
 
-ghost use Rattle.std.specs.Prelude.{◌≤◌, length};
-
 // The sum with one word more.
 pub fn mix(sum: u32, word: u32) -> u32 {
-    ((words::wide(sum) * 1664525 + words::wide(word) + 1013904223) % 4294967296) as u32
+    sum.wrapping_mul(1664525)
+        .wrapping_add(word)
+        .wrapping_add(1013904223)
 }
 
-// The sum goes on over the first words.
-pub fn sum_of(sum: u32, words: &[u32], count: usize) -> u32
-    requires { count ≤ length words.now }
-{
-    let mut next = sum;
-    let mut i: usize = 0;
-    while i < count {
-        next = mix(next, words[i]);
-        i += 1;
-    }
-    next
-}
-
-// The same over the first bytes, each mixed as a word; past the end they are 0.
-pub fn sum_of_bytes(sum: u32, bytes: &[u8], count: usize) -> u32 {
-    let mut next = sum;
-    let mut i: usize = 0;
-    while i < count {
-        next = mix(next, integers::byte_at(bytes, i));
-        i += 1;
-    }
-    next
+// The sum goes on over words, or over bytes, each mixed as a word.
+pub fn sum_of<T: Into<u32> + Copy>(sum: u32, words: &[T]) -> u32 {
+    words
+        .iter()
+        .fold(sum, |sum, word| mix(sum, (*word).into()))
 }

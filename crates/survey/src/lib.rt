@@ -101,8 +101,7 @@ pub fn still(n: Nest, line: V3) -> bool
     requires { (Within 8 n.step) × (Within 200 line) }
     ensures { result ≡ eq_z (step_of n line) (pos 0) }
 {
-    let step = n.step;
-    vectors::dot_of(step, line) == 0
+    vectors::dot_of(n.step, line) == 0
 }
 
 // Whether a vector leads back in row order.
@@ -119,16 +118,14 @@ fn ground_of(n: Nest) -> Ground
     requires { Bounded n }
     ensures { GroundOf n result }
 {
-    let place = n.place;
-    let short = vectors::line_of(n, place);
-    let increment = short.vector;
-    let space = numbering::extent_of(n, place);
+    let short = vectors::line_of(n, n.place);
+    let space = numbering::extent_of(n, n.place);
     Ground {
         instances: numbering::instance_count(n),
         processes: numbering::size_of(space),
-        increment: increment,
+        increment: short.vector,
         divisor: short.divisor,
-        space: space,
+        space,
     }
 }
 
@@ -150,8 +147,7 @@ fn hop_of(n: Nest, line: V3, stationary: bool) -> u32
     if stationary {
         1
     } else {
-        let step = n.step;
-        integers::magnitude(vectors::dot_of(step, line))
+        integers::magnitude(vectors::dot_of(n.step, line))
     }
 }
 
@@ -159,29 +155,25 @@ fn flow_of(n: Nest, g: Ground, s: Stream) -> Flow
     requires { (InRange n s) × (GroundOf n g) }
     ensures { FlowOf n s result }
 {
-    let place = n.place;
-    let map = s.map;
-    let space = g.space;
-    let increment = g.increment;
-    let short = vectors::line_of(n, map);
+    let short = vectors::line_of(n, s.map);
     let line = short.vector;
-    let across = vectors::image_of(place, line);
+    let across = vectors::image_of(n.place, line);
     let stationary = zero2(across);
     let way = way_of(s, across, stationary);
-    let pass = vectors::image_of(map, increment);
+    let pass = vectors::image_of(s.map, g.increment);
     Flow {
         nest: n,
         stream: s,
-        line: line,
+        line,
         divisor: short.divisor,
         hop: hop_of(n, line, stationary),
-        space: space,
-        elements: numbering::extent_of(n, map),
-        way: way,
+        space: g.space,
+        elements: numbering::extent_of(n, s.map),
+        way,
         back: vectors::opposite(way),
-        pass: pass,
+        pass,
         against: vectors::opposite(pass),
-        step: counting::stride_of(space, way),
+        step: counting::stride_of(g.space, way),
         moving: !stationary,
         turned: backward(way),
     }
@@ -223,13 +215,9 @@ fn flows_of(d: Description, g: Ground) -> [Flow; STREAMS]
     requires { (Ranged d) × (GroundOf d.nest g) }
     ensures { FlowsOf d result }
 {
-    let n = d.nest;
-    let m = d.sizes.streams as usize;
     let mut out = [no_flow(); STREAMS];
-    let mut i: usize = 0;
-    while i < m {
-        out[i] = flow_of(n, g, decode::stream(d, i));
-        i += 1;
+    for i in 0..d.sizes.streams as usize {
+        out[i] = flow_of(d.nest, g, decode::stream(d, i));
     }
     out
 }
@@ -239,8 +227,7 @@ pub fn flow_at(v: Survey, i: usize) -> Flow
     requires { i < 6 }
     ensures { result ≡ get_or v.flows i no_flow }
 {
-    let all = v.flows;
-    all[i]
+    v.flows[i]
 }
 
 // ---- a description

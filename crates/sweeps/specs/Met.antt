@@ -23,20 +23,6 @@ met true k x = suc k
 met false k zero = suc k
 met false k (suc j) = suc j
 
--- by the tests of the code
-pub met_last : {last : Bool} (k x : ℕ) → last ≡ true → k + 1 ≡ met last k x
-unfolding met
-met_last k x e = rw e (omega arith)
-
-pub met_first : {last : Bool} (k : ℕ) {x : ℕ} → last ≡ false → x ≡ 0 → k + 1 ≡ met last k x
-unfolding met
-met_first k e f = rw (e, f) (omega arith)
-
-pub met_stays : {last : Bool} (k x : ℕ) → last ≡ false → (x ≡ 0 → ⊥) → x ≡ met last k x
-unfolding met
-met_stays k zero e f = absurd (f refl)
-met_stays k (suc j) e f = rw e
-
 -- what they make of 0
 run_on : (x : ℕ) (l : List ℕ) → run more x l ≡ x + length l
 unfolding run

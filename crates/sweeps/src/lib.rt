@@ -33,10 +33,8 @@ pub fn clear(points: u32, out: &mut [u32])
     requires { points ≤ length out.old }
     ensures { out.new ≡ fill_by (λ p. 0) points out.old }
 {
-    let mut p: u32 = 0;
-    while p < points {
+    for p in 0..points {
         out[p as usize] = 0;
-        p += 1;
     }
 }
 
@@ -53,10 +51,7 @@ fn met(last: bool, k: u32, old: u32) -> u32
     requires { k + 1 < 2 ^ 32 }
     ensures { result ≡ met last k old }
 {
-    if last {
-        return k + 1;
-    }
-    if old == 0 { k + 1 } else { old }
+    if last || old == 0 { k + 1 } else { old }
 }
 
 // Instance k is met at point p.
@@ -64,7 +59,7 @@ fn meet(back: bool, k: u32, p: usize, spans: &mut [u32])
     requires { Turning k p spans.old }
     ensures { spans.new ≡ turn back k p spans.old }
 {
-    spans[p] = spans[p] + 1;
+    spans[p] += 1;
     spans[FIRSTS + p] = met(back, k, spans[FIRSTS + p]);
     spans[LASTS + p] = met(!back, k, spans[LASTS + p]);
 }
@@ -76,10 +71,8 @@ pub fn fill_spans(numbers: &[u32], instances: u32, back: bool, points: u32, span
     ensures { Swept numbers.now instances back points spans.new }
 {
     clear(ALL, spans);
-    let mut k: u32 = 0;
-    while k < instances {
+    for k in 0..instances {
         let p = point_of(numbers, instances, points, k);
         meet(back, k, p, spans);
-        k += 1;
     }
 }

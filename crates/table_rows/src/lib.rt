@@ -21,25 +21,20 @@ pub struct Listed {
 fn mark() -> Row
     ensures { result ≡ marked }
 {
-    let soak = [7; 6];
-    let drain = [7; 6];
     Row {
         point: V2 { a: 7, b: 7 },
         count: 7,
         first: V3 { x: 7, y: 7, z: 7 },
         last: V3 { x: 7, y: 7, z: 7 },
-        soak: soak,
-        drain: drain,
+        soak: [7; 6],
+        drain: [7; 6],
     }
 }
 
 fn both(answer: Answer, rows: [Row; PROCESSES]) -> Listed
     ensures { (result.answer ≡ answer) × (result.rows ≡ rows) }
 {
-    Listed {
-        answer: answer,
-        rows: rows,
-    }
+    Listed { answer, rows }
 }
 
 // The call is lent the first n of 1,024 marked rows.
@@ -59,7 +54,7 @@ fn lend<'s>(s: &'s [u8], n: usize, board: u32) -> Listed
 fn room(n: usize) -> usize
     ensures { result ≡ min n gauge_limits.processes }
 {
-    if n < PROCESSES { n } else { PROCESSES }
+    n.min(PROCESSES)
 }
 
 // The call is lent n marked rows, or 1,024 if that is fewer: there are never more processes.

@@ -15,10 +15,9 @@ pub fn can_take(state: &[u32], k: Port) -> bool
     requires { PortFits (length state.now) k }
     ensures { result ≡ can_take state.now k }
 {
-    let at = k.at;
-    let n = fill(state, k.before, at, k.hop);
-    let x = word(state, at);
-    let y = word(state, at + 1);
+    let n = fill(state, k.before, k.at, k.hop);
+    let x = word(state, k.at);
+    let y = word(state, k.at + 1);
     takes(k.keeps, n, x, y)
 }
 
@@ -42,10 +41,9 @@ pub fn can_give(state: &[u32], k: Port) -> bool
     requires { PortFits (length state.now) k }
     ensures { result ≡ can_give state.now k }
 {
-    let at = k.at;
-    let n = fill(state, at + 1, k.after, k.hop);
-    let x = word(state, at);
-    let y = word(state, at + 1);
+    let n = fill(state, k.at + 1, k.after, k.hop);
+    let x = word(state, k.at);
+    let y = word(state, k.at + 1);
     let f = word(state, k.fired);
     gives(k, n, x, y, f)
 }
@@ -56,12 +54,11 @@ pub fn give(state: &mut [u32], k: Port)
     ensures { state.new ≡ given state.old k }
 {
     let at = k.at;
-    let room = k.room;
     let n = fill(state, at + 1, k.after, k.hop);
     let x = word(state, at);
     let y = word(state, at + 1);
     let from = at + gives_from(k.keeps, x, y);
-    state[room + n] = state[from];
+    state[k.room + n] = state[from];
     state[from] = 0;
     state[at + 1] = (y + 1) as u32;
 }

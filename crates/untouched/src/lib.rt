@@ -34,22 +34,15 @@ pub fn untouched(
     requires { Searching f walk.now instances elements marks.old }
     ensures { Misses (number_on f walk.now) instances elements result }
 {
-    let mut found = false;
-    let mut k: usize = 0;
-    let mut q: usize = 0;
-    'elements: while q < elements {
-        loop {
-            if marks[q] {
-                break;
-            }
+    let mut k = 0;
+    for q in 0..elements {
+        while !marks[q] {
             if k == instances {
-                found = true;
-                break 'elements;
+                return true;
             }
             marks[number_at(f, walk, k)] = true;
             k += 1;
         }
-        q += 1;
     }
-    found
+    false
 }

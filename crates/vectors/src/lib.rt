@@ -59,11 +59,9 @@ pub fn image_of(m: Matrix, v: V3) -> V2
     requires { (Rows 8 m) × (Within 200 v) }
     ensures { (result ≡ image m v) × (Within2 4800 result) }
 {
-    let top = m.top;
-    let low = m.low;
     V2 {
-        a: dot_of(top, v),
-        b: dot_of(low, v),
+        a: dot_of(m.top, v),
+        b: dot_of(m.low, v),
     }
 }
 
@@ -121,9 +119,7 @@ fn short_of(m: Matrix) -> Short
     requires { Rows 4 m }
     ensures { (result ≡ short_of m) × (Within 200 result.vector) }
 {
-    let top = m.top;
-    let low = m.low;
-    lattice::shorten(cross_of(top, low))
+    lattice::shorten(cross_of(m.top, m.low))
 }
 
 // The line of a matrix, with the divisor that its shortening took out; place's is the increment.
@@ -132,10 +128,8 @@ pub fn line_of(n: Nest, m: Matrix) -> Short
     ensures { (result.vector ≡ line_of n m) × (Within 200 result.vector) × (result.divisor ≡ divisor m) }
 {
     let short = short_of(m);
-    let v = short.vector;
-    let step = n.step;
     Short {
-        vector: turned(step, v),
+        vector: turned(n.step, short.vector),
         divisor: short.divisor,
     }
 }

@@ -21,11 +21,10 @@ module _ {u w : Width} {z : ℤ} (f : SFits u z) (g : SFits w z) where
   cast_same = ap (λ (y : ℤ). to_z w (of_z w y)) (to_z-of_z f) ∙ to_z-of_z g
 
 -- what 8 bits hold is read as it is
-pub widens : (z : ℤ) → mag z < 2 ^ 7 → SFits w32 (to_z w8 (of_z w8 z))
-widens z h = let f : SFits w8 z = record { sfits = h } in cast_fits f (sfits_widen tt f)
-
-pub widened : {z : ℤ} → mag z < 2 ^ 7 → to_z w32 (of_z w32 (to_z w8 (of_z w8 z))) ≡ z
-widened {z} h = let f : SFits w8 z = record { sfits = h } in cast_same {u = w8} {w = w32} f (sfits_widen tt f)
+pub widened : {y z : ℤ} → y ≡ to_z w8 (of_z w8 z) → mag z < 2 ^ 7 → to_z w32 (of_z w32 y) ≡ z
+widened {y} {z} e h =
+    let f : SFits w8 z = record { sfits = h } in
+    ap (λ (x : ℤ). to_z w32 (of_z w32 x)) e ∙ cast_same {u = w8} {w = w32} f (sfits_widen tt f)
 
 -- and a coordinate, which they hold, stored as it is
 in_byte : {z : ℤ} → Abs z 64 → SFits w8 z

@@ -30,9 +30,9 @@ pub fn instance_at(walk: &[i8], k: usize) -> V3
     ensures { result ≡ vector_at walk.now k }
 {
     V3 {
-        x: walk[3 * k] as i32,
-        y: walk[3 * k + 1] as i32,
-        z: walk[3 * k + 2] as i32,
+        x: i32::from(walk[3 * k]),
+        y: i32::from(walk[3 * k + 1]),
+        z: i32::from(walk[3 * k + 2]),
     }
 }
 
@@ -40,12 +40,9 @@ fn put_instance(walk: &mut [i8], k: usize, v: V3)
     requires { (3 * k + 2 < length walk.old) × (Within 64 v) }
     ensures { walk.new ≡ put walk.old k v }
 {
-    let x = v.x;
-    let y = v.y;
-    let z = v.z;
-    walk[3 * k] = x as i8;
-    walk[3 * k + 1] = y as i8;
-    walk[3 * k + 2] = z as i8;
+    walk[3 * k] = v.x as i8;
+    walk[3 * k + 1] = v.y as i8;
+    walk[3 * k + 2] = v.z as i8;
 }
 
 // So many instances, from the first by the increment on, into the places from `from` on.
@@ -53,10 +50,8 @@ fn put_instances(first: V3, increment: V3, count: u32, from: usize, walk: &mut [
     requires { Running first increment count from walk.old }
     ensures { Lined (λ k. shift3 first (pos k) increment) from count walk.old walk.new }
 {
-    let mut k: u32 = 0;
-    while k < count {
+    for k in 0..count {
         put_instance(walk, from + k as usize, vectors::later(first, increment, k));
-        k += 1;
     }
 }
 
@@ -85,12 +80,8 @@ pub fn fill_walk(n: Nest, g: Ground, spans: &[u32], walk: &mut [i8])
     requires { Walking n g spans.now walk.old }
     ensures { Walked n walk.new }
 {
-    let increment = g.increment;
-    let processes = g.processes;
-    let mut from: usize = 0;
-    let mut p: u32 = 0;
-    while p < processes {
-        from = put_line(n, increment, spans, p as usize, from, walk);
-        p += 1;
+    let mut from = 0;
+    for p in 0..g.processes as usize {
+        from = put_line(n, g.increment, spans, p, from, walk);
     }
 }

@@ -21,11 +21,7 @@ fn outside(a: u32, b: u32, n: u32) -> bool
 pub fn size_refused(z: Sizes) -> bool
     ensures { result ≡ refused2 z }
 {
-    if outside(2, 3, z.loops) {
-        true
-    } else {
-        outside(1, 6, z.streams) || outside(1, 8, z.lines)
-    }
+    outside(2, 3, z.loops) || outside(1, 6, z.streams) || outside(1, 8, z.lines)
 }
 
 // Numbers from 0 on.
@@ -44,21 +40,15 @@ fn line_range(z: Sizes, j: u32) -> Range
     requires { Sized z }
     ensures { result ≡ line_range z j }
 {
-    if j == 0 {
-        return up_to(LAST_OPERATION);
-    }
-    if j < 4 {
-        return up_to(z.streams + 1);
-    }
-    if j == 4 {
-        return up_to(z.loops - 1);
-    }
-    if j == 5 {
-        return up_to(3);
-    }
-    Range {
-        least: -64,
-        greatest: 64,
+    match j {
+        0 => up_to(LAST_OPERATION),
+        1..=3 => up_to(z.streams + 1),
+        4 => up_to(z.loops - 1),
+        5 => up_to(3),
+        _ => Range {
+            least: -64,
+            greatest: 64,
+        },
     }
 }
 
@@ -101,12 +91,8 @@ pub fn is_direction(z: Sizes, k: u32) -> bool
     requires { Sized z }
     ensures { result ≡ is_direction z k }
 {
-    let direction = 3 + z.loops + z.loops;
-    if k < direction {
-        false
-    } else {
-        k < direction + z.loops
-    }
+    let direction = 3 + 2 * z.loops;
+    (direction..direction + z.loops).contains(&k)
 }
 
 // Whether a range has a word.
@@ -150,11 +136,5 @@ fn above_z(a: V3, b: V3) -> bool
 pub fn bound_refused(n: Nest) -> bool
     ensures { result ≡ refused5 n }
 {
-    let left = n.left;
-    let right = n.right;
-    if above_x(left, right) {
-        true
-    } else {
-        above_y(left, right) || above_z(left, right)
-    }
+    above_x(n.left, n.right) || above_y(n.left, n.right) || above_z(n.left, n.right)
 }

@@ -9,13 +9,13 @@ ghost use Rattle.words.specs.Stored.{stored};
 pub fn flag(b: bool) -> u32
     ensures { result ≡ cond b 1 0 }
 {
-    if b { 1 } else { 0 }
+    u32::from(b)
 }
 
 pub fn wide(x: u32) -> u64
     ensures { (result ≡ x) × (result < 4294967296) }
 {
-    x as u64
+    u64::from(x)
 }
 
 // The values go into a list from place `at` on.
@@ -23,9 +23,5 @@ pub fn store(list: &mut [u32], at: usize, values: &[u32])
     requires { at + length values.now ≤ length list.old }
     ensures { list.new ≡ stored values.now at (length values.now) list.old }
 {
-    let mut i = 0;
-    while i < values.len() {
-        list[at + i] = values[i];
-        i += 1;
-    }
+    list[at..at + values.len()].copy_from_slice(values);
 }

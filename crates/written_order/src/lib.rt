@@ -30,17 +30,12 @@ fn fill_column(f: Flow, count: u32, start: u32, i: u32, table: &mut [u32; ELEMEN
     ensures { table.new
         ≡ column i (number_from f.nest f.stream.map start) (length (instances f.nest)) table.old }
 {
-    let n = f.nest;
-    let map = f.stream.map;
-    let elements = f.elements;
-    let form = counting::form_of(map, elements);
-    let course = counting::course_of(n);
+    let form = counting::form_of(f.stream.map, f.elements);
+    let course = counting::course_of(f.nest);
     let mut x = course.first;
-    let mut k: u32 = 0;
-    while k < count {
+    for k in 0..count {
         table[(6 * k + i) as usize] = start + counting::number_by(form, x);
         x = counting::next(course, x);
-        k += 1;
     }
 }
 
@@ -60,11 +55,8 @@ fn fill_table(v: Survey, table: &mut [u32; ELEMENTS])
     requires { (Fitting v.description) × (Surveyed v) }
     ensures { table.new ≡ columns v.description v.description.sizes.streams table.old }
 {
-    let m = v.description.sizes.streams;
-    let mut i: u32 = 0;
-    while i < m {
+    for i in 0..v.description.sizes.streams {
         fill_stream(v, i, table);
-        i += 1;
     }
 }
 
@@ -76,11 +68,9 @@ fn run_instance(d: Description, k: u32, x: V3, table: &[u32], store: &mut [u32])
         × (length store.old ≡ length_of d) × (x ≡ get_or (instances d.nest) k zero3) }
     ensures { store.new ≡ execute d (get_or (instances d.nest) k zero3) store.old }
 {
-    let lines = d.lines;
-    let count = d.sizes.lines;
     let from = 6 * k as usize;
     let to = from + d.sizes.streams as usize;
-    body::execute(x, lines, count, store, &table[from..to]);
+    body::execute(x, d.lines, d.sizes.lines, store, &table[from..to]);
 }
 
 // All instances in the written order.
@@ -89,16 +79,11 @@ fn run_instances(v: Survey, table: &[u32], store: &mut [u32])
         × (length store.old ≡ length_of v.description) }
     ensures { store.new ≡ final_values v.description store.old }
 {
-    let d = v.description;
-    let n = d.nest;
-    let last = v.ground.instances - 1;
-    let course = counting::course_of(n);
+    let course = counting::course_of(v.description.nest);
     let mut x = course.first;
-    let mut k: u32 = 0;
-    while k <= last {
-        run_instance(d, k, x, table, store);
+    for k in 0..v.ground.instances {
+        run_instance(v.description, k, x, table, store);
         x = counting::next(course, x);
-        k += 1;
     }
 }
 

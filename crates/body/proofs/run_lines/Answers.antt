@@ -11,23 +11,14 @@ use Rattle.body.proofs.run_lines.Goals as goal
 
 pub loop-i-init : goal.loop-i-init
 unfolding run_lines
-loop-i-init c = (omega arith, refl)
+loop-i-init c = refl
 
 pub bounds-lines-i : goal.bounds-lines-i
 bounds-lines-i c = omega (arith, c.requires.lines)
-
-pub run_line-requires : goal.run_line-requires
-run_line-requires c =
-    c.requires.within c.loop-i.i (omega arith)
 
 pub loop-i-preserved : goal.loop-i-preserved
 loop-i-preserved c =
     let l : length c.args.lines ≡ 8 = search rules in
     let n : c.loop-i.i < length c.args.lines = omega (arith, c.requires.lines) in
     let next = run_next c.args.x c.args.lines c.loop-i.i c.args.registers.now n in
-    (omega arith, c.run_line.ensures ∙ ap (run_line c.args.x (get_or c.args.lines c.loop-i.i no_line)) c.loop-i.invariant.1 ∙ sym next)
-
-pub returns : goal.returns
-returns c =
-    let e : c.loop-i.i ≡ c.args.count = omega arith in
-    rw e at c.loop-i.invariant.1
+    c.run_line.ensures ∙ ap (run_line c.args.x (get_or c.args.lines c.loop-i.i no_line)) c.loop-i.invariant ∙ sym next

@@ -1,13 +1,11 @@
 -- `counting::fill_numbers` meets its contract: plane by plane, each begins a stride of the outermost loop on. Assumes nothing.
-use mathlib.Core.Path.{◌≡◌, refl, sym, ◌∙◌, ap, subst, subst₂}
-use Prim.Native.Nat.{ℕ, ◌+◌, ◌*◌, ◌-◌, ◌≤◌, ◌<◌}
+use mathlib.Core.Path.{◌≡◌, sym, ◌∙◌, ap, subst, subst₂}
+use Prim.Native.Nat.{ℕ, ◌+◌, ◌*◌}
 use native.Mathlib.Nat.{mul-le-mul_right}
 use native.Mathlib.Omega.{arith}
 use lib.IntN.{ℤ}
-use lib.ListN.{length}
 use mir.Syntax.{w32}
 use mir.Val.{to_z}
-use borrow.Author.Rules.{rules}
 use Rattle.integers.specs.Differences.{Abs}
 use Rattle.integers.specs.Words.{Holds, at, leaf, box, add, fits}
 use Rattle.integers.specs.Fill.{fill_by, fill_zero}
@@ -19,7 +17,7 @@ use Rattle.numbering.specs.Turns.{turning, plane_most, all_most}
 use Rattle.numbering.specs.Extents.{Spanning, box_spanning}
 use Rattle.counting.specs.Forms.{Numbers}
 use Rattle.lists.specs.Fills.{fill_list}
-use Rattle.counting.specs.Strides.{along, along_zero, along_next, PlaneFits, AgreesAll, number_at, Counted, counted_by, form_words}
+use Rattle.counting.specs.Strides.{along_zero, along_next, PlaneFits, AgreesAll, number_at, counted_by, form_words}
 use Rattle.counting.specs.Strides.{start_ready, start_word}
 use Rattle.counting.proofs.fill_numbers.Goals as goal
 
@@ -79,7 +77,7 @@ overflow_cast-number c =
 pub loop-i-init : goal.loop-i-init
 loop-i-init c =
     let t = c.turns_of-turns.result in
-    (omega arith, refl, along_zero _ c.strides_of-strides.result.x, none (t.middle * t.inner), λ f g. sym (fill_zero f _))
+    (along_zero _ c.strides_of-strides.result.x, none (t.middle * t.inner), λ f g. sym (fill_zero f _))
   where
     none : (a : ℕ) → 0 ≡ 0 * a
     none a = omega arith
@@ -94,11 +92,11 @@ put_plane-requires c =
     c.strides_of-strides.ensures.1) in
     let t = c.turns_of-turns.result in
     let h = c.loop-i-test.true in (
-      subst (λ (z : ℤ). PlaneFits t.middle t.inner z c.strides_of-strides.result) (sym l.invariant.2) (k.fits l.i h),
+      subst (λ (z : ℤ). PlaneFits t.middle t.inner z c.strides_of-strides.result) (sym l.invariant.0) (k.fits l.i h),
       omega (
         arith,
-        l.invariant.3,
         l.invariant.1,
+        l.auto.out,
         k.whole,
         c.requires.room,
         mul-le-mul_right (t.middle * t.inner) h,
@@ -108,12 +106,12 @@ put_plane-requires c =
 pub overflow_add-number : goal.overflow_add-number
 overflow_add-number c =
     let l = c.loop-i in
-    fits tt (add (reading l.invariant.2
+    fits tt (add (reading l.invariant.0
     ((counted_by c.requires.bounded c.requires.rows c.requires.box c.form_of-form.ensures c.turns_of-turns.ensures
     c.strides_of-strides.ensures.0
     (start_word c.requires.bounded c.requires.rows c.requires.box c.form_of-form.ensures c.corner-first.ensures.0
     c.number_by-number.ensures).1
-    c.strides_of-strides.ensures.1).small l.i l.invariant.0)) (at tt c.strides_of-strides.ensures.1.xs))
+    c.strides_of-strides.ensures.1).small l.i l.auto.i-end)) (at tt c.strides_of-strides.ensures.1.xs))
 
 pub overflow_add-at : goal.overflow_add-at
 overflow_add-at c =
@@ -121,7 +119,7 @@ overflow_add-at c =
     record {
       fits = omega (
         arith,
-        c.loop-i.invariant.3,
+        c.loop-i.invariant.1,
         all_most (turning _ t.ensures c.requires.bounded),
         mul-le-mul_right (t.result.middle * t.result.inner) c.loop-i-test.true,
       );
@@ -134,21 +132,19 @@ loop-i-preserved c =
     let t = c.turns_of-turns.result in
     let h = c.loop-i-test.true in
     let r = c.put_plane.ensures in (
-      omega (arith, h),
-      r.0 ∙ l.invariant.1,
-      (box tt (add (reading l.invariant.2
+      (box tt (add (reading l.invariant.0
           ((counted_by c.requires.bounded c.requires.rows c.requires.box c.form_of-form.ensures c.turns_of-turns.ensures
           c.strides_of-strides.ensures.0
           (start_word c.requires.bounded c.requires.rows c.requires.box c.form_of-form.ensures c.corner-first.ensures.0
           c.number_by-number.ensures).1
-          c.strides_of-strides.ensures.1).small l.i l.invariant.0)) (at tt s.ensures.1.xs))).eq
+          c.strides_of-strides.ensures.1).small l.i l.auto.i-end)) (at tt s.ensures.1.xs))).eq
           ∙ along_next l.i (to_z w32 c.number_by-number.result) s.result.x,
-      ap (λ (a : ℕ). a + t.middle * t.inner) l.invariant.3 ∙ further l.i (t.middle * t.inner),
+      ap (λ (a : ℕ). a + t.middle * t.inner) l.invariant.1 ∙ further l.i (t.middle * t.inner),
       λ f g.
           r.1 f c.args.out.now
-          (subst₂ (λ (a : ℕ) (z : ℤ). AgreesAll f a t.middle t.inner z s.result) (sym l.invariant.3) (sym l.invariant.2)
+          (subst₂ (λ (a : ℕ) (z : ℤ). AgreesAll f a t.middle t.inner z s.result) (sym l.invariant.1) (sym l.invariant.0)
           (g l.i h))
-          (l.invariant.4 f g),
+          (l.invariant.2 f g),
     )
 
 pub returns : goal.returns
@@ -161,8 +157,8 @@ returns c =
     c.number_by-number.ensures).1
     c.strides_of-strides.ensures.1) in
     let t = c.turns_of-turns.result in
-    let e : l.i ≡ t.outer = omega (arith, l.invariant.0, c.loop-i-test.false) in
-    l.invariant.4 (number_at a.n a.m) k.agrees
+    let e : l.i ≡ t.outer = omega (arith, l.auto.i-end, c.loop-i-test.false) in
+    l.invariant.2 (number_at a.n a.m) k.agrees
     ∙ ap (λ (k : ℕ). fill_by (number_at a.n a.m) k a.out.now)
-    (l.invariant.3 ∙ ap (λ (i : ℕ). i * (t.middle * t.inner)) e ∙ sym k.whole)
+    (l.invariant.1 ∙ ap (λ (i : ℕ). i * (t.middle * t.inner)) e ∙ sym k.whole)
     ∙ fill_list (λ x. row_index (box_of a.n a.m) (image a.m x)) (instances a.n) zero3 0 _ c.requires.room

@@ -9,35 +9,35 @@ pub overflow_add-result : goal.overflow_add-result
 overflow_add-result c =
     let p = c.requires in fits tt (add (at tt p.1.xs) (at tt p.0.direction.xs))
 
-pub overflow_add-result-else-x-last-2 : goal.overflow_add-result-else-x-last-2
-overflow_add-result-else-x-last-2 c =
+pub overflow_add-result-else-x-c-2 : goal.overflow_add-result-else-x-c-2
+overflow_add-result-else-x-c-2 c =
     let p = c.requires in fits tt (add (at tt p.1.ys) (at tt p.0.direction.ys))
 
-pub overflow_add-result-else-x-last : goal.overflow_add-result-else-x-last
-overflow_add-result-else-x-last c =
+pub overflow_add-result-else-x-c : goal.overflow_add-result-else-x-c
+overflow_add-result-else-x-c c =
     let p = c.requires in
     fits tt (add (at tt p.1.zs) (at tt p.0.direction.zs))
 
-pub returns-then-x-last-2 : goal.returns-then-x-last-2
-returns-then-x-last-2 c =
+pub returns-then-x-c-2 : goal.returns-then-x-c-2
+returns-then-x-c-2 c =
     let p = c.requires in
     rw (
-      sym (eq_test tt tt (leaf p.1.zs) (leaf p.0.last.zs)) ∙ eq-eqb _ _ c.if-x-last.true,
-      sym (eq_test tt tt (leaf p.1.ys) (leaf p.0.last.ys)) ∙ eq-eqb _ _ c.if-x-last-2.true,
+      sym (eq_test tt tt (leaf p.1.zs) (leaf p.0.last.zs)) ∙ eq-eqb _ _ c.if-x-c.true,
+      sym (eq_test tt tt (leaf p.1.ys) (leaf p.0.last.ys)) ∙ eq-eqb _ _ c.if-x-c-2.true,
     )
     (same3 (box tt (add (at tt p.1.xs) (at tt p.0.direction.xs))).eq (at tt p.0.first.ys).eq (at tt p.0.first.zs).eq)
 
-pub returns-else-x-last-2 : goal.returns-else-x-last-2
-returns-else-x-last-2 c =
+pub returns-else-x-c-2 : goal.returns-else-x-c-2
+returns-else-x-c-2 c =
     let p = c.requires in
     rw (
-      sym (eq_test tt tt (leaf p.1.zs) (leaf p.0.last.zs)) ∙ eq-eqb _ _ c.if-x-last.true,
-      sym (eq_test tt tt (leaf p.1.ys) (leaf p.0.last.ys)) ∙ ne_eqb _ _ c.if-x-last-2.false,
+      sym (eq_test tt tt (leaf p.1.zs) (leaf p.0.last.zs)) ∙ eq-eqb _ _ c.if-x-c.true,
+      sym (eq_test tt tt (leaf p.1.ys) (leaf p.0.last.ys)) ∙ ne_eqb _ _ c.if-x-c-2.false,
     )
     (same3 (at tt p.1.xs).eq (box tt (add (at tt p.1.ys) (at tt p.0.direction.ys))).eq (at tt p.0.first.zs).eq)
 
-pub returns-else-x-last : goal.returns-else-x-last
-returns-else-x-last c =
+pub returns-else-x-c : goal.returns-else-x-c
+returns-else-x-c c =
     let p = c.requires in
-    rw (sym (eq_test tt tt (leaf p.1.zs) (leaf p.0.last.zs)) ∙ ne_eqb _ _ c.if-x-last.false)
+    rw (sym (eq_test tt tt (leaf p.1.zs) (leaf p.0.last.zs)) ∙ ne_eqb _ _ c.if-x-c.false)
     (same3 (at tt p.1.xs).eq (at tt p.1.ys).eq (box tt (add (at tt p.1.zs) (at tt p.0.direction.zs))).eq)

@@ -1,19 +1,16 @@
 -- `counting::put_plane` meets its contract, row by row. Assumes nothing.
-use mathlib.Core.Path.{◌≡◌, refl, sym, ◌∙◌, ap, ap₂, subst, subst₂}
-use mathlib.Core.List.{List}
-use Prim.Native.Nat.{ℕ, ◌+◌, ◌*◌, ◌-◌, ◌≤◌, ◌<◌}
+use mathlib.Core.Path.{◌≡◌, sym, ◌∙◌, ap, ap₂, subst, subst₂}
+use Prim.Native.Nat.{ℕ, ◌+◌, ◌*◌, ◌≤◌, ◌<◌}
 use native.Mathlib.Nat.{mul-le-mul_right}
 use native.Mathlib.Omega.{arith}
 use lib.IntN.{ℤ, ◌+ℤ◌}
-use lib.ListN.{length}
 use mir.Syntax.{w32}
 use mir.Val.{to_z, of_z}
-use borrow.Author.Rules.{rules}
 use Rattle.integers.specs.Differences.{up}
 use Rattle.integers.specs.Fill.{fill_by}
 use Rattle.integers.specs.Words.{Holds, at, leaf, box, add, fits}
 use Rattle.integers.specs.declared.V3.{V3}
-use Rattle.counting.specs.Strides.{along, along_zero, along_next, PlaneFits, RowFits, AgreesAll, plane_small, plane_row}
+use Rattle.counting.specs.Strides.{along, along_zero, along_next, PlaneFits, RowFits, plane_small, plane_row}
 use Rattle.counting.proofs.put_plane.Goals as goal
 
 -- the words of first and of the number after j rows
@@ -37,8 +34,6 @@ module _ {rows count : ℕ} {first : ℤ} {s : V3} (h : PlaneFits rows count fir
 pub loop-j-init : goal.loop-j-init
 loop-j-init c =
     let a = c.args in (
-      omega arith,
-      refl,
       along_zero (to_z w32 (of_z w32 a.first)) a.strides.y,
       omega arith,
       λ f xs g e. e ∙ ap (λ (k : ℕ). fill_by f k xs) (none a.from a.count),
@@ -51,13 +46,13 @@ pub put_row-requires : goal.put_row-requires
 put_row-requires c =
     let l = c.loop-j in
     let t = c.loop-j-test.true in
-    (row c.requires.0 t l.invariant.2, omega (arith, l.invariant.3, l.invariant.1, c.requires.1, mul-le-mul_right c.args.count t))
+    (row c.requires.0 t l.invariant.0, omega (arith, l.invariant.1, l.auto.out, c.requires.1, mul-le-mul_right c.args.count t))
 
 pub overflow_add-number : goal.overflow_add-number
 overflow_add-number c =
     let l = c.loop-j in
     let h = c.requires.0 in
-    fits tt (add (holds h l.invariant.0 l.invariant.2) (at tt h.strides.ys))
+    fits tt (add (holds h l.auto.j-end l.invariant.0) (at tt h.strides.ys))
 
 pub overflow_add-at : goal.overflow_add-at
 overflow_add-at c =
@@ -65,8 +60,8 @@ overflow_add-at c =
     record {
       fits = omega (
         arith,
-        l.invariant.3,
         l.invariant.1,
+        l.auto.out,
         c.requires.1,
         mul-le-mul_right c.args.count c.loop-j-test.true,
       );
@@ -79,17 +74,15 @@ loop-j-preserved c =
     let h = c.requires.0 in
     let t = c.loop-j-test.true in
     let r = c.put_row.ensures in (
-      omega (arith, t),
-      r.0 ∙ l.invariant.1,
-      next h l.invariant.0 l.invariant.2,
-      ap (λ (i : ℕ). i + a.count) l.invariant.3 ∙ further a.from l.j a.count,
+      next h l.auto.j-end l.invariant.0,
+      ap (λ (i : ℕ). i + a.count) l.invariant.1 ∙ further a.from l.j a.count,
       λ f xs g e.
           r.1 f xs
           (λ k m.
-          ap (λ (i : ℕ). f (i + k)) l.invariant.3 ∙ g l.j k t m
-          ∙ ap₂ (λ (u d : ℤ). up (along u d k)) (sym l.invariant.2) (sym (at tt h.strides.zs).eq))
-          (l.invariant.4 f xs g e ∙ ap (λ (i : ℕ). fill_by f i xs) (sym l.invariant.3))
-          ∙ ap (λ (i : ℕ). fill_by f i xs) (ap (λ (i : ℕ). i + a.count) l.invariant.3 ∙ further a.from l.j a.count),
+          ap (λ (i : ℕ). f (i + k)) l.invariant.1 ∙ g l.j k t m
+          ∙ ap₂ (λ (u d : ℤ). up (along u d k)) (sym l.invariant.0) (sym (at tt h.strides.zs).eq))
+          (l.invariant.2 f xs g e ∙ ap (λ (i : ℕ). fill_by f i xs) (sym l.invariant.1))
+          ∙ ap (λ (i : ℕ). fill_by f i xs) (ap (λ (i : ℕ). i + a.count) l.invariant.1 ∙ further a.from l.j a.count),
     )
   where
     further : (a j b : ℕ) → a + j * b + b ≡ a + (j + 1) * b
@@ -99,9 +92,9 @@ pub returns : goal.returns
 returns c =
     let l = c.loop-j in
     let h = c.requires.0 in
-    let e : l.j ≡ c.args.rows = omega (arith, l.invariant.0, c.loop-j-test.false) in (
-      l.invariant.1,
+    let e : l.j ≡ c.args.rows = omega (arith, l.auto.j-end, c.loop-j-test.false) in (
+      l.auto.out,
       λ f xs g q.
-          l.invariant.4 f xs (λ j k m w. g j k m w ∙ ap (λ (a : ℤ). up (along a c.args.strides.z k)) (sym (words h j))) q
+          l.invariant.2 f xs (λ j k m w. g j k m w ∙ ap (λ (a : ℤ). up (along a c.args.strides.z k)) (sym (words h j))) q
           ∙ ap (λ (j : ℕ). fill_by f (c.args.from + j * c.args.count) xs) e,
     )

@@ -1,20 +1,19 @@
 -- `counting::put_row` meets its contract: after k turns the number is k strides on. Assumes nothing.
-use mathlib.Core.Path.{◌≡◌, refl, sym, ◌∙◌, ap, ap₂, subst}
+use mathlib.Core.Path.{◌≡◌, sym, ◌∙◌, ap, ap₂, subst}
 use mathlib.Core.List.{List}
-use Prim.Native.Nat.{ℕ, ◌+◌, ◌-◌, ◌≤◌, ◌<◌}
+use Prim.Native.Nat.{ℕ, ◌+◌, ◌≤◌, ◌<◌}
 use native.Mathlib.Nat.{add-zero}
 use native.Mathlib.Omega.{arith}
 use lib.IntN.{ℤ, nat_abs, pos, ◌+ℤ◌}
-use lib.ListN.{length, set, length-set}
+use lib.ListN.{set}
 use lib.Signed.{◌≤ℤ◌}
 use mir.Syntax.{w32}
 use mir.Val.{to_z, of_z}
-use borrow.Author.Rules.{rules}
-use Rattle.integers.specs.Differences.{Abs, up}
+use Rattle.integers.specs.Differences.{up}
 use Rattle.integers.specs.Fill.{fill_by, fill_step}
 use Rattle.integers.specs.Words.{Holds, at, leaf, box, add, fits, cast_of}
 use Rattle.geometry.specs.Numbers.{up_abs}
-use Rattle.counting.specs.Strides.{along, along_zero, along_next, RowFits, Agrees, row_small}
+use Rattle.counting.specs.Strides.{along, along_zero, along_next, RowFits, row_small}
 use Rattle.counting.proofs.put_row.Goals as goal
 
 one_more : (a k : ℕ) → a + (k + 1) ≡ a + k + 1
@@ -43,8 +42,6 @@ module _ {count : ℕ} {first stride : ℤ} (h : RowFits count first stride) whe
 pub loop-k-init : goal.loop-k-init
 loop-k-init c =
     let a = c.args in (
-      omega arith,
-      refl,
       along_zero (to_z w32 (of_z w32 a.first)) (to_z w32 (of_z w32 a.stride)),
       λ f xs g e. e ∙ ap (λ (k : ℕ). fill_by f k xs) (sym (add-zero a.from)),
     )
@@ -53,24 +50,22 @@ pub overflow_cast-out : goal.overflow_cast-out
 overflow_cast-out c =
     let l = c.loop-k in
     let h = c.requires.0 in
-    cast_of tt (holds h l.invariant.0 l.invariant.2) (h.some l.k c.loop-k-test.true)
+    cast_of tt (holds h l.auto.k-end l.invariant.0) (h.some l.k c.loop-k-test.true)
 
 pub overflow_add-number : goal.overflow_add-number
 overflow_add-number c =
     let l = c.loop-k in
-    let h = c.requires.0 in fits tt (add (holds h l.invariant.0 l.invariant.2) (at tt h.small))
+    let h = c.requires.0 in fits tt (add (holds h l.auto.k-end l.invariant.0) (at tt h.small))
 
 pub loop-k-preserved : goal.loop-k-preserved
 loop-k-preserved c =
     let l = c.loop-k in
     let h = c.requires.0 in
     let t = c.loop-k-test.true in (
-      omega arith,
-      simp length-set l.invariant.1,
-      next h l.invariant.0 l.invariant.2,
+      next h l.auto.k-end l.invariant.0,
       λ f xs g e.
-          ap₂ (λ (m : List ℕ) (v : ℕ). set m (c.args.from + l.k) v) (l.invariant.3 f xs g e)
-          (number h t l.invariant.2 ∙ sym (g l.k t))
+          ap₂ (λ (m : List ℕ) (v : ℕ). set m (c.args.from + l.k) v) (l.invariant.1 f xs g e)
+          (number h t l.invariant.0 ∙ sym (g l.k t))
           ∙ sym (fill_step f (c.args.from + l.k) xs)
           ∙ ap (λ (k : ℕ). fill_by f k xs) (sym (one_more c.args.from l.k)),
     )
@@ -79,8 +74,8 @@ pub returns : goal.returns
 returns c =
     let l = c.loop-k in
     let h = c.requires.0 in
-    let e : l.k ≡ c.args.count = omega (arith, l.invariant.0, c.loop-k-test.false) in (
-      l.invariant.1,
+    let e : l.k ≡ c.args.count = omega (arith, l.auto.k-end, c.loop-k-test.false) in (
+      l.auto.out,
       λ f xs g q.
-          l.invariant.3 f xs (λ k m. g k m ∙ ap up (sym (words h k))) q ∙ ap (λ (k : ℕ). fill_by f (c.args.from + k) xs) e,
+          l.invariant.1 f xs (λ k m. g k m ∙ ap up (sym (words h k))) q ∙ ap (λ (k : ℕ). fill_by f (c.args.from + k) xs) e,
     )

@@ -1,5 +1,4 @@
 -- `counting::stride_of` meets its contract: at most 1,537 columns times 4,800. Assumes nothing.
-use borrow.Author.Rules.{rules}
 use mathlib.Core.Path.{◌∙◌, ap}
 use lib.IntN.{ℤ, ◌+ℤ◌, ◌*ℤ◌}
 use Rattle.integers.specs.Words.{leaf, at, box, mul, add, fits}

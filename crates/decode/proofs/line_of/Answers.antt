@@ -1,7 +1,6 @@
 -- `decode::line_of` meets its contract. Assumes nothing.
 use Rattle.integers.specs.Words.{held}
 use Rattle.meaning.specs.Description.{body_line}
-use borrow.Author.Rules.{rules}
 use Rattle.decode.proofs.line_of.Goals as goal
 
 pub returns : goal.returns

@@ -1,16 +1,8 @@
 -- `decode::lines` meets its contract, as the loop that stores. Assumes nothing.
-use mathlib.Core.Path.{◌≡◌, refl, sym, ◌∙◌}
-use Prim.Native.Nat.{◌≤◌, ◌-◌}
-use native.Mathlib.Omega.{arith}
-use lib.ListN.{length, length-set, replicate}
-use Rattle.integers.specs.Fill.{fill_by, fill_zero, fill_step, fill_done}
+use Rattle.std.proofs.Common.{◌≡◌, replicate}
+use Rattle.integers.specs.Fill.{fill_by}
 use Rattle.meaning.specs.Description.{body_line, no_line}
-use Rattle.decode.specs.Filled.{fill_is}
-use borrow.Author.Rules.{rules}
 use Rattle.decode.proofs.lines.Given as goal
 
 abbrev pub invariant-loop-i : goal.invariant-loop-i
-invariant-loop-i l = (l.i ≤ l.n) × (length l.out ≡ 8) × (l.out ≡ fill_by (body_line l.s l.z) l.i (replicate 8 no_line))
-
-abbrev pub decreases-loop-i : goal.decreases-loop-i
-decreases-loop-i l = l.n - l.i
+invariant-loop-i l = l.out ≡ fill_by (body_line l.s l.z) l.i (replicate 8 no_line)

@@ -1,6 +1,5 @@
 -- `decode::stream_of` meets its contract. Assumes nothing.
 use Rattle.meaning.specs.Description.{stream_of}
-use borrow.Author.Rules.{rules}
 use Rattle.decode.proofs.stream_of.Goals as goal
 
 pub returns : goal.returns

@@ -1,6 +1,5 @@
 -- `decode_nest::nest` meets its contract. Assumes nothing.
 use Rattle.meaning.specs.Description.{nest_of}
-use borrow.Author.Rules.{rules}
 use Rattle.decode_nest.proofs.nest.Goals as goal
 
 pub returns : goal.returns

@@ -7,7 +7,6 @@ use Rattle.meaning.specs.Loops.{divisor}
 use Rattle.meaning.specs.Description.{no_stream}
 use Rattle.geometry.specs.Divisors.{in_use, past_use}
 use Rattle.survey.specs.Surveys.{flow_is}
-use borrow.Author.Rules.{rules}
 use Rattle.divisors.proofs.stream_divisor.Goals as goal
 
 pub returns-then-i-v : goal.returns-then-i-v

@@ -1,5 +1,5 @@
 -- `element_places::fill_places` meets its contract: the places of the elements of the first i streams stand. Assumes nothing.
-use mathlib.Core.Path.{◌≡◌}
+use mathlib.Core.Path.{◌≡◌, ◌∙◌}
 use Prim.Native.Nat.{◌+◌, ◌*◌, ◌-◌}
 use native.Mathlib.Omega.{arith}
 use Rattle.lanes.specs.All.{part_lanes}
@@ -9,32 +9,20 @@ use Rattle.element_places.specs.Lent.{saying_at, right_at_lem}
 use Rattle.element_places.proofs.fill_places.Goals as goal
 
 pub loop-i-init : goal.loop-i-init
-loop-i-init c = (omega arith, c.requires.5, λ e l. absurd (none_before c.args.v.description e l))
+loop-i-init c = λ e l. absurd (none_before c.args.v.description e l)
 
 pub flow_at-f-requires : goal.flow_at-f-requires
 flow_at-f-requires c =
     let p = c.requires.0 in
-    omega (arith, c.loop-i-test.true, p.described.few.ranged.sized.most_streams)
+    omega (arith, p.described.few.ranged.sized.most_streams)
 
 pub elements_in-first-requires : goal.elements_in-first-requires
 elements_in-first-requires c =
     let p = c.requires in
-    (p.0.described.few, p.1, omega (arith, c.loop-i-test.true))
-
-pub overflow_cast-a : goal.overflow_cast-a
-overflow_cast-a c = omega (arith, c.loop-i-test.true, c.requires.0.described.few.ranged.sized.most_streams)
-
-pub overflow_mul-a : goal.overflow_mul-a
-overflow_mul-a c = omega (arith, c.loop-i-test.true, c.requires.0.described.few.ranged.sized.most_streams)
-
-pub overflow_add-e : goal.overflow_add-e
-overflow_add-e c = omega (arith, c.loop-i-test.true, c.requires.0.described.few.ranged.sized.most_streams)
-
-pub offset_bounds-lanes-a : goal.offset_bounds-lanes-a
-offset_bounds-lanes-a c = omega (arith, c.loop-i-test.true, c.requires.0.described.few.ranged.sized.most_streams)
+    (p.0.described.few, p.1, omega arith)
 
 pub slice_bounds-fill_stream-end : goal.slice_bounds-fill_stream-end
-slice_bounds-fill_stream-end c = omega (arith, c.loop-i-test.true, c.requires.0.described.few.ranged.sized.most_streams, c.requires.4.words)
+slice_bounds-fill_stream-end c = omega (arith, c.requires.0.described.few.ranged.sized.most_streams, c.requires.4.words)
 
 pub fill_stream-requires : goal.fill_stream-requires
 fill_stream-requires c =
@@ -43,24 +31,19 @@ fill_stream-requires c =
     let i = c.loop-i.i in
     let a = 3072 * i in
     saying_at p.0 p.1 i t c.flow_at-f.ensures c.elements_in-first.ensures p.2 p.3
-    (part_lanes p.4 i t {k = a + 3072 - a} (omega arith)) c.loop-i.invariant.1
-
-pub overflow_add-i : goal.overflow_add-i
-overflow_add-i c =
-    let p = c.requires.0 in
-    record { fits = omega (arith, c.loop-i-test.true, p.described.few.ranged.sized.most_streams) }
+    (part_lanes p.4 i t {k = a + 3072 - a} (omega arith)) (c.loop-i.auto.places ∙ p.5)
 
 pub loop-i-preserved : goal.loop-i-preserved
 loop-i-preserved c =
     let p = c.requires in
     let t = c.loop-i-test.true in
     let n = right_at_lem p.0 p.1 c.loop-i.i t c.flow_at-f.ensures c.elements_in-first.ensures c.loop-i.places _
-    c.fill_stream.ensures c.loop-i.invariant.1 c.loop-i.invariant.2 in
-    (omega (arith, t), n.0, n.1)
+    c.fill_stream.ensures (c.loop-i.auto.places ∙ p.5) c.loop-i.invariant in
+    n.1
 
 pub returns : goal.returns
 returns c =
     let d = c.args.v.description in
     let l = c.loop-i in
-    let z : l.i ≡ d.sizes.streams = omega (arith, c.loop-i-test.false, l.invariant.0) in
-    record { places = λ e b. l.invariant.2 e (omega (arith, b, start_all d l.i z)) }
+    let z : l.i ≡ d.sizes.streams = omega arith in
+    record { places = λ e b. l.invariant e (omega (arith, b, start_all d l.i z)) }

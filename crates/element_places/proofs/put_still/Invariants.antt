@@ -1,15 +1,8 @@
 -- `element_places::put_still` meets its contract: the processes passed so far have said where their elements wait. Assumes nothing.
-use mathlib.Core.Path.{◌≡◌}
-use Prim.Native.Nat.{suc, ◌-◌, ◌≤◌}
-use lib.ListN.{length}
 use Rattle.layout.specs.Spans.{process_of}
 use Rattle.element_places.specs.Walked.{Gone}
 use Rattle.element_places.proofs.put_still.Given as goal
 
 abbrev pub invariant-loop-k : goal.invariant-loop-k
-invariant-loop-k l = let f = l.f in
-    (l.k ≤ suc l.reach) × (length l.places ≡ length l.initial.places)
-    × Gone f.nest f.stream l.first l.start (process_of f.nest l.p) l.initial.places l.k l.places l.place
-
-abbrev pub decreases-loop-k : goal.decreases-loop-k
-decreases-loop-k l = suc l.reach - l.k
+invariant-loop-k l =
+    let f = l.f in Gone f.nest f.stream l.first l.start (process_of f.nest l.p) l.initial.places l.k l.places l.place

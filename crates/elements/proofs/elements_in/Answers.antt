@@ -1,12 +1,10 @@
 -- `elements::elements_in` meets its contract: after i turns the sum is the number of stream i's first element. Assumes nothing.
-use mathlib.Core.Path.{◌≡◌, refl, ◌∙◌, ap}
+use mathlib.Core.Path.{refl, ◌∙◌, ap}
 use Prim.Native.Nat.{ℕ, ◌+◌, ◌<◌}
 use native.Mathlib.Omega.{arith}
 use lib.ListN.{length}
 use Rattle.meaning.specs.Lists.{total}
 use Rattle.meaning.specs.Space.{Box, points}
-use Rattle.meaning.specs.Description.{streams_of}
-use Rattle.meaning.specs.Body.{stream_start}
 use Rattle.survey.specs.InRange.{in_range_lem}
 use Rattle.survey.specs.Surveys.{flow_is, charted, spans}
 use Rattle.elements.specs.Counts.{start_next, start_most}
@@ -14,28 +12,25 @@ use Rattle.elements.proofs.elements_in.Goals as goal
 
 pub loop-i-init : goal.loop-i-init
 unfolding total
-loop-i-init c = (omega arith, refl)
-
-pub flow_at-f-requires : goal.flow_at-f-requires
-flow_at-f-requires c = let p = c.requires in omega (arith, c.loop-i-test.true, p.2, p.0.ranged.sized.most_streams)
+loop-i-init c = refl
 
 pub size_of-sum-requires : goal.size_of-sum-requires
 size_of-sum-requires c =
     let l = c.loop-i in
     let p = c.requires in
-    let k = flow_is p.1 l.i (omega (arith, c.loop-i-test.true, p.2)) c.flow_at-f.ensures in
+    let k = flow_is p.1 l.i (omega arith) c.flow_at.ensures in
     spans (charted (in_range_lem p.0.ranged.nest (p.0.ranged.streams l.i)) k)
 
 pub overflow_add-sum : goal.overflow_add-sum
 overflow_add-sum c =
     let l = c.loop-i in
     let d = c.args.v.description in
-    let t : l.i < d.sizes.streams = omega (arith, c.loop-i-test.true, c.requires.2) in
-    let k = flow_is c.requires.1 l.i t c.flow_at-f.ensures in
+    let t : l.i < d.sizes.streams = omega arith in
+    let k = flow_is c.requires.1 l.i t c.flow_at.ensures in
     let e = c.size_of-sum.ensures.0 ∙ ap (λ (b : Box). length (points b)) k.elements_is in
     omega (
       arith,
-      l.invariant.1,
+      l.invariant,
       start_next d c.requires.1.in_use c.requires.0 l.i t refl e,
       start_most d c.requires.1.in_use c.requires.0 (l.i + 1) (omega (arith, t)),
       c.requires.0.ranged.sized.most_streams,
@@ -45,16 +40,7 @@ pub loop-i-preserved : goal.loop-i-preserved
 loop-i-preserved c =
     let l = c.loop-i in
     let d = c.args.v.description in
-    let t : l.i < d.sizes.streams = omega (arith, c.loop-i-test.true, c.requires.2) in
-    let k = flow_is c.requires.1 l.i t c.flow_at-f.ensures in
-    let e = c.size_of-sum.ensures.0 ∙ ap (λ (b : Box). length (points b)) k.elements_is in (
-      omega (arith, c.loop-i-test.true),
-      ap (λ (n : ℕ). n + c.size_of-sum.result) l.invariant.1 ∙ start_next d c.requires.1.in_use c.requires.0 l.i t refl e,
-    )
-
-pub returns : goal.returns
-returns c =
-    let l = c.loop-i in
-    let a = c.args in
-    let e : l.i ≡ a.count = omega (arith, c.loop-i-test.false, l.invariant.0) in
-    l.invariant.1 ∙ ap (stream_start a.v.description.nest (streams_of a.v.description)) e
+    let t : l.i < d.sizes.streams = omega arith in
+    let k = flow_is c.requires.1 l.i t c.flow_at.ensures in
+    let e = c.size_of-sum.ensures.0 ∙ ap (λ (b : Box). length (points b)) k.elements_is in
+    ap (λ (n : ℕ). n + c.size_of-sum.result) l.invariant ∙ start_next d c.requires.1.in_use c.requires.0 l.i t refl e

@@ -6,20 +6,20 @@ use Rattle.figures.specs.Sums.{sums_at, sums_zero, sums_all}
 use Rattle.figures.proofs.sums_of.Goals as goal
 
 pub loop-p-init : goal.loop-p-init
-loop-p-init c = let f = c.args.f in (omega arith, sums_zero f.nest f.stream)
+loop-p-init c = let f = c.args.f in sums_zero f.nest f.stream
 
 pub added-sums-requires : goal.added-sums-requires
 added-sums-requires c =
-    (record { seen = c.requires.seen; lt = omega (arith, c.requires.counted, c.loop-p-test.true) }, c.loop-p.invariant.1, c.requires.small)
+    (record { seen = c.requires.seen; lt = omega (arith, c.requires.counted) }, c.loop-p.invariant, c.requires.small)
 
 pub loop-p-preserved : goal.loop-p-preserved
 loop-p-preserved c =
     let f = c.args.f in
     let l = c.loop-p in
     let e : suc l.p ≡ l.p + 1 = omega arith in
-    (omega (arith, c.loop-p-test.true), c.added-sums.ensures ∙ ap (sums_at f.nest f.stream) e)
+    c.added-sums.ensures ∙ ap (sums_at f.nest f.stream) e
 
 pub returns : goal.returns
 returns c =
     let l = c.loop-p in
-    l.invariant.1 ∙ sums_all c.args.f.nest c.args.f.stream l.p (omega (arith, c.loop-p-test.false, l.invariant.0, c.requires.counted))
+    l.invariant ∙ sums_all c.args.f.nest c.args.f.stream l.p (omega (arith, c.requires.counted))

@@ -10,29 +10,12 @@ use Rattle.figures.proofs.totals_of.Goals as goal
 pub loop-i-init : goal.loop-i-init
 loop-i-init c =
     let d = c.args.v.description in
-    (omega arith, totals_zero d, lanes_none d.nest (streams_of d) c.requires.4)
-
-pub flow_at-f-requires : goal.flow_at-f-requires
-flow_at-f-requires c = omega (
-  arith,
-  c.loop-i-test.true,
-  c.requires.0.few.ranged.sized.most_streams,
-)
-
-pub offset_bounds-lanes-a : goal.offset_bounds-lanes-a
-offset_bounds-lanes-a c = record {
-  fits = omega (
-    arith,
-    c.loop-i-test.true,
-    c.requires.0.few.ranged.sized.most_streams,
-  );
-}
+    (totals_zero d, lanes_none d.nest (streams_of d) c.requires.4)
 
 pub slice_bounds-share_of-end : goal.slice_bounds-share_of-end
 slice_bounds-share_of-end c = omega (
   arith,
-  c.loop-i-test.true,
-  c.loop-i.invariant.2.words,
+  c.loop-i.invariant.1.words,
   c.requires.0.few.ranged.sized.most_streams,
 )
 
@@ -42,28 +25,19 @@ share_of-requires c =
     let t = c.loop-i-test.true in
     let e = c.flow_at-f.ensures in
     let k = 3072 * l.i + 3072 - 3072 * l.i in
-    let six : l.i < 6 = omega (arith, t, c.requires.0.few.ranged.sized.most_streams) in (
+    let six : l.i < 6 = omega (arith, c.requires.0.few.ranged.sized.most_streams) in (
       sharing_at c.requires.0 c.requires.1 l.i t e,
       share_at c.requires.0 c.requires.1 l.i t e c.requires.2 c.requires.3,
-      part_length six l.invariant.2 {k = k} (omega arith),
-      part_zeros six l.invariant.2 {k = k} (omega arith),
+      part_length six l.invariant.1 {k = k} (omega arith),
+      part_zeros six l.invariant.1 {k = k} (omega arith),
     )
 
 pub joined-totals-requires : goal.joined-totals-requires
 joined-totals-requires c =
     let l = c.loop-i in (
-      subst Room (sym l.invariant.1) (totals_room c.args.v.description c.requires.0 l.i l.invariant.0),
+      subst Room (sym l.invariant.0) (totals_room c.args.v.description c.requires.0 l.i (omega arith)),
       c.share_of.ensures.1,
     )
-
-pub overflow_add-i : goal.overflow_add-i
-overflow_add-i c = record {
-  fits = omega (
-    arith,
-    c.loop-i-test.true,
-    c.requires.0.few.ranged.sized.most_streams,
-  );
-}
 
 pub loop-i-preserved : goal.loop-i-preserved
 loop-i-preserved c =
@@ -72,23 +46,22 @@ loop-i-preserved c =
     let r = c.share_of in
     let e = c.flow_at-f.ensures in
     let k = 3072 * l.i + 3072 - 3072 * l.i in
-    let six : l.i < 6 = omega (arith, t, c.requires.0.few.ranged.sized.most_streams) in (
-      omega (arith, t),
-      c.joined-totals.ensures ∙ share_next c.requires.0 c.requires.1 l.i t e l.invariant.1 r.ensures.0,
-      lanes_next six l.invariant.2 {k = k} (omega arith) c.requires.0.processes _
+    let six : l.i < 6 = omega (arith, c.requires.0.few.ranged.sized.most_streams) in (
+      c.joined-totals.ensures ∙ share_next c.requires.0 c.requires.1 l.i t e l.invariant.0 r.ensures.0,
+      lanes_next six l.invariant.1 {k = k} (omega arith) c.requires.0.processes _
           (lanes_at c.requires.0 c.requires.1 l.i t e r.ensures.2),
     )
 
 pub shape_of-lanes : goal.shape_of-lanes
-shape_of-lanes c = c.loop-i.invariant.2.words ∙ sym (zero_words c.requires.4)
+shape_of-lanes c = c.loop-i.invariant.1.words ∙ sym (zero_words c.requires.4)
 
 pub returns : goal.returns
 returns c =
     let d = c.args.v.description in
     let l = c.loop-i in
-    let z : l.i ≡ d.sizes.streams = omega (arith, c.loop-i-test.false, l.invariant.0) in
-    let e = l.invariant.1 ∙ ap (totals_of d) z in (
+    let z : l.i ≡ d.sizes.streams = omega arith in
+    let e = l.invariant.0 ∙ ap (totals_of d) z in (
       e,
       subst Room (sym e) (totals_room d c.requires.0 d.sizes.streams (omega arith)),
-      subst (λ (i : ℕ). LanesOf d.nest (streams_of d) i l.lanes) z l.invariant.2,
+      subst (λ (i : ℕ). LanesOf d.nest (streams_of d) i l.lanes) z l.invariant.1,
     )

@@ -24,12 +24,12 @@ overflow_cast-state c =
     let k = c.requires.0.ports 0 c.requires.0.some in
     omega (arith, k.count, fire_facts c.args.state.now c.args.ports c.args.streams c.requires.2)
 
-pub offset_bounds-state-at : goal.offset_bounds-state-at
-offset_bounds-state-at c =
+pub offset_bounds-state-fired : goal.offset_bounds-state-fired
+offset_bounds-state-fired c =
     omega (arith, (c.requires.0.ports 0 c.requires.0.some).fired)
 
-pub bounds-state-at : goal.bounds-state-at
-bounds-state-at c =
+pub bounds-state-fired : goal.bounds-state-fired
+bounds-state-fired c =
     omega (arith, (c.requires.0.ports 0 c.requires.0.some).fired)
 
 pub returns : goal.returns

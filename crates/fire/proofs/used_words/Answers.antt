@@ -3,25 +3,18 @@ use mathlib.Core.Path.{sym}
 use native.Mathlib.Omega.{arith}
 use lib.ListN.{replicate}
 use Rattle.fire.specs.Firing.{used_in}
-use Rattle.integers.specs.Fill.{fill_zero, fill_step, fill_done}
+use Rattle.integers.specs.Fill.{fill_zero, fill_step}
 use Rattle.fire.proofs.used_words.Goals as goal
 
 pub loop-s-init : goal.loop-s-init
-loop-s-init c = (omega arith, sym (fill_zero _ _))
+loop-s-init c = sym (fill_zero _ _)
 
 pub bounds-ports-s : goal.bounds-ports-s
 bounds-ports-s c = omega (arith, c.requires.most)
-
-pub used-requires : goal.used-requires
-used-requires c = c.requires.small c.loop-s.s c.loop-s-test.true
 
 pub bounds-out-s : goal.bounds-out-s
 bounds-out-s c = omega (arith, c.requires.most)
 
 pub loop-s-preserved : goal.loop-s-preserved
 loop-s-preserved c =
-    let f = used_in c.args.ports in
-    (omega arith, rw (c.used.ensures, c.loop-s.invariant.1) (sym (fill_step f c.loop-s.s (replicate 6 0))))
-
-pub returns : goal.returns
-returns c = fill_done _ _ _ _ c.loop-s.invariant.1 (omega arith)
+    rw (c.used.ensures, c.loop-s.invariant) (sym (fill_step (used_in c.args.ports) c.loop-s.s (replicate 6 0)))

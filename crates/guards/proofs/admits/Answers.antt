@@ -2,7 +2,6 @@
 use mathlib.Core.Path.{◌∙◌, ap₂}
 use Rattle.integers.specs.Words.{tower, held}
 use Rattle.meaning.specs.Guards.{compares}
-use borrow.Author.Rules.{rules}
 use Rattle.guards.proofs.admits.Goals as goal
 
 pub returns : goal.returns

@@ -1,6 +1,5 @@
 -- `instances::first_of` meets its contract: the words of the processes hold the code of its first instance. Assumes nothing.
 use mathlib.Core.Path.{◌∙◌, subst, sym}
-use borrow.Author.Rules.{rules}
 use Rattle.vectors.specs.Within.{Within}
 use Rattle.instances.proofs.first_of.Goals as goal
 

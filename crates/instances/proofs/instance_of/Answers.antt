@@ -1,7 +1,6 @@
 -- `instances::instance_of` meets its contract. Assumes nothing.
 use mathlib.Core.Path.{◌∙◌, ap₂}
 use lib.IntN.{pos}
-use borrow.Author.Rules.{rules}
 use Rattle.integers.specs.Vectors.{shift3}
 use Rattle.integers.specs.declared.V3.{V3}
 use Rattle.instances.proofs.instance_of.Goals as goal

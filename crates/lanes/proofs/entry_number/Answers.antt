@@ -1,7 +1,6 @@
 -- `lanes::entry_number` meets its contract: the point as far back on the line as the box allows is its entry, and each step back changes
 -- the number by that of the stream. Assumes nothing.
 use mathlib.Core.Path.{◌∙◌, ap}
-use native.Mathlib.Omega.{arith}
 use lib.IntN.{nat_abs}
 use Rattle.integers.specs.Words.{at, bits, box, mul, sub, fits, cast_of}
 use Rattle.lanes.specs.Flow.{step_small, going_back, process_few, entry_back, entry_some, entry_number_lem}
@@ -9,13 +8,6 @@ use Rattle.lanes.proofs.entry_number.Goals as goal
 
 pub reach_of-k-requires : goal.reach_of-k-requires
 reach_of-k-requires c = let p = c.requires in going_back p.0 p.1 p.2
-
-pub overflow_cast-result : goal.overflow_cast-result
-overflow_cast-result c =
-    let p = c.requires in record { sfits = omega (arith, process_few p.0 p.1 p.2) }
-
-pub overflow_cast-result-2 : goal.overflow_cast-result-2
-overflow_cast-result-2 c = record { sfits = omega (arith, c.reach_of-k.ensures.1) }
 
 pub overflow_mul-result : goal.overflow_mul-result
 overflow_mul-result c =

@@ -1,7 +1,6 @@
 -- `layout::code_of` meets its contract: no coordinate lies more than 64 from 0, so each is a digit. Assumes nothing.
 use mathlib.Core.Path.{ap₂}
 use Prim.Native.Nat.{ℕ, ◌+◌, ◌*◌}
-use borrow.Author.Rules.{rules}
 use Rattle.numbering.specs.Ranges.{apart_words, words_up}
 use Rattle.layout.specs.Codes.{above}
 use Rattle.layout.proofs.code_of.Goals as goal

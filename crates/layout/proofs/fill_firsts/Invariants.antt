@@ -1,12 +1,9 @@
 -- `layout::fill_firsts` meets its contract: the first p words are codes, and the others as they were. Assumes nothing.
-use mathlib.Core.Path.{◌≡◌, refl, sym, ◌∙◌, ap, ap₂}
+use mathlib.Core.Path.{◌≡◌}
 use mathlib.Core.List.{List}
-use Prim.Native.Nat.{ℕ, ◌≤◌, ◌-◌}
-use native.Mathlib.Nat.{le_refl}
-use native.Mathlib.Omega.{arith}
-use lib.ListN.{length, get_or, set, length-set}
-use borrow.Author.Rules.{rules}
-use Rattle.integers.specs.Fill.{fill_by, fill_zero, fill_step, fill_past, fill_done}
+use Prim.Native.Nat.{ℕ}
+use lib.ListN.{get_or}
+use Rattle.integers.specs.Fill.{fill_by}
 use Rattle.meaning.specs.declared.Nest.{Nest}
 use Rattle.layout.specs.Codes.{code_of}
 use Rattle.layout.specs.Spans.{numbered}
@@ -17,9 +14,4 @@ abbrev pub code_in : Nest → List ℕ → ℕ → ℕ
 code_in n firsts p = code_of (numbered n (get_or firsts p 0))
 
 abbrev pub invariant-loop-p : goal.invariant-loop-p
-invariant-loop-p l =
-    (l.p ≤ l.processes) × (length l.firsts ≡ length l.initial.firsts)
-    × (l.firsts ≡ fill_by (code_in l.n l.initial.firsts) l.p l.initial.firsts)
-
-abbrev pub decreases-loop-p : goal.decreases-loop-p
-decreases-loop-p l = l.processes - l.p
+invariant-loop-p l = l.firsts ≡ fill_by (code_in l.n l.initial.firsts) l.p l.initial.firsts

@@ -4,7 +4,6 @@
 use mathlib.Core.Path.{◌∙◌, ap}
 use native.Mathlib.Omega.{arith}
 use borrow.Rule.Slice.PartMut.{mid_len}
-use borrow.Author.Rules.{rules}
 use Rattle.meaning.specs.Accept.{against}
 use Rattle.vectors.specs.Within.{directions_small}
 use Rattle.sweeps.specs.Tables.{filled_table, table_listed}

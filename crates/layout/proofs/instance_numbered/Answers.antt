@@ -1,7 +1,6 @@
 -- `layout::instance_numbered` meets its contract. Assumes nothing.
 use mathlib.Core.Path.{◌∙◌}
 use native.Mathlib.Omega.{arith}
-use borrow.Author.Rules.{rules}
 use Rattle.layout.specs.Spans.{numbered_none, numbered_one, zero_small}
 use Rattle.layout.proofs.instance_numbered.Goals as goal
 

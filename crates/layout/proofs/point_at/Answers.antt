@@ -2,7 +2,6 @@
 -- Assumes nothing.
 use mathlib.Core.Path.{◌∙◌}
 use native.Mathlib.Omega.{arith}
-use borrow.Author.Rules.{rules}
 use Rattle.integers.specs.Words.{at, bits, box, add, fits}
 use Rattle.integers.specs.Vectors.{same2}
 use Rattle.numbering.specs.Ranges.{apart_words, size_words}

@@ -3,7 +3,6 @@ use mathlib.Core.Path.{◌≡◌, ◌∙◌, ap, sym, subst}
 use Prim.Native.Nat.{ℕ, ◌<◌}
 use lib.IntN.{ℤ, pos}
 use lib.ListN.{get_or}
-use borrow.Author.Rules.{rules}
 use Rattle.integers.specs.Vectors.{same3}
 use Rattle.integers.specs.Words.{held}
 use Rattle.vectors.specs.Within.{Within}

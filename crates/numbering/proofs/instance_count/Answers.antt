@@ -3,7 +3,6 @@
 use mathlib.Core.Path.{◌∙◌, ap, sym}
 use Prim.Native.Nat.{◌*◌}
 use native.Mathlib.Omega.{arith}
-use borrow.Author.Rules.{rules}
 use Rattle.numbering.specs.declared.Turns.{Turns}
 use Rattle.numbering.specs.Turns.{turning, plane_most, all_some, all_most, instances_length}
 use Rattle.numbering.proofs.instance_count.Goals as goal

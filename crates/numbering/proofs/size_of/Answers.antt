@@ -3,7 +3,6 @@ use mathlib.Core.Path.{◌∙◌, ap₂, sym}
 use Prim.Native.Nat.{ℕ, ◌+◌, ◌*◌, ◌≤◌}
 use native.Mathlib.Nat.{mul-le-mul}
 use native.Mathlib.Omega.{arith}
-use borrow.Author.Rules.{rules}
 use Rattle.geometry.specs.RowOrder.{points_length}
 use Rattle.numbering.specs.Ranges.{apart_words, size_words}
 use Rattle.numbering.proofs.size_of.Goals as goal

@@ -1,5 +1,4 @@
 -- `numbering::turn_count` meets its contract. Assumes nothing.
-use borrow.Author.Rules.{rules}
 use Rattle.numbering.specs.Ranges.{apart_words, size_words, ranged_apart}
 use Rattle.numbering.proofs.turn_count.Goals as goal
 

@@ -1,7 +1,6 @@
 -- `numbering::turns_before` meets its contract: quotients and remainders by the turns of the inner loops split k, and no loop is empty, so
 -- that no divisor is 0. Assumes nothing.
 use native.Mathlib.Omega.{arith}
-use borrow.Author.Rules.{rules}
 use Rattle.numbering.specs.Turns.{turning, plane_some, plane_most, turned}
 use Rattle.numbering.proofs.turns_before.Goals as goal
 

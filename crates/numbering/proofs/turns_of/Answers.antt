@@ -1,6 +1,5 @@
 -- `numbering::turns_of` meets its contract. Assumes nothing.
 use mathlib.Core.Path.{◌∙◌, ap}
-use borrow.Author.Rules.{rules}
 use Rattle.numbering.specs.Ranges.{turns}
 use Rattle.numbering.specs.Turns.{same_turns}
 use Rattle.numbering.proofs.turns_of.Goals as goal

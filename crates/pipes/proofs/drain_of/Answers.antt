@@ -3,11 +3,8 @@
 use mathlib.Core.Path.{sym, ◌∙◌, subst}
 use native.Mathlib.Omega.{arith}
 use lib.Dec.{T}
-use Rattle.pipes.specs.Elements.{at_here, still_drain, null_drain, row_drain_lem}
+use Rattle.pipes.specs.Elements.{at_here, still_drain, row_drain_lem}
 use Rattle.pipes.proofs.drain_of.Goals as goal
-
-pub returns-then-spans-p-eq0 : goal.returns-then-spans-p-eq0
-returns-then-spans-p-eq0 c = null_drain c.requires c.if-spans-p-eq0.true
 
 pub drain_at-requires : goal.drain_at-requires
 drain_at-requires c = (at_here c.requires c.if-spans-p-eq0.false, subst T (sym c.if-f.true) tt)

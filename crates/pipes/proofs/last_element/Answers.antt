@@ -3,8 +3,7 @@
 use mathlib.Core.Path.{◌∙◌, ap}
 use native.Mathlib.Omega.{arith}
 use Rattle.integers.specs.Vectors.{image}
-use Rattle.vectors.specs.Within.{wider}
-use Rattle.pipes.specs.Elements.{last_number, wider_map}
+use Rattle.pipes.specs.Elements.{last_number}
 use Rattle.pipes.proofs.last_element.Goals as goal
 
 pub overflow_sub-spans : goal.overflow_sub-spans
@@ -12,9 +11,6 @@ overflow_sub-spans c = let p = c.requires in omega (arith, (last_number p).0)
 
 pub instance-requires : goal.instance-requires
 instance-requires c = let p = c.requires in (p.flows.laid.in_range_lem.nest, (last_number p).1)
-
-pub image_of-requires : goal.image_of-requires
-image_of-requires c = let p = c.requires in (wider_map p, wider tt c.instance.ensures.1)
 
 pub returns : goal.returns
 returns c =

@@ -5,9 +5,6 @@ use lib.Dec.{T}
 use Rattle.pipes.specs.Elements.{total_none, at_one, total_one, total_still, held_le}
 use Rattle.pipes.proofs.total_at.Goals as goal
 
-pub one_at-q-requires : goal.one_at-q-requires
-one_at-q-requires c = (c.requires, subst T (sym c.if-f.true) tt)
-
 pub length_at-requires : goal.length_at-requires
 length_at-requires c =
     let p = c.requires in

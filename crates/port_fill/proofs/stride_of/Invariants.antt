@@ -1,6 +1,6 @@
 -- `port_fill::stride_of` meets its contract: after i streams the sum is that of their ports and the one word of firings. Assumes nothing.
 use mathlib.Core.Path.{◌≡◌}
-use Prim.Native.Nat.{◌+◌, ◌-◌, ◌≤◌}
+use Prim.Native.Nat.{◌+◌}
 use lib.ListN.{take}
 use Rattle.meaning.specs.Lists.{total}
 use Rattle.meaning.specs.Description.{streams_of}
@@ -8,9 +8,4 @@ use Rattle.addresses.specs.Indices.{port_words}
 use Rattle.port_fill.proofs.stride_of.Given as goal
 
 abbrev pub invariant-loop-i : goal.invariant-loop-i
-invariant-loop-i l = let v = l.v in let i = l.i in
-    (i ≤ v.description.sizes.streams)
-    × (l.sum ≡ 1 + total (port_words v.description.nest) (take i (streams_of v.description)))
-
-abbrev pub decreases-loop-i : goal.decreases-loop-i
-decreases-loop-i l = l.v.description.sizes.streams - l.i
+invariant-loop-i l = let d = l.v.description in l.sum ≡ 1 + total (port_words d.nest) (take l.i (streams_of d))

@@ -7,4 +7,4 @@ use Rattle.port_rows.proofs.pipe_number.Goals as goal
 pub returns : goal.returns
 returns c =
     let k = number_is c.requires c.entry_at-e.ensures.0 in
-    (c.wide.ensures ∙ k.0, omega (arith, c.wide.ensures, k.1))
+    (c.from.ensures ∙ k.0, omega (arith, c.from.ensures, k.1))

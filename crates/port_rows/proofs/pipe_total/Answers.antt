@@ -6,4 +6,4 @@ use Rattle.port_rows.proofs.pipe_total.Goals as goal
 pub returns : goal.returns
 returns c =
     let p = c.requires in
-    c.wide.ensures ∙ pipe_elements_lem p.near p.of_heads c.entry_at-e.ensures.0
+    c.from.ensures ∙ pipe_elements_lem p.near p.of_heads c.entry_at-e.ensures.0

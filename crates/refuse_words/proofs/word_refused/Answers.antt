@@ -27,12 +27,6 @@ returns-then-not-in_range c =
     answer _ _ c.line_at-words.ensures.0
     (sym (every_stop _ _ _ (omega arith) (sym c.in_range.ensures ∙ c.if-not-in_range.true)) ∙ c.loop-k.invariant)
 
-pub overflow_add-k : goal.overflow_add-k
-overflow_add-k c = omega arith
-
-pub loop-k-smaller : goal.loop-k-smaller
-loop-k-smaller c = omega arith
-
 pub loop-k-preserved : goal.loop-k-preserved
 loop-k-preserved c =
     sym (every_turn _ _ _ (omega arith) (sym c.in_range.ensures ∙ c.if-not-in_range.false))

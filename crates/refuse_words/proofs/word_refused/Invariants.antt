@@ -19,6 +19,3 @@ test s z k = in_range z k (word_at s k)
 
 abbrev pub invariant-loop-k : goal.invariant-loop-k
 invariant-loop-k l = every (test l.s l.z) (numbers_from l.k (l.words - l.k)) ≡ every (test l.s l.z) (numbers_from 3 (l.words - 3))
-
-abbrev pub decreases-loop-k : goal.decreases-loop-k
-decreases-loop-k l = l.words - l.k

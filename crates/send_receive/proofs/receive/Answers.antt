@@ -1,16 +1,15 @@
 -- `send_receive::receive` meets its contract: an end that may receive has received less than its total and has a value before it, so the
 -- counts are in range. Assumes nothing.
 use native.Mathlib.Omega.{arith}
-use borrow.Author.Rules.{rules}
 use Rattle.send_receive.specs.Moves.{receive_facts}
 use Rattle.send_receive.proofs.receive.Goals as goal
 
-pub bounds-state-last : goal.bounds-state-last
-bounds-state-last c =
+pub bounds-state-e : goal.bounds-state-e
+bounds-state-e c =
     omega (arith, receive_facts c.args.state.now c.args.e c.requires.2)
 
-pub bounds-out-offset : goal.bounds-out-offset
-bounds-out-offset c =
+pub bounds-out-e : goal.bounds-out-e
+bounds-out-e c =
     omega (arith, receive_facts c.args.state.now c.args.e c.requires.2)
 
 pub overflow_sub-n : goal.overflow_sub-n
@@ -24,7 +23,3 @@ move_down-requires c =
 pub overflow_cast-state : goal.overflow_cast-state
 overflow_cast-state c =
     omega (arith, receive_facts c.args.state.now c.args.e c.requires.2)
-
-pub returns : goal.returns
-returns c =
-    (rw (c.move_down.ensures, c.word-x.ensures.0, c.fill-n.ensures), rw c.word-x.ensures.0)

@@ -2,7 +2,7 @@
 use mathlib.Core.Path.{◌≡◌}
 use mathlib.Core.Bool.{Bool}
 use mathlib.Core.List.{List}
-use Prim.Native.Nat.{ℕ, ◌≤◌, ◌-◌}
+use Prim.Native.Nat.{ℕ}
 use Rattle.sound_rows.specs.Sound.{port_sound}
 use Rattle.port_table.specs.PortsOf.{port_at}
 use Rattle.lists.specs.Loops.{every_left}
@@ -14,8 +14,5 @@ abbrev pub one : List ℕ → List ℕ → ℕ → ℕ → Bool
 one b st p i = port_sound st (port_at b p i)
 
 abbrev pub invariant-loop-i : goal.invariant-loop-i
-invariant-loop-i l = let ports = l.ports in let state = l.state in let z = l.z in let i = l.i in (i ≤ z.streams)
-    × (ports_sound ports state z.streams l.p ≡ every_left (one ports state l.p) z.streams i)
-
-abbrev pub decreases-loop-i : goal.decreases-loop-i
-decreases-loop-i l = l.z.streams - l.i
+invariant-loop-i l =
+    ports_sound l.ports l.state l.fn.z.streams l.p ≡ every_left (one l.ports l.state l.p) l.fn.z.streams l.i

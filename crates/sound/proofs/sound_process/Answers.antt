@@ -3,6 +3,7 @@
 use mathlib.Core.Path.{◌≡◌, sym, ◌∙◌, ap}
 use mathlib.Core.Bool.{true, false}
 use lib.Dec.{leb}
+use borrow.Author.Rules.{rules}
 use Rattle.ports.specs.declared.Port.{Port}
 use Rattle.ports.specs.Links.{word}
 use Rattle.sound.specs.States.{firings_sound}
@@ -24,4 +25,4 @@ returns-else-sound_firings c =
     let e = ap (λ (k : Port). leb (word c.args.state.now k.fired) k.count) c.port.ensures in
     let f : firings_sound c.args.ports.now c.args.state.now c.args.p ≡ false = sym (c.sound_firings.ensures ∙ e)
     ∙ c.if-sound_firings.false in
-    rw f
+    rw f (search rules)

@@ -1,11 +1,9 @@
 -- `sweeps::fill_spans` meets its contract: the pass over the instances that are left gives the whole pass. Assumes nothing.
-use mathlib.Core.Path.{◌≡◌, refl, sym, ◌∙◌, ap, subst}
-use Prim.Native.Nat.{◌≤◌, ◌-◌}
+use mathlib.Core.Path.{refl, sym, ◌∙◌, ap, subst}
 use native.Mathlib.Omega.{arith}
-use lib.ListN.{length, take, drop}
-use borrow.Author.Rules.{rules}
+use lib.ListN.{take}
 use Rattle.sweeps.specs.Sweep.{sweep, sweep_step, sweep_done, taken_length}
-use Rattle.sweeps.specs.Turns.{turn, turn_length, Most, most_zero, most_turn, swept}
+use Rattle.sweeps.specs.Turns.{turn, Most, most_zero, most_turn, swept}
 use Rattle.sweeps.proofs.fill_spans.Goals as goal
 
 pub clear-requires : goal.clear-requires
@@ -14,8 +12,6 @@ clear-requires c = omega (arith, c.requires.words)
 pub loop-k-init : goal.loop-k-init
 loop-k-init c =
     let w = c.requires in (
-      omega arith,
-      refl,
       subst (Most 0 c.args.points) (sym c.clear.ensures) (most_zero _ _ w.few w.words),
       refl,
     )
@@ -29,9 +25,9 @@ meet-requires c =
     let p = c.point_of-p in
     record {
       point = omega (arith, p.ensures.1, c.requires.few);
-      words = l.invariant.1 ∙ c.clear.auto.out ∙ c.requires.words;
+      words = l.auto.spans ∙ c.clear.auto.out ∙ c.requires.words;
       number = omega arith;
-      before = l.invariant.2.at p.result p.ensures.1;
+      before = l.invariant.0.at p.result p.ensures.1;
     }
 
 pub loop-k-preserved : goal.loop-k-preserved
@@ -40,10 +36,8 @@ loop-k-preserved c =
     let p = c.point_of-p in
     let l = c.loop-k in
     let h = taken_length c.requires.table in (
-      omega arith,
-      ap length e ∙ turn_length c.args.back l.k p.result l.spans ∙ l.invariant.1,
-      rw e (most_turn c.args.back p.result c.requires.few p.ensures.1 (l.invariant.1 ∙ c.clear.auto.out ∙ c.requires.words) l.invariant.2),
-      rw (e, p.ensures.0) (sweep_step (turn c.args.back) _ _ _ (omega arith)) ∙ l.invariant.3,
+      rw e (most_turn c.args.back p.result c.requires.few p.ensures.1 (l.auto.spans ∙ c.clear.auto.out ∙ c.requires.words) l.invariant.0),
+      rw (e, p.ensures.0) (sweep_step (turn c.args.back) _ _ _ (omega arith)) ∙ l.invariant.1,
     )
 
 pub returns : goal.returns
@@ -51,5 +45,5 @@ returns c =
     let a = c.args in
     let h = taken_length c.requires.table in
     swept a.back c.requires
-    (sym (sweep_done (turn a.back) _ _ _ (omega arith)) ∙ c.loop-k.invariant.3
+    (sym (sweep_done (turn a.back) _ _ _ (omega arith)) ∙ c.loop-k.invariant.1
     ∙ ap (sweep (turn a.back) 0 (take a.instances a.numbers.now)) c.clear.ensures)

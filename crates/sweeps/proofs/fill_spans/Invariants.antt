@@ -1,18 +1,12 @@
 -- `sweeps::fill_spans` meets its contract: the pass over the instances that are left gives the whole pass. Assumes nothing.
-use mathlib.Core.Path.{◌≡◌, refl, sym, ◌∙◌, ap, subst}
-use Prim.Native.Nat.{◌≤◌, ◌-◌}
-use native.Mathlib.Omega.{arith}
-use lib.ListN.{length, take, drop}
-use borrow.Author.Rules.{rules}
-use Rattle.sweeps.specs.Sweep.{sweep, sweep_step, sweep_done, taken_length}
-use Rattle.sweeps.specs.Turns.{turn, turn_length, Most, most_zero, most_turn, swept}
+use mathlib.Core.Path.{◌≡◌}
+use lib.ListN.{take, drop}
+use Rattle.sweeps.specs.Sweep.{sweep}
+use Rattle.sweeps.specs.Turns.{turn, Most}
 use Rattle.sweeps.proofs.fill_spans.Given as goal
 
 abbrev pub invariant-loop-k : goal.invariant-loop-k
 invariant-loop-k l =
-    (l.k ≤ l.instances) × (length l.spans ≡ length l.initial.spans) × (Most l.k l.points l.spans)
+    (Most l.k l.points l.spans)
     × (sweep (turn l.back) l.k (drop l.k (take l.instances l.numbers)) l.spans
     ≡ sweep (turn l.back) 0 (take l.instances l.numbers) l.initial.spans)
-
-abbrev pub decreases-loop-k : goal.decreases-loop-k
-decreases-loop-k l = l.instances - l.k

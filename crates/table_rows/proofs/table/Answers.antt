@@ -1,5 +1,4 @@
 -- `table_rows::table` meets its contract. Assumes nothing.
-use borrow.Author.Rules.{rules}
 use Rattle.table_rows.proofs.table.Goals as goal
 
 pub returns : goal.returns

@@ -1,25 +1,13 @@
 -- `take_give::give` meets its contract: a port that may give has a free place after it, and has given less than it took, so no count passes
 -- 32 bits. Assumes nothing.
 use native.Mathlib.Omega.{arith}
-use lib.ListN.{length-set}
-use borrow.Author.Rules.{rules}
 use Rattle.take_give.specs.Moves.{give_facts}
 use Rattle.take_give.proofs.give.Goals as goal
 
-pub bounds-state-room : goal.bounds-state-room
-bounds-state-room c =
+pub bounds-state-k : goal.bounds-state-k
+bounds-state-k c =
     omega (arith, give_facts c.args.state.now c.args.k c.requires.1)
-
-pub bounds-state-from-2 : goal.bounds-state-from-2
-bounds-state-from-2 c = simp length-set (omega arith)
 
 pub overflow_cast-state : goal.overflow_cast-state
 overflow_cast-state c =
     omega (arith, give_facts c.args.state.now c.args.k c.requires.1)
-
-pub bounds-state-at : goal.bounds-state-at
-bounds-state-at c = simp length-set (omega arith)
-
-pub returns : goal.returns
-returns c =
-    rw (c.gives_from.ensures.0, c.word-y.ensures.0, c.word-x.ensures.0, c.fill-n.ensures)

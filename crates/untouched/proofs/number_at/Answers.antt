@@ -1,6 +1,5 @@
 -- `untouched::number_at` meets its contract. Assumes nothing.
 use mathlib.Core.Path.{sym, ◌∙◌, ap, subst}
-use borrow.Author.Rules.{rules}
 use Rattle.integers.specs.Differences.{up}
 use Rattle.integers.specs.declared.V3.{V3}
 use Rattle.counting.specs.Forms.{Numbers, form_at}

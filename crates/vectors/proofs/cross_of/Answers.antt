@@ -1,6 +1,5 @@
 -- `vectors::cross_of` meets its contract: the components of a cross product are the minors of the vectors rolled once, twice and not at
 -- all. Assumes nothing.
-use borrow.Author.Rules.{rules}
 use Rattle.integers.specs.Vectors.{same3}
 use Rattle.integers.specs.Words.{held, held_abs}
 use Rattle.vectors.proofs.cross_of.Goals as goal

@@ -1,5 +1,4 @@
 -- `vectors::image_of` meets its contract. Assumes nothing.
-use borrow.Author.Rules.{rules}
 use Rattle.integers.specs.Vectors.{same2}
 use Rattle.integers.specs.Words.{held, held_abs}
 use Rattle.vectors.proofs.image_of.Goals as goal

@@ -1,5 +1,4 @@
 -- `vectors::later` meets its contract: 4096 times 200, and 64 more, is below 2^31, so no component leaves its word. Assumes nothing.
-use borrow.Author.Rules.{rules}
 use Rattle.integers.specs.Words.{at, bits, box, add, mul, fits}
 use Rattle.integers.specs.Vectors.{same3}
 use Rattle.vectors.proofs.later.Goals as goal

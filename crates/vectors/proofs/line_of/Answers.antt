@@ -1,6 +1,5 @@
 -- `vectors::line_of` meets its contract. Assumes nothing.
 use mathlib.Core.Path.{ap, ◌∙◌}
-use borrow.Author.Rules.{rules}
 use Rattle.lattice.specs.declared.Short.{Short}
 use Rattle.meaning.specs.Loops.{turn, line_of}
 use Rattle.vectors.proofs.line_of.Goals as goal

@@ -1,5 +1,4 @@
 -- `vectors::moved` meets its contract: 1536 times 1, and 768 more, is below 2^31, so no component leaves its word. Assumes nothing.
-use borrow.Author.Rules.{rules}
 use Rattle.integers.specs.Words.{at, bits, box, add, mul, fits}
 use Rattle.integers.specs.Vectors.{same2}
 use Rattle.vectors.proofs.moved.Goals as goal

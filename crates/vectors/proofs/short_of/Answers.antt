@@ -1,6 +1,5 @@
 -- `vectors::short_of` meets its contract. Assumes nothing.
 use mathlib.Core.Path.{ap, ◌∙◌, subst, sym}
-use borrow.Author.Rules.{rules}
 use Rattle.lattice.specs.declared.Short.{Short}
 use Rattle.lattice.specs.Shorten.{divisor_of, shortened}
 use Rattle.lattice.proofs.Shortening.{shortens_one}

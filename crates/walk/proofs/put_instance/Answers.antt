@@ -2,7 +2,6 @@
 -- words lies within the walk. Assumes nothing.
 use native.Mathlib.Omega.{arith}
 use lib.ListN.{length-set}
-use borrow.Author.Rules.{rules}
 use Rattle.walk.specs.Words.{narrows, narrowed, put_by}
 use Rattle.walk.proofs.put_instance.Goals as goal
 

@@ -2,7 +2,6 @@
 use mathlib.Core.Path.{ap}
 use Prim.Native.Nat.{ℕ, ◌+◌}
 use native.Mathlib.Omega.{arith}
-use borrow.Author.Rules.{rules}
 use Rattle.walk.specs.Walked.{no_line, own_small, own_line_lem}
 use Rattle.walk.proofs.put_line.Goals as goal
 
