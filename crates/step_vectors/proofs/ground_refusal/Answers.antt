@@ -11,6 +11,6 @@ pub returns-then-low_rank : goal.returns-then-low_rank
 returns-then-low_rank c =
     skips 6 _ c.instances_refused.ensures c.if-instances_refused.false (applies 7 _ c.low_rank.ensures c.if-low_rank.true)
 
-pub returns-else-low_rank : goal.returns-else-low_rank
-returns-else-low_rank c =
+pub returns : goal.returns
+returns c =
     skips 6 _ c.instances_refused.ensures c.if-instances_refused.false (skips 7 _ c.low_rank.ensures c.if-low_rank.false accepts)
