@@ -138,7 +138,12 @@ fn tally(p: Prospect, k: u32, loops: u32) -> [u32; ANSWERS]
 // ---- the call
 
 // Step vectors: the counts of accepted and of refusals 1 to 17.
-pub fn step_vectors(board: u32, s: &[u8], k: u32, counts: &mut [u32; ANSWERS]) -> Result<(), Refusal>
+pub fn step_vectors(
+    board: u32,
+    s: &[u8],
+    k: u32,
+    counts: &mut [u32; ANSWERS],
+) -> Result<(), Refusal>
     ensures { (numbered result ≡ (step_vectors (limits_of board) s.now k counts.old).answer)
         × (counts.new ≡ (step_vectors (limits_of board) s.now k counts.old).counts) }
 {

@@ -1,7 +1,6 @@
 -- `step_vectors::ground_refusal` meets its contract. Assumes nothing.
 use Rattle.decode.specs.Refusals.{accepts}
 use Rattle.survey.specs.Stages.{applies, skips}
-use borrow.Author.Rules.{rules}
 use Rattle.step_vectors.proofs.ground_refusal.Goals as goal
 
 pub returns-then-instances_refused : goal.returns-then-instances_refused

@@ -1,15 +1,10 @@
 -- `step_vectors::step_vectors` meets its contract. Assumes nothing.
-use mathlib.Core.Path.{◌≡◌, refl, sym, ◌∙◌, ap, subst}
-use mathlib.Core.List.{List}
-use Prim.Native.Nat.{ℕ}
+use mathlib.Core.Path.{◌≡◌, sym, ◌∙◌, ap, subst}
 use native.Mathlib.Omega.{arith}
-use Rattle.std.specs.Prelude.{Result}
-use Rattle.refusals.specs.declared.Refusal.{Refusal}
 use Rattle.refusals.specs.Numbers.{number_of, numbered, number-positive}
 use Rattle.meaning.specs.declared.Limits.{Limits}
 use Rattle.meaning.specs.Answers.{Done, Refused}
 use Rattle.meaning.specs.Tests.{refusal}
-use Rattle.meaning.specs.Limits.{limits_of}
 use Rattle.meaning.specs.StepVectors.{vector_tests, step_vectors}
 use Rattle.step_vectors.specs.Tally.{tally_of, Tallying}
 use Rattle.step_vectors.specs.Call.{loops_are, declined_call, laid, tallying, counted_call}

@@ -49,9 +49,9 @@ returns-in_err-ground_refusal c =
     let a = c.args in
     let h = subst (λ (d : Description). Own d c.own_survey-v.result) c.description.ensures c.own_survey-v.ensures in
     let r : refusal_number c.from_residual-in_err-ground_refusal.result ≡ refusal (ground_tests a.limits c.own_survey-v.result.ground)
-        = search rules in
+    = search rules in
     let e : refusal_number c.from_residual-in_err-ground_refusal.result ≡ refusal (vector_tests a.limits a.s.now a.k)
-        = early_goes_on a.limits a.s.now a.k (early_is a.s.now a.k c.in_ok-early_refusal.ensures c.requires) refl h r in
+    = early_goes_on a.limits a.s.now a.k (early_is a.s.now a.k c.in_ok-early_refusal.ensures c.requires) refl h r in
     record { refusal_is = e; own = search rules }
 
 -- those before, likewise
@@ -64,7 +64,7 @@ returns-in_err-early_refusal c =
     let a = c.args in
     let r : refusal_number c.from_residual.result ≡ refusal (early_tests (limits_of a.board) a.s.now a.k) = search rules in
     let e : number_of c.in_err-early_refusal.field-0.0 ≡ refusal (early_tests (limits_of a.board) a.s.now a.k)
-        = c.in_err-early_refusal.ensures in
+    = c.in_err-early_refusal.ensures in
     record {
       refusal_is =
           stopped a.limits a.s.now a.k c.in_err-early_refusal.field-0.0 (early_is a.s.now a.k e c.requires)

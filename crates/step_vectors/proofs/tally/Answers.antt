@@ -1,7 +1,7 @@
 -- `step_vectors::tally` meets its contract: the counts are those of the first j answers. Assumes nothing.
 use mathlib.Core.Path.{◌≡◌, refl, sym, ◌∙◌, ap, subst}
 use mathlib.Core.List.{[]}
-use Prim.Native.Nat.{ℕ, ◌-◌, ◌<◌}
+use Prim.Native.Nat.{ℕ, ◌<◌}
 use native.Mathlib.Omega.{arith}
 use lib.ListN.{length, get_or, length-map}
 use Rattle.integers.specs.declared.V3.{V3}
@@ -10,8 +10,7 @@ use Rattle.meaning.specs.HowManyWork.{step_vector}
 use Rattle.lists.specs.Members.{map_at}
 use Rattle.prospect.specs.declared.Prospect.{Prospect}
 use Rattle.prospect.specs.Prospects.{answer_by}
-use Rattle.step_vectors.specs.Tally.{answers_by, Counted, Tallying, count_most, counted_none, counted_next, counted_all}
-use borrow.Author.Rules.{rules}
+use Rattle.step_vectors.specs.Tally.{answers_by, Tallying, count_most, counted_none, counted_next, counted_all}
 use Rattle.step_vectors.proofs.tally.Goals as goal
 
 pub vector_count-all-requires : goal.vector_count-all-requires
