@@ -62,10 +62,9 @@ pub struct Flow {
     pub turned: bool,
 }
 
-// The number by which a description is refused, 0 if it is not, and what is known of it.
+// What is known of a description.
 #[derive(Clone, Copy)]
 pub struct Survey {
-    pub refusal: u32,
     pub description: Description,
     pub ground: Ground,
     pub flows: [Flow; STREAMS],
@@ -237,34 +236,10 @@ pub fn survey_of(d: Description) -> Survey
     requires { (Ranged d) × (length (streams_of d) ≡ d.sizes.streams) }
     ensures { (result.description ≡ d) × (Surveyed result) }
 {
-    let n = d.nest;
-    let g = ground_of(n);
+    let ground = ground_of(d.nest);
     Survey {
-        refusal: 0,
         description: d,
-        ground: g,
-        flows: flows_of(d, g),
-    }
-}
-
-// The survey of bytes that may not: their refusal, and nothing besides.
-pub fn refused(refusal: u32) -> Survey
-    ensures { result.refusal ≡ refusal }
-{
-    let zero2 = V2 { a: 0, b: 0 };
-    Survey {
-        refusal: refusal,
-        description: decode::no_description(),
-        ground: Ground {
-            instances: 0,
-            processes: 0,
-            increment: V3 { x: 0, y: 0, z: 0 },
-            divisor: 0,
-            space: Extent {
-                lo: zero2,
-                hi: zero2,
-            },
-        },
-        flows: [no_flow(); STREAMS],
+        ground,
+        flows: flows_of(d, ground),
     }
 }

@@ -29,8 +29,8 @@ returns-then-p c =
       c.if-p.true,
     ) refl
 
-pub returns-else-p : goal.returns-else-p
-returns-else-p c =
+pub returns : goal.returns
+returns c =
     let d = c.dot_of in
     rw (
       sym (zero_bits tt d.ensures.1 ∙ ap (λ (z : ℤ). eq_z z (pos 0)) d.ensures.0) ∙ ne_eqb _ _ c.if-dot_of-eq0.false,

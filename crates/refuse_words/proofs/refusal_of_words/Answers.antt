@@ -3,7 +3,6 @@
 use mathlib.Core.Path.{sym, ◌∙◌, ap}
 use Rattle.meaning.specs.Description.{refused5}
 use Rattle.decode.specs.Refusals.{refuses, passes, accepts}
-use borrow.Author.Rules.{rules}
 use Rattle.refuse_words.proofs.refusal_of_words.Goals as goal
 
 pub returns-then-word_refused : goal.returns-then-word_refused
@@ -14,7 +13,7 @@ returns-then-bound_refused c =
     passes 4 _ (sym c.word_refused.ensures ∙ c.if-word_refused.false)
     (refuses 5 _ (sym (c.bound_refused.ensures ∙ ap refused5 c.nest.ensures) ∙ c.if-bound_refused.true))
 
-pub returns-else-bound_refused : goal.returns-else-bound_refused
-returns-else-bound_refused c =
+pub returns : goal.returns
+returns c =
     passes 4 _ (sym c.word_refused.ensures ∙ c.if-word_refused.false)
     (passes 5 _ (sym (c.bound_refused.ensures ∙ ap refused5 c.nest.ensures) ∙ c.if-bound_refused.false) accepts)
