@@ -169,7 +169,7 @@ pub fn description(s: &[u8]) -> Description
     }
 }
 
-// Loops and a description of zeros, where there is nothing to decode.
+// Loops of zeros, where there is nothing to decode.
 pub fn no_nest() -> Nest {
     let zero = V3 { x: 0, y: 0, z: 0 };
     Nest {
@@ -181,19 +181,6 @@ pub fn no_nest() -> Nest {
             top: zero,
             low: zero,
         },
-    }
-}
-
-pub fn no_description() -> Description {
-    Description {
-        sizes: Sizes {
-            loops: 0,
-            streams: 0,
-            lines: 0,
-        },
-        nest: no_nest(),
-        streams: [no_stream(); 6],
-        lines: [no_line(); 8],
     }
 }
 

@@ -7,8 +7,10 @@ ghost use Rattle.meaning.specs.Tests.{refusal};
 ghost use Rattle.numbering.specs.Ranges.{Bounded};
 ghost use Rattle.survey.specs.Stages.{layout_tests};
 ghost use Rattle.survey.specs.Surveys.{GroundOf};
+ghost use Rattle.refusals.specs.Numbers.{refusal_number};
 
 use meaning::{Limits, Nest};
+use refusals::Refusal;
 use survey::Ground;
 
 // Refusal 6: over the limit of instances.
@@ -32,21 +34,22 @@ pub fn processes_refused(g: Ground, limits: Limits) -> bool
     limits.processes < g.processes
 }
 
-// The first of the refusals 6, 7, 8 and 10 that applies, 0 if none does.
-pub fn nest_refusal(n: Nest, g: Ground, limits: Limits) -> u32
+// The first of the refusals 6, 7, 8 and 10 that applies.
+pub fn nest_refusal(n: Nest, g: Ground, limits: Limits) -> Result<(), Refusal>
     requires { (Bounded n) × (GroundOf n g) }
-    ensures { result ≡ refusal (layout_tests limits n) }
+    ensures { refusal_number result ≡ refusal (layout_tests limits n) }
 {
-    let increment = g.increment;
     if instances_refused(g, limits) {
-        6
-    } else if low_rank(g) {
-        7
-    } else if survey::still(n, increment) {
-        8
-    } else if processes_refused(g, limits) {
-        10
-    } else {
-        0
+        return Err(Refusal::Instances);
     }
+    if low_rank(g) {
+        return Err(Refusal::PlaceRank);
+    }
+    if survey::still(n, g.increment) {
+        return Err(Refusal::StillIncrement);
+    }
+    if processes_refused(g, limits) {
+        return Err(Refusal::Processes);
+    }
+    Ok(())
 }

@@ -8,9 +8,11 @@ ghost use Rattle.integers.specs.Bytes.{word_at};
 ghost use Rattle.meaning.specs.Tests.{refusal};
 ghost use Rattle.meaning.specs.Description.{in_range, refused4};
 ghost use Rattle.decode.specs.Offsets.{Sized};
-ghost use Rattle.decode.specs.Refusals.{word_tests, length_tests, first_tests};
+ghost use Rattle.decode.specs.Refusals.{word_tests, first_tests};
+ghost use Rattle.refusals.specs.Numbers.{refusal_number};
 
 use meaning::Sizes;
+use refusals::Refusal;
 
 // Whether word k is in its range.
 fn in_range(s: &[u8], z: Sizes, k: u32) -> bool
@@ -36,47 +38,34 @@ fn word_refused(s: &[u8], z: Sizes) -> bool
     false
 }
 
-// The first of the refusals 4 and 5 that applies, 0 if none does.
-fn refusal_of_words(s: &[u8], z: Sizes) -> u32
+// The first of the refusals 4 and 5 that applies.
+fn refusal_of_words(s: &[u8], z: Sizes) -> Result<(), Refusal>
     requires { Sized z }
-    ensures { result ≡ refusal (word_tests s.now z) }
+    ensures { refusal_number result ≡ refusal (word_tests s.now z) }
 {
     if word_refused(s, z) {
-        4
-    } else {
-        if word_ranges::bound_refused(decode_nest::nest(s, z)) {
-            5
-        } else {
-            0
-        }
+        return Err(Refusal::Range);
     }
+    if word_ranges::bound_refused(decode_nest::nest(s, z)) {
+        return Err(Refusal::Bounds);
+    }
+    Ok(())
 }
 
-// The same of 3 to 5.
-fn refusal_of_length(s: &[u8], z: Sizes) -> u32
-    requires { Sized z }
-    ensures { result ≡ refusal (length_tests s.now z) }
-{
-    let n = decode::line_at(z, z.lines);
-    if s.len() == 4 * n as usize {
-        refusal_of_words(s, z)
-    } else {
-        3
-    }
-}
-
-// The first of the refusals 1 to 5 that applies, 0 if none does.
-pub fn refusal(s: &[u8]) -> u32
-    ensures { result ≡ refusal (first_tests s.now) }
+// The first of the refusals 1 to 5 that applies.
+pub fn refusal(s: &[u8]) -> Result<(), Refusal>
+    ensures { refusal_number result ≡ refusal (first_tests s.now) }
 {
     if s.len() < 12 {
-        1
-    } else {
-        let z = decode::sizes(s);
-        if word_ranges::size_refused(z) {
-            2
-        } else {
-            refusal_of_length(s, z)
-        }
+        return Err(Refusal::Bytes);
     }
+    let z = decode::sizes(s);
+    if word_ranges::size_refused(z) {
+        return Err(Refusal::Sizes);
+    }
+    let n = decode::line_at(z, z.lines);
+    if s.len() != 4 * n as usize {
+        return Err(Refusal::Length);
+    }
+    refusal_of_words(s, z)
 }

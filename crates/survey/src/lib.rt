@@ -62,10 +62,9 @@ pub struct Flow {
     pub turned: bool,
 }
 
-// The number by which a description is refused, 0 if it is not, and what is known of it.
+// What is known of a description.
 #[derive(Clone, Copy)]
 pub struct Survey {
-    pub refusal: u32,
     pub description: Description,
     pub ground: Ground,
     pub flows: [Flow; STREAMS],
@@ -101,8 +100,7 @@ pub fn still(n: Nest, line: V3) -> bool
     requires { (Within 8 n.step) × (Within 200 line) }
     ensures { result ≡ eq_z (step_of n line) (pos 0) }
 {
-    let step = n.step;
-    vectors::dot_of(step, line) == 0
+    vectors::dot_of(n.step, line) == 0
 }
 
 // Whether a vector leads back in row order.
@@ -119,16 +117,14 @@ fn ground_of(n: Nest) -> Ground
     requires { Bounded n }
     ensures { GroundOf n result }
 {
-    let place = n.place;
-    let short = vectors::line_of(n, place);
-    let increment = short.vector;
-    let space = numbering::extent_of(n, place);
+    let short = vectors::line_of(n, n.place);
+    let space = numbering::extent_of(n, n.place);
     Ground {
         instances: numbering::instance_count(n),
         processes: numbering::size_of(space),
-        increment: increment,
+        increment: short.vector,
         divisor: short.divisor,
-        space: space,
+        space,
     }
 }
 
@@ -150,8 +146,7 @@ fn hop_of(n: Nest, line: V3, stationary: bool) -> u32
     if stationary {
         1
     } else {
-        let step = n.step;
-        integers::magnitude(vectors::dot_of(step, line))
+        integers::magnitude(vectors::dot_of(n.step, line))
     }
 }
 
@@ -159,29 +154,25 @@ fn flow_of(n: Nest, g: Ground, s: Stream) -> Flow
     requires { (InRange n s) × (GroundOf n g) }
     ensures { FlowOf n s result }
 {
-    let place = n.place;
-    let map = s.map;
-    let space = g.space;
-    let increment = g.increment;
-    let short = vectors::line_of(n, map);
+    let short = vectors::line_of(n, s.map);
     let line = short.vector;
-    let across = vectors::image_of(place, line);
+    let across = vectors::image_of(n.place, line);
     let stationary = zero2(across);
     let way = way_of(s, across, stationary);
-    let pass = vectors::image_of(map, increment);
+    let pass = vectors::image_of(s.map, g.increment);
     Flow {
         nest: n,
         stream: s,
-        line: line,
+        line,
         divisor: short.divisor,
         hop: hop_of(n, line, stationary),
-        space: space,
-        elements: numbering::extent_of(n, map),
-        way: way,
+        space: g.space,
+        elements: numbering::extent_of(n, s.map),
+        way,
         back: vectors::opposite(way),
-        pass: pass,
+        pass,
         against: vectors::opposite(pass),
-        step: counting::stride_of(space, way),
+        step: counting::stride_of(g.space, way),
         moving: !stationary,
         turned: backward(way),
     }
@@ -223,13 +214,9 @@ fn flows_of(d: Description, g: Ground) -> [Flow; STREAMS]
     requires { (Ranged d) × (GroundOf d.nest g) }
     ensures { FlowsOf d result }
 {
-    let n = d.nest;
-    let m = d.sizes.streams as usize;
     let mut out = [no_flow(); STREAMS];
-    let mut i: usize = 0;
-    while i < m {
-        out[i] = flow_of(n, g, decode::stream(d, i));
-        i += 1;
+    for i in 0..d.sizes.streams as usize {
+        out[i] = flow_of(d.nest, g, decode::stream(d, i));
     }
     out
 }
@@ -239,8 +226,7 @@ pub fn flow_at(v: Survey, i: usize) -> Flow
     requires { i < 6 }
     ensures { result ≡ get_or v.flows i no_flow }
 {
-    let all = v.flows;
-    all[i]
+    v.flows[i]
 }
 
 // ---- a description
@@ -250,34 +236,10 @@ pub fn survey_of(d: Description) -> Survey
     requires { (Ranged d) × (length (streams_of d) ≡ d.sizes.streams) }
     ensures { (result.description ≡ d) × (Surveyed result) }
 {
-    let n = d.nest;
-    let g = ground_of(n);
+    let ground = ground_of(d.nest);
     Survey {
-        refusal: 0,
         description: d,
-        ground: g,
-        flows: flows_of(d, g),
-    }
-}
-
-// The survey of bytes that may not: their refusal, and nothing besides.
-pub fn refused(refusal: u32) -> Survey
-    ensures { result.refusal ≡ refusal }
-{
-    let zero2 = V2 { a: 0, b: 0 };
-    Survey {
-        refusal: refusal,
-        description: decode::no_description(),
-        ground: Ground {
-            instances: 0,
-            processes: 0,
-            increment: V3 { x: 0, y: 0, z: 0 },
-            divisor: 0,
-            space: Extent {
-                lo: zero2,
-                hi: zero2,
-            },
-        },
-        flows: [no_flow(); STREAMS],
+        ground,
+        flows: flows_of(d, ground),
     }
 }

@@ -3,11 +3,10 @@
 
 #![tactic(auto)]
 
-ghost use Rattle.std.specs.Prelude.{◌≡◌, [], ◌∷◌};
-ghost use Rattle.meaning.specs.Tests.{◌if◌, refusal};
+ghost use Rattle.std.specs.Prelude.{◌≡◌, IfOk, OnErr};
+ghost use Rattle.refusals.specs.Numbers.{refusal_number};
+ghost use Rattle.meaning.specs.Tests.{refusal};
 ghost use Rattle.meaning.specs.Limits.{limits_of, gauge_limits, UpTo};
-ghost use Rattle.meaning.specs.Accept.{refused33};
-ghost use Rattle.meaning.specs.Calls.{or_else};
 ghost use Rattle.meaning.specs.Walk.{walk_refusal};
 ghost use Rattle.survey.specs.Stages.{early_tests};
 ghost use Rattle.survey.specs.Surveys.{SurveyOf};
@@ -16,77 +15,50 @@ ghost use Rattle.walk.specs.Walked.{Along};
 
 use layout::SPANS;
 use meaning::Limits;
+use refusals::Refusal;
 use survey::Survey;
 use walk::WALK;
 
-// Refusal 33: another board word than 0 and 1.
-fn board_refusal(limits: Limits) -> u32
-    ensures { result ≡ refusal ((33 if refused33 limits) ∷ []) }
+// The first of the refusals 33 and 1 to 5 that applies; 33 is another board word than 0 and 1.
+fn early_refusal(s: &[u8], limits: Limits) -> Result<(), Refusal>
+    ensures { refusal_number result ≡ refusal (early_tests limits s.now) }
 {
-    if 1 < limits.board { 33 } else { 0 }
-}
-
-// The first of two refusals.
-fn first_of(first: u32, second: u32) -> u32
-    ensures { result ≡ or_else first second }
-{
-    if first == 0 { second } else { first }
-}
-
-// The first of the refusals 33 and 1 to 5 that applies, 0 if none does.
-fn early_refusal(s: &[u8], limits: Limits) -> u32
-    ensures { result ≡ refusal (early_tests limits s.now) }
-{
-    let board = board_refusal(limits);
-    let words = refuse_words::refusal(s);
-    first_of(board, words)
-}
-
-// The survey of a description, with the first of the refusals 33 and 1 to 10 that applies, 0 if none does.
-fn nest_survey(s: &[u8], limits: Limits) -> Survey
-    ensures { (result.refusal ≡ walk_refusal limits s.now) × (result.refusal ≡ 0 → SurveyOf s.now result) }
-{
-    let early = early_refusal(s, limits);
-    if early == 0 {
-        let mut v = survey::survey_of(decode::description(s));
-        let n = v.description.nest;
-        let g = v.ground;
-        v.refusal = refuse_nest::nest_refusal(n, g, limits);
-        v
-    } else {
-        survey::refused(early)
+    if 1 < limits.board {
+        return Err(Refusal::Board);
     }
+    refuse_words::refusal(s)
 }
 
-// The same; if there is no such refusal, the words of the processes are filled, else they stay.
-pub fn survey_within(s: &[u8], limits: Limits, spans: &mut [u32; SPANS]) -> Survey
+// The survey of a description, or the first of the refusals 33 and 1 to 10 that applies.
+fn nest_survey(s: &[u8], limits: Limits) -> Result<Survey, Refusal>
+    ensures number { refusal_number result ≡ walk_refusal limits s.now }
+    ensures surveyed { IfOk result (λ v. SurveyOf s.now v) }
+{
+    early_refusal(s, limits)?;
+    let v = survey::survey_of(decode::description(s));
+    refuse_nest::nest_refusal(v.description.nest, v.ground, limits)?;
+    Ok(v)
+}
+
+// The same; the words of the processes are filled where there is no such refusal, else they stay.
+pub fn survey_within(s: &[u8], limits: Limits, spans: &mut [u32; SPANS]) -> Result<Survey, Refusal>
     requires { UpTo limits gauge_limits }
-    ensures { (result.refusal ≡ walk_refusal limits s.now)
-        × (result.refusal ≡ 0 → (SurveyOf s.now result) × (Spans result.description.nest spans.new))
-        × ((result.refusal ≡ 0 → ⊥) → spans.new ≡ spans.old) }
+    ensures number { refusal_number result ≡ walk_refusal limits s.now }
+    ensures surveyed { IfOk result (λ v. (SurveyOf s.now v) × (Spans v.description.nest spans.new)) }
+    ensures kept { OnErr result (spans.new ≡ spans.old) }
 {
-    let v = nest_survey(s, limits);
-    let refusal = v.refusal;
-    if refusal == 0 {
-        let n = v.description.nest;
-        let g = v.ground;
-        layout::fill_processes(n, g, spans);
-    }
-    v
+    let v = nest_survey(s, limits)?;
+    layout::fill_processes(v.description.nest, v.ground, spans);
+    Ok(v)
 }
 
 // The same on a board, and so of the words of the walk.
-pub fn walk_of(board: u32, s: &[u8], spans: &mut [u32; SPANS], walk: &mut [i8; WALK]) -> Survey
-    ensures { (result.refusal ≡ walk_refusal (limits_of board) s.now)
-        × (result.refusal ≡ 0 → (SurveyOf s.now result) × (Spans result.description.nest spans.new)
-        × (Along result.description.nest walk.new))
-        × ((result.refusal ≡ 0 → ⊥) → (spans.new ≡ spans.old) × (walk.new ≡ walk.old)) }
+pub fn walk_of(board: u32, s: &[u8], spans: &mut [u32; SPANS], walk: &mut [i8; WALK]) -> Result<Survey, Refusal>
+    ensures number { refusal_number result ≡ walk_refusal (limits_of board) s.now }
+    ensures surveyed { IfOk result (λ v. (SurveyOf s.now v) × (Spans v.description.nest spans.new) × (Along v.description.nest walk.new)) }
+    ensures kept { OnErr result ((spans.new ≡ spans.old) × (walk.new ≡ walk.old)) }
 {
-    let v = survey_within(s, boards::limits_of(board), spans);
-    if v.refusal == 0 {
-        let n = v.description.nest;
-        let g = v.ground;
-        walk::fill_walk(n, g, spans, walk);
-    }
-    v
+    let v = survey_within(s, boards::limits_of(board), spans)?;
+    walk::fill_walk(v.description.nest, v.ground, spans, walk);
+    Ok(v)
 }

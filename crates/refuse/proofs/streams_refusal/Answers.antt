@@ -3,6 +3,8 @@ use mathlib.Core.Path.{◌≡◌, refl, sym, ◌∙◌, ap₂, subst}
 use mathlib.Core.Bool.{Bool}
 use Prim.Native.Nat.{ℕ}
 use native.Mathlib.Omega.{arith}
+use Rattle.refusals.specs.declared.Refusal.{Refusal}
+use Rattle.refusals.specs.Numbers.{number_of, refusal_number, number-positive}
 use Rattle.meaning.specs.declared.Limits.{Limits}
 use Rattle.meaning.specs.declared.Nest.{Nest}
 use Rattle.meaning.specs.declared.Stream.{Stream}
@@ -22,8 +24,8 @@ loop-i-init c = refl
 pub flow_at-f-requires : goal.flow_at-f-requires
 flow_at-f-requires c = omega (arith, c.loop-i-test.true, c.requires.0.sized.most_streams)
 
-pub stream_refusal-r-requires : goal.stream_refusal-r-requires
-stream_refusal-r-requires c =
+pub stream_refusal-requires : goal.stream_refusal-requires
+stream_refusal-requires c =
     let l = c.loop-i in
     let k = flow_is c.requires.1 l.i c.loop-i-test.true c.flow_at-f.ensures in (
       charted (in_range_lem c.requires.0.nest (c.requires.0.streams l.i)) k,
@@ -37,12 +39,20 @@ answered : (l : Limits) {n : Nest} {s : Stream} {f : Flow} {w b : Bool} {r : ℕ
 answered l {w = w} k e h =
     rw e at h ∙ ap₂ (λ (n : Nest) (s : Stream). refusal (stream_tests l n w s)) k.nest_is k.stream_is
 
-pub returns-then-r-ne0 : goal.returns-then-r-ne0
-returns-then-r-ne0 c =
+-- a refusal's number is not 0
+some : (e : Refusal) {n r : ℕ} → number_of e ≡ n → r ≡ n → r ≡ 0 → ⊥
+some e h k z = omega (arith, number-positive e)
+
+pub returns-in_err-stream_refusal : goal.returns-in_err-stream_refusal
+returns-in_err-stream_refusal c =
     let l = c.loop-i in
+    let f = c.flow_at-f.result in
     let k = flow_is c.requires.1 l.i c.loop-i-test.true c.flow_at-f.ensures in
+    let r : refusal_number c.from_residual.result ≡ refusal (stream_tests c.args.limits f.nest c.written.result f.stream)
+        = search rules in
     stream_refused c.args.limits c.args.v.description c.requires.1.in_use l.i
-    c.loop-i-test.true refl (answered c.args.limits k c.written.ensures c.stream_refusal-r.ensures) c.if-r-ne0.true
+    c.loop-i-test.true refl (answered c.args.limits k c.written.ensures r)
+    (some c.in_err-stream_refusal.field-0.0 c.in_err-stream_refusal.ensures r)
     ∙ l.invariant
 
 pub loop-i-preserved : goal.loop-i-preserved
@@ -50,10 +60,10 @@ loop-i-preserved c =
     let l = c.loop-i in
     let k = flow_is c.requires.1 l.i c.loop-i-test.true c.flow_at-f.ensures in
     stream_passed c.args.limits c.args.v.description c.requires.1.in_use l.i
-    c.loop-i-test.true refl (answered c.args.limits k c.written.ensures c.stream_refusal-r.ensures) c.if-r-ne0.false
+    c.loop-i-test.true refl (answered c.args.limits k c.written.ensures c.in_ok-stream_refusal.ensures) refl
     ∙ l.invariant
 
 pub returns : goal.returns
 returns c =
     let l = c.loop-i in
-    streams_end c.args.limits c.args.v.description c.requires.1.in_use l.i (omega (arith, c.loop-i-test.false)) ∙ l.invariant
+    streams_end c.args.limits c.args.v.description c.requires.1.in_use l.i (omega arith) ∙ l.invariant

@@ -12,4 +12,4 @@ pub returns : goal.returns
 returns c =
     let s = c.args.s.now in
     let h = c.survey_within.ensures in
-    (h.0 ∙ ap (λ (l : Limits). refusal_of l s) c.limits_of.ensures.0, h.1)
+    record { number = h.number ∙ ap (λ (l : Limits). refusal_of l s) c.limits_of.ensures.0; surveyed = h.surveyed }

@@ -29,8 +29,8 @@ returns-then-processes_refused c =
     (skips 8 _ (eight c.requires.1 c.still.ensures) c.if-still.false
     (applies 10 _ (ten c.requires.1 c.args.limits c.processes_refused.ensures) c.if-processes_refused.true)))
 
-pub returns-else-processes_refused : goal.returns-else-processes_refused
-returns-else-processes_refused c =
+pub returns : goal.returns
+returns c =
     skips 6 _ (six c.requires.1 c.args.limits c.instances_refused.ensures) c.if-instances_refused.false
     (skips 7 _ (seven c.requires.1 c.low_rank.ensures) c.if-low_rank.false
     (skips 8 _ (eight c.requires.1 c.still.ensures) c.if-still.false

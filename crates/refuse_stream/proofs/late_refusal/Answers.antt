@@ -11,7 +11,7 @@ pub returns-then-elements_refused : goal.returns-then-elements_refused
 returns-then-elements_refused c =
     skips 16 _ c.loading_refused.ensures c.if-loading_refused.false (applies 17 _ c.elements_refused.ensures c.if-elements_refused.true)
 
-pub returns-else-elements_refused : goal.returns-else-elements_refused
-returns-else-elements_refused c =
+pub returns : goal.returns
+returns c =
     skips 16 _ c.loading_refused.ensures c.if-loading_refused.false
     (skips 17 _ c.elements_refused.ensures c.if-elements_refused.false accepts)

@@ -11,8 +11,8 @@ pub returns-then-line_refused : goal.returns-then-line_refused
 returns-then-line_refused c =
     skips 11 _ c.rank_refused.ensures c.if-rank_refused.false (applies 12 _ c.line_refused.ensures c.if-line_refused.true)
 
-pub returns-else-line_refused : goal.returns-else-line_refused
-returns-else-line_refused c =
+pub returns : goal.returns
+returns c =
     let x = c.args in
     skips 11 _ c.rank_refused.ensures c.if-rank_refused.false
     (skips 12 (move_tests x.limits x.f.nest x.written x.f.stream) c.line_refused.ensures c.if-line_refused.false

@@ -14,7 +14,7 @@ returns-then-bound_refused c =
     passes 4 _ (sym c.word_refused.ensures ∙ c.if-word_refused.false)
     (refuses 5 _ (sym (c.bound_refused.ensures ∙ ap refused5 c.nest.ensures) ∙ c.if-bound_refused.true))
 
-pub returns-else-bound_refused : goal.returns-else-bound_refused
-returns-else-bound_refused c =
+pub returns : goal.returns
+returns c =
     passes 4 _ (sym c.word_refused.ensures ∙ c.if-word_refused.false)
     (passes 5 _ (sym (c.bound_refused.ensures ∙ ap refused5 c.nest.ensures) ∙ c.if-bound_refused.false) accepts)

@@ -13,7 +13,7 @@ use borrow.Author.Rules.{rules}
 use Rattle.survey.proofs.flows_of.Goals as goal
 
 pub loop-i-init : goal.loop-i-init
-loop-i-init c = (omega arith, refl, λ i l. absurd (omega arith))
+loop-i-init c = (refl, λ i l. absurd (omega arith))
 
 pub flow_of-requires : goal.flow_of-requires
 flow_of-requires c =
@@ -32,20 +32,16 @@ offset_bounds-out-i c = record { fits = omega (arith, stream_lt c) }
 pub bounds-out-i : goal.bounds-out-i
 bounds-out-i c = omega (arith, stream_lt c)
 
-pub overflow_add-i : goal.overflow_add-i
-overflow_add-i c = record { fits = omega (arith, stream_lt c) }
-
 pub loop-i-preserved : goal.loop-i-preserved
 loop-i-preserved c =
     let l = c.loop-i in
     let t = c.loop-i-test.true in
     let d = c.args.d in (
-      omega (arith, t),
-      simp length-set l.invariant.1,
+      simp length-set l.invariant.0,
       known_next (λ (k : ℕ) (f : Flow). FlowOf d.nest (get_or d.streams k no_stream) f) no_flow l.out
-          (omega (arith, t, l.invariant.1, c.requires.0.sized.most_streams)) l.invariant.2
+          (omega (arith, t, l.invariant.0, c.requires.0.sized.most_streams)) l.invariant.1
           (subst (λ (r : Stream). FlowOf d.nest r c.flow_of.result) c.stream.ensures c.flow_of.ensures),
     )
 
 pub returns : goal.returns
-returns c i h = c.loop-i.invariant.2 i (omega (arith, c.loop-i-test.false, h))
+returns c i h = c.loop-i.invariant.1 i (omega (arith, h))

@@ -3,13 +3,13 @@ use mathlib.Core.Path.{refl}
 use Rattle.survey.specs.InRange.{nest_bounded}
 use Rattle.survey.proofs.survey_of.Goals as goal
 
-pub ground_of-g-requires : goal.ground_of-g-requires
-ground_of-g-requires c = nest_bounded c.requires.0.nest
+pub ground_of-ground-requires : goal.ground_of-ground-requires
+ground_of-ground-requires c = nest_bounded c.requires.0.nest
 
 pub flows_of-requires : goal.flows_of-requires
-flows_of-requires c = (c.requires.0, c.ground_of-g.ensures)
+flows_of-requires c = (c.requires.0, c.ground_of-ground.ensures)
 
 pub returns : goal.returns
 returns c =
     let p = c.requires in
-    (refl, record { in_use = p.1; ground = c.ground_of-g.ensures; flow = c.flows_of.ensures })
+    (refl, record { in_use = p.1; ground = c.ground_of-ground.ensures; flow = c.flows_of.ensures })

@@ -1,9 +1,12 @@
 -- `walkable::early_refusal` meets its contract. Assumes nothing.
-use Rattle.survey.specs.Stages.{early}
+use native.Mathlib.Omega.{arith}
+use borrow.Author.Tests.{lt-ltb, le-ltb}
+use Rattle.decode.specs.Refusals.{refuses, passes}
 use borrow.Author.Rules.{rules}
 use Rattle.walkable.proofs.early_refusal.Goals as goal
 
+pub returns-then-limits-gt1 : goal.returns-then-limits-gt1
+returns-then-limits-gt1 c = refuses 33 _ (lt-ltb 1 c.args.limits.board (omega arith))
+
 pub returns : goal.returns
-returns c =
-    let a = c.args in
-    early a.limits a.s.now c.first_of.ensures c.board_refusal-board.ensures c.refusal-words.ensures
+returns c = passes 33 _ (le-ltb 1 c.args.limits.board (omega arith)) c.refusal.ensures

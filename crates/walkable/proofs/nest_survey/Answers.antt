@@ -1,16 +1,19 @@
--- `walkable::nest_survey` meets its contract: the tests of the loops count only where 33 and 1 to 5 give 0, and then the words are in
--- range. Assumes nothing.
-use mathlib.Core.Path.{◌≡◌, sym, ◌∙◌, ap, subst}
+-- `walkable::nest_survey` meets its contract: the tests of the loops count only where none of 33 and 1 to 5 applies, and then the words are
+-- in range. Assumes nothing.
+use mathlib.Core.Path.{◌≡◌, refl, sym, ◌∙◌, ap, subst}
 use mathlib.Core.List.{List}
+use native.Mathlib.Omega.{arith}
+use Rattle.refusals.specs.declared.Refusal.{Refusal}
+use Rattle.refusals.specs.Numbers.{number_of, refusal_number, number-positive}
 use Prim.Native.Nat.{ℕ}
 use Rattle.meaning.specs.declared.Limits.{Limits}
 use Rattle.meaning.specs.declared.Description.{Description}
 use Rattle.meaning.specs.Tests.{refusal}
 use Rattle.meaning.specs.Description.{description_of}
+use Rattle.meaning.specs.Walk.{walk_refusal}
 use Rattle.geometry.specs.Tests.{numbered}
 use Rattle.numbering.specs.Ranges.{Bounded}
 use Rattle.survey.specs.InRange.{nest_bounded}
-use Rattle.decode.specs.Ranged.{Decoded}
 use Rattle.survey.specs.Accepted.{early_decoded}
 use Rattle.survey.specs.Surveys.{Surveyed, SurveyOf, may_survey}
 use Rattle.survey.specs.declared.Survey.{Survey}
@@ -18,18 +21,11 @@ use Rattle.survey.specs.Stages.{layout_tests, early_tests, walk_tests_lem, goes_
 use borrow.Author.Rules.{rules}
 use Rattle.walkable.proofs.nest_survey.Goals as goal
 
--- the words are in range
-may_decode : (l : Limits) (s : List ℕ) {early : ℕ} → early ≡ refusal (early_tests l s) → early ≡ 0 → Decoded s
-may_decode l s e z = early_decoded l s (sym e ∙ z)
-
 pub description-requires : goal.description-requires
-description-requires c =
-    let a = c.args in (may_decode a.limits a.s.now c.early_refusal-early.ensures c.if-early-eq0.true).sized
+description-requires c = (early_decoded c.args.limits c.args.s.now (sym c.in_ok-early_refusal.ensures)).sized
 
 pub survey_of-v-requires : goal.survey_of-v-requires
-survey_of-v-requires c =
-    let a = c.args in
-    may_survey (may_decode a.limits a.s.now c.early_refusal-early.ensures c.if-early-eq0.true) c.description.ensures
+survey_of-v-requires c = may_survey (early_decoded c.args.limits c.args.s.now (sym c.in_ok-early_refusal.ensures)) c.description.ensures
 
 -- what is surveyed
 survey_is : {s : List ℕ} {d : Description} {v : Survey} → (v.description ≡ d) × (Surveyed v) → d ≡ description_of s → SurveyOf s v
@@ -37,37 +33,43 @@ survey_is h e = record { description_is = h.0 ∙ e; surveyed = h.1 }
 
 pub nest_refusal-requires : goal.nest_refusal-requires
 nest_refusal-requires c =
-    let a = c.args in
     let v = survey_is c.survey_of-v.ensures c.description.ensures in (
       subst (λ (d : Description). Bounded d.nest) (sym v.description_is)
-          (nest_bounded (may_decode a.limits a.s.now c.early_refusal-early.ensures c.if-early-eq0.true).ranged.nest),
+          (nest_bounded (early_decoded c.args.limits c.args.s.now (sym c.in_ok-early_refusal.ensures)).ranged.nest),
       v.surveyed.ground,
     )
 
-pub returns-then-early-eq0 : goal.returns-then-early-eq0
+-- the tests of the loops after those before them, by the refusal of the loops
+loops : (l : Limits) (s : List ℕ) {v : Survey} {r : ℕ} → 0 ≡ refusal (early_tests l s) → SurveyOf s v
+    → r ≡ refusal (layout_tests l v.description.nest) → r ≡ walk_refusal l s
 unfolding numbered
-returns-then-early-eq0 c =
-    let v = survey_is c.survey_of-v.ensures c.description.ensures in
-    let a = c.args in
-    let l = a.limits in
-    let s = a.s.now in (
-      goes_on (early_tests l s) (layout_tests l (description_of s).nest) tt c.early_refusal-early.ensures
-          c.if-early-eq0.true
-          (c.nest_refusal.ensures ∙ ap (λ (d : Description). refusal (layout_tests l d.nest)) v.description_is)
-          ∙ walk_tests_lem l s,
-      λ _. record {
-        description_is = v.description_is;
-        surveyed = record { in_use = v.surveyed.in_use; ground = v.surveyed.ground; flow = v.surveyed.flow };
-      },
-    )
+loops l s z v e =
+    goes_on (early_tests l s) (layout_tests l (description_of s).nest) tt z refl
+    (e ∙ ap (λ (d : Description). refusal (layout_tests l d.nest)) v.description_is)
+    ∙ walk_tests_lem l s
 
-pub returns-else-early-eq0 : goal.returns-else-early-eq0
-returns-else-early-eq0 c =
-    let a = c.args in
-    let l = a.limits in
-    let s = a.s.now in (
-      c.refused.ensures
-          ∙ stops (early_tests l s) (layout_tests l (description_of s).nest) c.early_refusal-early.ensures c.if-early-eq0.false
-          ∙ walk_tests_lem l s,
-      λ z. absurd (c.if-early-eq0.false (sym c.refused.ensures ∙ z)),
-    )
+pub returns : goal.returns
+returns c =
+    let v = survey_is c.survey_of-v.ensures c.description.ensures in
+    record {
+      number = loops c.args.limits c.args.s.now c.in_ok-early_refusal.ensures v c.in_ok-nest_refusal.ensures;
+      surveyed = v;
+    }
+
+-- those before them, where one applies
+stopped : (l : Limits) (s : List ℕ) (e : Refusal) {r : ℕ} → number_of e ≡ refusal (early_tests l s) → r ≡ refusal (early_tests l s)
+    → r ≡ walk_refusal l s
+stopped l s e h k =
+    stops (early_tests l s) (layout_tests l (description_of s).nest) k (λ z. omega (arith, number-positive e, h, k, z))
+    ∙ walk_tests_lem l s
+
+pub returns-in_err-early_refusal-clause-number : goal.returns-in_err-early_refusal-clause-number
+returns-in_err-early_refusal-clause-number c =
+    let k : refusal_number c.from_residual.result ≡ refusal (early_tests c.args.limits c.args.s.now) = search rules in
+    stopped c.args.limits c.args.s.now c.in_err-early_refusal.field-0.0 c.in_err-early_refusal.ensures k
+
+pub returns-in_err-nest_refusal-clause-number : goal.returns-in_err-nest_refusal-clause-number
+returns-in_err-nest_refusal-clause-number c =
+    let e : refusal_number c.from_residual-in_err-nest_refusal.result ≡ refusal (layout_tests c.args.limits c.survey_of-v.result.description.nest)
+        = search rules in
+    loops c.args.limits c.args.s.now c.in_ok-early_refusal.ensures (survey_is c.survey_of-v.ensures c.description.ensures) e
