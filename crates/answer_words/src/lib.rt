@@ -104,8 +104,8 @@ pub fn put_values<T: Values<N>, const N: usize>(
     number_of(answer)
 }
 
-// The words of an answer with no values.
-pub fn of_answer(answer: &Result<(), Refusal>) -> Words
+// The words of an answer with no values, or whose values lie elsewhere.
+pub fn of_answer<T>(answer: &Result<T, Refusal>) -> Words
     ensures { result ≡ words_of (refusal_number answer.now) [] }
 {
     Words {
