@@ -1,5 +1,4 @@
-// How the answers of the calls lie in words: the number by which a call declines, 0 if it does not, and then its values, at most two, 0
-// where there are none.
+// How the answers of the calls lie in words: the number by which a call declines, 0 if it does not, and then its values.
 //
 // specs/, by file, all by `Answers` of meaning:
 //
@@ -8,15 +7,14 @@
 
 #![tactic(auto)]
 
-ghost use Rattle.std.specs.Prelude.{◌≡◌, [], ◌∷◌, set};
-ghost use Rattle.meaning.specs.Answers.{accept_number, accept_values, answer_number, ran_number, ran_values, ready_number, ready_values};
-ghost use Rattle.meaning.specs.Answers.{made_number, made_values};
-ghost use Rattle.answer_words.specs.Words.{of_answer, of_ran, of_readiness, noted};
-ghost use Rattle.answer_words.specs.Kept.{or_kept};
+ghost use Rattle.std.specs.Prelude.{◌≡◌, List, [], ◌∷◌, ℕ, set};
+ghost use Rattle.refusals.specs.Numbers.{refusal_number};
+ghost use Rattle.answer_words.specs.Words.{words_of, left, figure_words, ran_words, ready_words, made_words, noted};
 
-use meaning::{Acceptance, Answer, Divisors, Figures, Made, Ran, Readiness};
+use meaning::{Divisors, Figures, Ran, Readiness};
+use refusals::Refusal;
 
-// An answer in words.
+// An answer in words: its number, and its first two values, 0 where there are none.
 #[derive(Clone, Copy)]
 pub struct Words {
     pub number: u32,
@@ -24,19 +22,91 @@ pub struct Words {
     pub second: u32,
 }
 
-// The number by which a call declines, 0 if it does not.
-pub fn number_of(answer: Answer) -> u32
-    ensures { result ≡ answer_number answer }
-{
-    match answer {
-        Answer::Done => 0,
-        Answer::Refused(number) => number,
+// What a call answers where it does not decline, in N words.
+pub trait Values<const N: usize> {
+    ghost words: { Self → List ℕ };
+
+    fn words(&self) -> [u32; N]
+        ensures { result ≡ words self.now };
+}
+
+// Of Accept: the six figures and the divisors of place and of the six streams.
+impl Values<13> for (Figures, Divisors) {
+    ghost words = { figure_words };
+
+    fn words(&self) -> [u32; 13] {
+        let (f, g) = *self;
+        [
+            f.processes,
+            f.instances,
+            f.elements,
+            f.pipes,
+            f.words,
+            f.steps,
+            g.place,
+            g.stream0,
+            g.stream1,
+            g.stream2,
+            g.stream3,
+            g.stream4,
+            g.stream5,
+        ]
     }
 }
 
-// Of Table, Start, Step, Result, Plain run and Fill.
-pub fn of_answer(answer: Answer) -> Words
-    ensures { result ≡ of_answer answer }
+// Of Run: the steps done, and 1 if any is ready, 0 if none.
+impl Values<2> for Ran {
+    ghost words = { ran_words };
+
+    fn words(&self) -> [u32; 2] {
+        [self.steps, u32::from(self.ready)]
+    }
+}
+
+// Of Ready: how many processes can take, fire or give, and the lowest.
+impl Values<2> for Readiness {
+    ghost words = { ready_words };
+
+    fn words(&self) -> [u32; 2] {
+        [self.count, self.lowest]
+    }
+}
+
+// Of Make: the number of bytes.
+impl Values<1> for u32 {
+    ghost words = { made_words };
+
+    fn words(&self) -> [u32; 1] {
+        [*self]
+    }
+}
+
+// The number by which a call declines, 0 if it does not.
+pub fn number_of<T>(answer: &Result<T, Refusal>) -> u32
+    ensures { result ≡ refusal_number answer.now }
+{
+    match answer {
+        Ok(_) => 0,
+        Err(refusal) => refusal.number(),
+    }
+}
+
+// The same, and the values in lent words; these stay where the call declines.
+pub fn put_values<T: Values<N>, const N: usize>(
+    answer: &Result<T, Refusal>,
+    words: &mut [u32; N],
+) -> u32
+    ensures { (result ≡ refusal_number answer.now) × (words.new ≡ left T.words answer.now words.old) }
+{
+    if let Ok(values) = answer {
+        *words = values.words();
+    }
+    number_of(answer)
+}
+
+// The words of an answer with no values, or whose values lie elsewhere.
+pub fn of_answer<T>(answer: &Result<T, Refusal>) -> Words
+    ensures { result ≡ words_of (refusal_number answer.now) [] }
 {
     Words {
         number: number_of(answer),
@@ -45,39 +115,16 @@ pub fn of_answer(answer: Answer) -> Words
     }
 }
 
-// Of Run: the steps done, and 1 if any is ready, 0 if none.
-pub fn of_ran(answer: Ran) -> Words
-    ensures { result ≡ of_ran answer }
+// Those of an answer with two.
+pub fn of_values<T: Values<2>>(answer: &Result<T, Refusal>) -> Words
+    ensures { result ≡ words_of (refusal_number answer.now) (left T.words answer.now (0 ∷ 0 ∷ [])) }
 {
-    match answer {
-        Ran::Ran { steps, ready } => Words {
-            number: 0,
-            first: steps,
-            second: words::flag(ready),
-        },
-        Ran::Refused(number) => Words {
-            number: number,
-            first: 0,
-            second: 0,
-        },
-    }
-}
-
-// Of Ready: how many processes can take, fire or give, and the lowest.
-pub fn of_readiness(answer: Readiness) -> Words
-    ensures { result ≡ of_readiness answer }
-{
-    match answer {
-        Readiness::Ready { count, lowest } => Words {
-            number: 0,
-            first: count,
-            second: lowest,
-        },
-        Readiness::Refused(number) => Words {
-            number: number,
-            first: 0,
-            second: 0,
-        },
+    let mut values = [0; 2];
+    let number = put_values(answer, &mut values);
+    Words {
+        number,
+        first: values[0],
+        second: values[1],
     }
 }
 
@@ -98,80 +145,5 @@ pub fn note(list: &mut [u32], k: usize, words: Words)
         put(list, 3 * k, words.number);
         put(list, 3 * k + 1, words.first);
         put(list, 3 * k + 2, words.second);
-    }
-}
-
-// ---- values in lent words, and the number by which a call declines; then they stay
-
-fn put_figures(f: Figures, g: Divisors, figures: &mut [u32; 13])
-    ensures { figures.new ≡ f.processes ∷ f.instances ∷ f.elements ∷ f.pipes ∷ f.words ∷ f.steps
-        ∷ g.place ∷ g.stream0 ∷ g.stream1 ∷ g.stream2 ∷ g.stream3 ∷ g.stream4 ∷ g.stream5 ∷ [] }
-{
-    *figures = [
-        f.processes,
-        f.instances,
-        f.elements,
-        f.pipes,
-        f.words,
-        f.steps,
-        g.place,
-        g.stream0,
-        g.stream1,
-        g.stream2,
-        g.stream3,
-        g.stream4,
-        g.stream5,
-    ];
-}
-
-// Of Accept: the six figures and the divisors of place and of the six streams.
-pub fn put_acceptance(answer: Acceptance, figures: &mut [u32; 13]) -> u32
-    ensures { (result ≡ accept_number answer) × (figures.new ≡ or_kept (accept_values answer) figures.old) }
-{
-    match answer {
-        Acceptance::Accepted(f, g) => {
-            put_figures(f, g, figures);
-            0
-        }
-        Acceptance::Refused(number) => number,
-    }
-}
-
-// Of Run: the steps done, and 1 if any is ready, 0 if none.
-pub fn put_ran(answer: Ran, words: &mut [u32; 2]) -> u32
-    ensures { (result ≡ ran_number answer) × (words.new ≡ or_kept (ran_values answer) words.old) }
-{
-    match answer {
-        Ran::Ran { steps, ready } => {
-            *words = [steps, words::flag(ready)];
-            0
-        }
-        Ran::Refused(number) => number,
-    }
-}
-
-// Of Ready: how many processes can take, fire or give, and the lowest.
-pub fn put_readiness(answer: Readiness, words: &mut [u32; 2]) -> u32
-    ensures { (result ≡ ready_number answer) × (words.new ≡ or_kept (ready_values answer) words.old) }
-{
-    match answer {
-        Readiness::Ready { count, lowest } => {
-            *words = [count, lowest];
-            0
-        }
-        Readiness::Refused(number) => number,
-    }
-}
-
-// Of Make: the number of bytes.
-pub fn put_made(answer: Made, words: &mut [u32; 1]) -> u32
-    ensures { (result ≡ made_number answer) × (words.new ≡ or_kept (made_values answer) words.old) }
-{
-    match answer {
-        Made::Made { bytes } => {
-            *words = [bytes];
-            0
-        }
-        Made::Refused(number) => number,
     }
 }

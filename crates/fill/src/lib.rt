@@ -8,19 +8,21 @@
 
 ghost use Rattle.std.specs.Prelude.{◌≡◌, suc, ◌≤◌, length};
 ghost use Rattle.integers.specs.Fill.{fill_by};
+ghost use Rattle.refusals.specs.Numbers.{refusal_number, numbered};
 ghost use Rattle.meaning.specs.Tests.{refusal};
 ghost use Rattle.meaning.specs.Generator.{after, fill_tests, fill};
 
-use meaning::Answer;
+use refusals::Refusal;
 
-// 29 for seed zero, then 31 for a list that is short; 0 if neither applies.
-fn refusal(seed: u32, n: usize, list: &[u32]) -> u32
-    ensures { result ≡ refusal (fill_tests seed n list.now) }
+// 29 for seed zero, then 31 for a list that is short.
+#[tactic(auto, unfolding(meaning::specs::Tests::refusal))]
+fn refusal(seed: u32, n: usize, list: &[u32]) -> Result<(), Refusal>
+    ensures { refusal_number result ≡ refusal (fill_tests seed n list.now) }
 {
     if seed == 0 {
-        return 29;
+        return Err(Refusal::Seed);
     }
-    if list.len() < n { 31 } else { 0 }
+    if list.len() < n { Err(Refusal::Room) } else { Ok(()) }
 }
 
 // The states after rounds 1, 2 and so on.
@@ -29,24 +31,18 @@ fn fill_places(seed: u32, n: usize, list: &mut [u32])
     ensures { list.new ≡ fill_by (λ i. after (suc i) seed) n list.old }
 {
     let mut state = seed;
-    let mut i: usize = 0;
-    while i < n {
+    for i in 0..n {
         let next = generator::next(state);
         list[i] = next;
         state = next;
-        i += 1;
     }
 }
 
 // Fill: the first n places; the rest stays.
-pub fn fill(seed: u32, n: usize, list: &mut [u32]) -> Answer
-    ensures { (result ≡ (fill seed n list.old).answer) × (list.new ≡ (fill seed n list.old).list) }
+pub fn fill(seed: u32, n: usize, list: &mut [u32]) -> Result<(), Refusal>
+    ensures { (numbered result ≡ (fill seed n list.old).answer) × (list.new ≡ (fill seed n list.old).list) }
 {
-    let r = refusal(seed, n, list);
-    if r == 0 {
-        fill_places(seed, n, list);
-        Answer::Done
-    } else {
-        Answer::Refused(r)
-    }
+    refusal(seed, n, list)?;
+    fill_places(seed, n, list);
+    Ok(())
 }

@@ -12,6 +12,7 @@
 ghost use Rattle.std.specs.Prelude.{◌≡◌, ◌+◌, ◌*◌, ◌≤◌, length};
 ghost use Rattle.std.specs.Int.{w32};
 ghost use Rattle.std.proofs.Common.{of_z};
+ghost use Rattle.refusals.specs.Numbers.{refusal_number, numbered};
 ghost use Rattle.meaning.specs.Tests.{refusal};
 ghost use Rattle.meaning.specs.Description.{bytes_of, words_of};
 ghost use Rattle.meaning.specs.Generator.{size_of, drawn_from, drawn_direction, drawn, made_words, make_tests, make};
@@ -20,7 +21,8 @@ ghost use Rattle.decode.specs.Offsets.{Sized};
 ghost use Rattle.make.specs.Words.{words_to};
 ghost use Rattle.make.specs.Ranges.{Drawable};
 
-use meaning::{Made, Range, Sizes};
+use meaning::{Range, Sizes};
+use refusals::Refusal;
 
 // ---- words drawn
 
@@ -101,46 +103,37 @@ fn put_words(seed: u32, z: Sizes, out: &mut [u8])
     put_sizes(z, out);
     let words = decode::line_at(z, z.lines);
     let mut state = seed;
-    let mut k: u32 = 3;
-    while k < words {
+    for k in 3..words {
         let next = generator::next(state);
         put_word(out, k, bits_drawn(z, k, next));
         state = next;
-        k += 1;
     }
 }
 
 // ---- the call
 
-// 29 for seed zero, then 30 for the sizes, then 31 for an output that is short; 0 if none applies.
-fn refusal(seed: u32, z: Sizes, out: &[u8]) -> u32
-    ensures { result ≡ refusal (make_tests seed z out.now) }
+// 29 for seed zero, then 30 for the sizes, then 31 for an output that is short.
+fn refusal(seed: u32, z: Sizes, out: &[u8]) -> Result<(), Refusal>
+    ensures { refusal_number result ≡ refusal (make_tests seed z out.now) }
 {
     if seed == 0 {
-        return 29;
+        return Err(Refusal::Seed);
     }
     if word_ranges::size_refused(z) {
-        return 30;
+        return Err(Refusal::Made);
     }
     let words = decode::line_at(z, z.lines);
     if out.len() < 4 * words as usize {
-        31
-    } else {
-        0
+        return Err(Refusal::Room);
     }
+    Ok(())
 }
 
-// Make: a description of these sizes; what stands behind it stays.
-pub fn make(seed: u32, z: Sizes, out: &mut [u8]) -> Made
-    ensures { (result ≡ (make seed z out.old).answer) × (out.new ≡ (make seed z out.old).output) }
+// Make: a description of these sizes; what stands behind it stays. Its answer is the number of bytes.
+pub fn make(seed: u32, z: Sizes, out: &mut [u8]) -> Result<u32, Refusal>
+    ensures { (numbered result ≡ (make seed z out.old).answer) × (out.new ≡ (make seed z out.old).output) }
 {
-    let r = refusal(seed, z, out);
-    if r == 0 {
-        put_words(seed, z, out);
-        Made::Made {
-            bytes: 4 * decode::line_at(z, z.lines),
-        }
-    } else {
-        Made::Refused(r)
-    }
+    refusal(seed, z, out)?;
+    put_words(seed, z, out);
+    Ok(4 * decode::line_at(z, z.lines))
 }

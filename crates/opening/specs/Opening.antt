@@ -21,7 +21,7 @@ use Rattle.geometry.specs.Processes.{run_at}
 use Rattle.addresses.specs.Through.{point_of}
 use Rattle.decode.specs.Refusals.{passed}
 use Rattle.declines.specs.Tests.{memory_lengths, memory_fits}
-use Rattle.figures.specs.Shares.{Described, described}
+use Rattle.figures.specs.Shares.{Described, AllLanes, described}
 use Rattle.survey.specs.declared.Survey.{Survey}
 use Rattle.survey.specs.Surveys.{SurveyOf}
 use Rattle.layout.specs.Spans.{Spans}
@@ -103,21 +103,22 @@ pub record Stood (d : Description) (M : Memory) (b : List ℕ) (z : Size) : Type
   pub state : state_length d ≤ length M.state
   pub sound : sound (array_of d) M.state ≡ true
 
-pub record Opens (d : Description) (M : Memory) (b : List ℕ) (r : Opening) : Type 0 where
-  pub refused : r.refusal ≡ refusal (memory_tests d M)
-  pub stood : r.refusal ≡ 0 → Stood d M b r.size
+-- the memory of a surveyed description: the survey is handed on, and the lanes are filled
+pub record Opens (v : Survey) (M : Memory) (b w : List ℕ) (o : Opening) : Type 0 where
+  pub survey_is : o.survey ≡ v
+  pub stood : Stood v.description M b o.size
+  pub lanes : AllLanes v.description w
 
 -- by the bytes of a description
 pub record Opened (s : List ℕ) (M : Memory) (b : List ℕ) (z : Size) : Type 0 where
   pub accepted : refusal_of gauge_limits s ≡ 0
   pub stood : Stood (description_of s) M b z
 
--- what an opening answers: the refusal, and, if there is none, the survey, the port table of the array and the words of its processes
-pub record Answered (l : Limits) (s : List ℕ) (M : Memory) (b w : List ℕ) (r : Opening) : Type 0 where
-  pub refused : r.refusal ≡ refused_by l s (memory_tests (description_of s) M)
-  pub opened : r.refusal ≡ 0 → Opened s M b r.size
-  pub survey : r.refusal ≡ 0 → SurveyOf s r.survey
-  pub spans : r.refusal ≡ 0 → Spans (description_of s).nest w
+-- what an opening hands on: the survey, the port table of the array and the words of its processes
+pub record Answered (s : List ℕ) (M : Memory) (b w : List ℕ) (o : Opening) : Type 0 where
+  pub opened : Opened s M b o.size
+  pub survey : SurveyOf s o.survey
+  pub spans : Spans (description_of s).nest w
 
 -- ---- tests one after the other
 
@@ -183,56 +184,50 @@ module _ (d : Description) {f : Figures} (e : f ≡ figures d) where
     lengths_hold z = memory_fits (length_of d) (state_length d) _ _ _ (sym own ∙ z)
 
     -- a length is refused
-    pub lengths_refused : {b : List ℕ} {z : Size} {v : Survey} → (n ≡ 0 → ⊥) → Opens d M b (record { refusal = n; size = z; survey = v })
-    lengths_refused g =
-        let q = ne_eqb n 0 g in
-        record { refused = own_or q; stood = λ h. absurd (g h) }
-      where
-        own_or : eqb n 0 ≡ false → n ≡ refusal (memory_tests d M)
-        own_or q = sym (lengths_first d M ∙ rw (← own, q) refl)
+    pub lengths_refused : (n ≡ 0 → ⊥) → n ≡ refusal (memory_tests d M)
+    lengths_refused g = sym (lengths_first d M ∙ rw (← own, ne_eqb n 0 g) refl)
 
     -- none is: 22 or nothing
-    pub lengths_passed : {k : ℕ} {b : List ℕ} {z : Size} {v : Survey} → n ≡ 0 → z ≡ size_of d → k ≡ refusal (sound_test d M)
-        → PortsOf (array_of d) b → Opens d M b (record { refusal = k; size = z; survey = v })
-    lengths_passed {k} h ze ke table =
-        let l = lengths_hold h in
-        record {
-          refused = ke ∙ sym (lengths_first d M ∙ rw (← own, h) refl);
-          stood = λ g. record {
+    module _ (h : n ≡ 0) where
+      pub lengths_passed : {k : ℕ} → k ≡ refusal (sound_test d M) → k ≡ refusal (memory_tests d M)
+      lengths_passed ke = ke ∙ sym (lengths_first d M ∙ rw (← own, h) refl)
+
+      pub stands_lem : {b : List ℕ} {z : Size} → z ≡ size_of d → 0 ≡ refusal (sound_test d M) → PortsOf (array_of d) b → Stood d M b z
+      stands_lem ze ke table =
+          let l = lengths_hold h in
+          record {
             size = ze;
             table = table;
             waiting = l.0;
             received = l.1;
             state = l.2;
-            sound = not-false _ (passed 22 _ _ (λ g. omega arith) (sym ke ∙ g)).0;
-          };
-        }
+            sound = not-false _ (passed 22 _ _ (λ g. omega arith) (sym ke)).0;
+          }
 
 -- ---- the whole opening
 
-module _ {l : Limits} (u : UpTo l gauge_limits) (s : List ℕ) (M : Memory) {b w : List ℕ} where
-  pub opened : {v : Survey} {r : Opening} → refusal_of l s ≡ 0 → SurveyOf s v → r.survey ≡ v → Opens v.description M b r
-      → Spans v.description.nest w → Answered l s M b w r
-  opened {v} {r} ok h e k laid =
-      let o = subst (λ (d : Description). Opens d M b r) h.description_is k in
+module _ (l : Limits) (s : List ℕ) (M : Memory) where
+  -- the tests of the memory on the description of the bytes
+  abbrev tests : List Test
+  tests = memory_tests (description_of s) M
+
+  pub accepted_number : {n : ℕ} {d : Description} → refusal_of l s ≡ 0 → d ≡ description_of s → n ≡ refusal (memory_tests d M)
+      → n ≡ refused_by l s tests
+  accepted_number ok e h = h ∙ ap (λ (d : Description). refusal (memory_tests d M)) e ∙ rw ok refl
+
+  pub refused_number : {n : ℕ} → n ≡ refusal_of l s → (n ≡ 0 → ⊥) → n ≡ refused_by l s tests
+  refused_number {n} e g = rw (← e, ne_eqb n 0 g) refl
+
+module _ {l : Limits} (u : UpTo l gauge_limits) (s : List ℕ) (M : Memory) {b w lanes : List ℕ} where
+  pub opened : {v : Survey} {o : Opening} → refusal_of l s ≡ 0 → SurveyOf s v → Spans v.description.nest w → Opens v M b lanes o
+      → Answered s M b w o
+  opened {v} {o} ok h laid k =
       record {
-        refused = o.refused ∙ rw ok refl;
-        opened = λ g. record { accepted = by_gauge u s ok; stood = o.stood g };
-        survey = λ _. subst (SurveyOf s) (sym e) h;
-        spans = λ _. subst (λ (d : Description). Spans d.nest w) h.description_is laid;
+        opened = record { accepted = by_gauge u s ok; stood = subst (λ (d : Description). Stood d M b o.size) h.description_is k.stood };
+        survey = subst (SurveyOf s) (sym k.survey_is) h;
+        spans = subst (λ (d : Description). Spans d.nest w) h.description_is laid;
       }
 
-  pub refused : {n : ℕ} {z : Size} {v : Survey} → n ≡ refusal_of l s → (n ≡ 0 → ⊥)
-      → Answered l s M b w (record { refusal = n; size = z; survey = v })
-  refused {n} e g =
-      record {
-        refused = rw (← e, ne_eqb n 0 g) refl;
-        opened = λ h. absurd (g h);
-        survey = λ h. absurd (g h);
-        spans = λ h. absurd (g h);
-      }
-
--- by the limits' value
-pub by_limits : {l l' : Limits} {s : List ℕ} {M : Memory} {b w : List ℕ} {r : Opening} → l ≡ l' → Answered l s M b w r
-    → Answered l' s M b w r
-by_limits {s = s} {M} {b} {w} {r} e = subst (λ (l : Limits). Answered l s M b w r) e
+pub lanes_are : {s : List ℕ} {v : Survey} {M : Memory} {b lanes : List ℕ} {o : Opening} → SurveyOf s v → Opens v M b lanes o
+    → AllLanes (description_of s) lanes
+lanes_are {lanes = lanes} h k = subst (λ (d : Description). AllLanes d lanes) h.description_is k.lanes

@@ -8,12 +8,14 @@
 
 #![tactic(auto)]
 
-ghost use Rattle.std.specs.Prelude.{◌≡◌, not, [], ◌∷◌, ◌≤◌, length, replicate};
+ghost use Rattle.std.specs.Prelude.{◌≡◌, not, [], ◌∷◌, ◌≤◌, length, replicate, IfOk};
+ghost use Rattle.refusals.specs.Numbers.{refusal_number};
 ghost use Rattle.meaning.specs.Tests.{◌if◌, refusal};
 ghost use Rattle.meaning.specs.Limits.{limits_of, gauge_limits, UpTo};
 ghost use Rattle.meaning.specs.Array.{array_of};
 ghost use Rattle.meaning.specs.Rules.{sound, memory_of};
 ghost use Rattle.meaning.specs.Description.{description_of};
+ghost use Rattle.meaning.specs.Calls.{memory_tests, refused_by};
 ghost use Rattle.survey.specs.Surveys.{Surveyed};
 ghost use Rattle.layout.specs.Spans.{Spans, span_words};
 ghost use Rattle.lanes.specs.All.{lane_words};
@@ -25,12 +27,12 @@ use lanes::ALL;
 use layout::SPANS;
 use meaning::{Figures, Limits};
 use port_table::Size;
+use refusals::Refusal;
 use survey::Survey;
 
-// The number of the refusal, 0 for none, the size of the array, and the survey.
+// The size of the array, and the survey.
 #[derive(Clone, Copy)]
 pub struct Opening {
-    pub refusal: u32,
     pub size: Size,
     pub survey: Survey,
 }
@@ -45,7 +47,7 @@ fn size_of(v: Survey, f: Figures) -> Size
     }
 }
 
-// 0, or 22 where the state is not sound by the port table of the array.
+// 22 where the state is not sound by the port table of the array.
 fn sound_refusal(
     v: Survey,
     z: Size,
@@ -53,10 +55,10 @@ fn sound_refusal(
     spans: &[u32],
     lanes: &[u16],
     ports: &mut [u32],
-) -> u32
+) -> Result<(), Refusal>
     requires { (Standing v.description z state.now ports.old) × (Surveyed v) × (Spans v.description.nest spans.now)
         × (span_words ≤ length spans.now) × (AllLanes v.description lanes.now) }
-    ensures { (result ≡ refusal ((22 if not (sound (array_of v.description) state.now)) ∷ []))
+    ensures { (refusal_number result ≡ refusal ((22 if not (sound (array_of v.description) state.now)) ∷ []))
         × (PortsOf (array_of v.description) ports.new) }
 {
     port_fill::fill_ports(v, spans, lanes, ports);
@@ -72,29 +74,17 @@ fn open_accepted(
     spans: &[u32],
     lanes: &mut [u16],
     ports: &mut [u32],
-) -> Opening
+) -> Result<Opening, Refusal>
     requires { (Grounds v.description) × (Surveyed v) × (Spans v.description.nest spans.now) × (span_words ≤ length spans.now)
         × (lanes.old ≡ replicate lane_words 0) × (length ports.old ≡ port_table_words) }
-    ensures { (result.survey ≡ v)
-        × (Opens v.description (memory_of waiting.now received.now state.now) ports.new result)
-        × (AllLanes v.description lanes.new) }
+    ensures number { refusal_number result ≡ refusal (memory_tests v.description (memory_of waiting.now received.now state.now)) }
+    ensures opened { IfOk result (λ o. Opens v (memory_of waiting.now received.now state.now) ports.new lanes.new o) }
 {
     let f = figures::figures_of(v, spans, lanes);
     let z = size_of(v, f);
-    let r = declines::of_memory(f, waiting.len(), received.len(), state.len());
-    if r == 0 {
-        Opening {
-            refusal: sound_refusal(v, z, state, spans, lanes, ports),
-            size: z,
-            survey: v,
-        }
-    } else {
-        Opening {
-            refusal: r,
-            size: z,
-            survey: v,
-        }
-    }
+    declines::of_memory(f, waiting.len(), received.len(), state.len())?;
+    sound_refusal(v, z, state, spans, lanes, ports)?;
+    Ok(Opening { size: z, survey: v })
 }
 
 // All refusals that the four calls share, in their order.
@@ -107,27 +97,15 @@ fn open_within(
     spans: &mut [u32; SPANS],
     lanes: &mut [u16],
     ports: &mut [u32],
-) -> Opening
+) -> Result<Opening, Refusal>
     requires { (UpTo limits gauge_limits) × (lanes.old ≡ replicate lane_words 0) × (length ports.old ≡ port_table_words) }
-    ensures { (Answered limits s.now
-        (memory_of waiting.now received.now state.now) ports.new spans.new result)
-        × (result.refusal ≡ 0 → AllLanes (description_of s.now) lanes.new) }
+    ensures number { refusal_number result ≡ refused_by limits s.now (memory_tests (description_of s.now)
+        (memory_of waiting.now received.now state.now)) }
+    ensures opened { IfOk result (λ o. Answered s.now (memory_of waiting.now received.now state.now) ports.new spans.new o) }
+    ensures lanes { IfOk result (λ o. AllLanes (description_of s.now) lanes.new) }
 {
-    let v = refuse::survey_within(s, limits, spans);
-    let r = v.refusal;
-    if r == 0 {
-        open_accepted(v, waiting, received, state, spans, lanes, ports)
-    } else {
-        Opening {
-            refusal: r,
-            size: Size {
-                processes: 0,
-                streams: 0,
-                pipes: 0,
-            },
-            survey: v,
-        }
-    }
+    let v = refuse::survey_within(s, limits, spans)?;
+    open_accepted(v, waiting, received, state, spans, lanes, ports)
 }
 
 // The same on a board, for a call that goes on with the lanes; their words come as zeros.
@@ -140,11 +118,12 @@ pub fn open_with_lanes(
     spans: &mut [u32; SPANS],
     lanes: &mut [u16],
     ports: &mut [u32],
-) -> Opening
+) -> Result<Opening, Refusal>
     requires { (lanes.old ≡ replicate lane_words 0) × (length ports.old ≡ port_table_words) }
-    ensures { (Answered (limits_of board) s.now
-        (memory_of waiting.now received.now state.now) ports.new spans.new result)
-        × (result.refusal ≡ 0 → AllLanes (description_of s.now) lanes.new) }
+    ensures number { refusal_number result ≡ refused_by (limits_of board) s.now (memory_tests (description_of s.now)
+        (memory_of waiting.now received.now state.now)) }
+    ensures opened { IfOk result (λ o. Answered s.now (memory_of waiting.now received.now state.now) ports.new spans.new o) }
+    ensures lanes { IfOk result (λ o. AllLanes (description_of s.now) lanes.new) }
 {
     let limits = boards::limits_of(board);
     open_within(s, limits, waiting, received, state, spans, lanes, ports)
@@ -159,10 +138,11 @@ pub fn open(
     state: &[u32],
     spans: &mut [u32; SPANS],
     ports: &mut [u32],
-) -> Opening
+) -> Result<Opening, Refusal>
     requires { length ports.old ≡ port_table_words }
-    ensures { Answered (limits_of board) s.now
-        (memory_of waiting.now received.now state.now) ports.new spans.new result }
+    ensures number { refusal_number result ≡ refused_by (limits_of board) s.now (memory_tests (description_of s.now)
+        (memory_of waiting.now received.now state.now)) }
+    ensures opened { IfOk result (λ o. Answered s.now (memory_of waiting.now received.now state.now) ports.new spans.new o) }
 {
     let mut lanes = [0u16; ALL];
     open_with_lanes(board, s, waiting, received, state, spans, &mut lanes, ports)

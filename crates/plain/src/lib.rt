@@ -3,6 +3,7 @@
 #![tactic(auto)]
 
 ghost use Rattle.std.specs.Prelude.{◌≡◌};
+ghost use Rattle.refusals.specs.Numbers.{numbered};
 ghost use Rattle.meaning.specs.Limits.{limits_of};
 ghost use Rattle.meaning.specs.Calls.{plain_run};
 ghost use Rattle.survey.specs.Surveys.{Surveyed};
@@ -10,35 +11,27 @@ ghost use Rattle.written_order.specs.Places.{Fitting};
 ghost use Rattle.plain.specs.Call.{Called};
 
 use layout::SPANS;
-use meaning::Answer;
+use refusals::Refusal;
 use survey::Survey;
 
 // The call on an accepted description.
-fn run_accepted(v: Survey, values: &[u32], output: &mut [u32]) -> Answer
+fn run_accepted(v: Survey, values: &[u32], output: &mut [u32]) -> Result<(), Refusal>
     requires { (Fitting v.description) × (Surveyed v) }
-    ensures { Called v.description values.now output.old result output.new }
+    ensures { Called v.description values.now output.old (numbered result) output.new }
 {
     let e = elements::element_count(v);
-    let r = declines::of_plain(e, values.len(), output.len());
-    if r == 0 {
-        words::store(output, 0, values);
-        written_order::run_loops(v, output);
-        Answer::Done
-    } else {
-        Answer::Refused(r)
-    }
+    declines::of_plain(e, values.len(), output.len())?;
+    output.copy_from_slice(values);
+    written_order::run_loops(v, output);
+    Ok(())
 }
 
 // Plain run: the final values in element order, of the values given in element order.
-pub fn plain_run(board: u32, s: &[u8], values: &[u32], output: &mut [u32]) -> Answer
-    ensures { (result ≡ (plain_run (limits_of board) s.now values.now output.old).answer)
+pub fn plain_run(board: u32, s: &[u8], values: &[u32], output: &mut [u32]) -> Result<(), Refusal>
+    ensures { (numbered result ≡ (plain_run (limits_of board) s.now values.now output.old).answer)
         × (output.new ≡ (plain_run (limits_of board) s.now values.now output.old).output) }
 {
     let mut spans = [0u32; SPANS];
-    let v = refuse::survey_of(board, s, &mut spans);
-    if v.refusal == 0 {
-        run_accepted(v, values, output)
-    } else {
-        Answer::Refused(v.refusal)
-    }
+    let v = refuse::survey_of(board, s, &mut spans)?;
+    run_accepted(v, values, output)
 }

@@ -16,10 +16,9 @@ const DRAINS: usize = SPANS + PROCESSES;
 
 pub const COLUMNS: usize = SPANS + STREAMS * BLOCK;
 
-// What the rows need beside the columns: the refusal, 0 if there is none, the number of rows to fill, the loops and the process space.
+// What the rows need beside the columns: the number of rows to fill, the loops and the process space.
 #[derive(Clone, Copy)]
 pub struct Shape {
-    pub refusal: u32,
     pub rows: usize,
     pub nest: Nest,
     pub space: Extent,

@@ -8,6 +8,7 @@
 #![tactic(auto)]
 
 ghost use Rattle.std.specs.Prelude.{◌≡◌, ◌≤◌, length};
+ghost use Rattle.refusals.specs.Numbers.{numbered};
 ghost use Rattle.meaning.specs.Limits.{limits_of};
 ghost use Rattle.meaning.specs.Rules.{memory_of};
 ghost use Rattle.meaning.specs.Calls.{start};
@@ -20,20 +21,18 @@ ghost use Rattle.start.specs.Call.{started_by, Called, Fitting};
 
 use lanes::ALL;
 use layout::SPANS;
-use meaning::{Answer, ELEMENTS, Figures};
+use meaning::{ELEMENTS, Figures};
+use refusals::Refusal;
 use survey::Survey;
 
 // The values at the places of their elements.
 fn put_values(values: &[u32], places: &[u16], waiting: &mut [u32])
     requires { Puttable values.now places.now waiting.old }
-    ensures { waiting.new
-        ≡ put values.now places.now (length values.now) waiting.old }
+    ensures { waiting.new ≡ put values.now places.now (length values.now) waiting.old }
 {
-    let mut e = 0;
-    while e < values.len() {
+    for e in 0..values.len() {
         let at = places[e] as usize;
         waiting[at] = values[e];
-        e += 1;
     }
 }
 
@@ -69,22 +68,18 @@ fn start_accepted(
     waiting: &mut [u32],
     received: &mut [u32],
     state: &mut [u32],
-) -> Answer
+) -> Result<(), Refusal>
     requires { (Placeable v.description) × (Surveyed v) × (Spans v.description.nest spans.now)
         × (span_words ≤ length spans.now) }
     ensures { Called v.description values.now
-        (memory_of waiting.old received.old state.old) result
+        (memory_of waiting.old received.old state.old) (numbered result)
         (memory_of waiting.new received.new state.new) }
 {
     let mut lanes = [0u16; ALL];
     let f = figures::figures_of(v, spans, &mut lanes);
-    let r = declines::of_start(f, values.len(), waiting.len(), received.len(), state.len());
-    if r == 0 {
-        fill_memory(v, f, spans, &lanes, values, waiting, received, state);
-        Answer::Done
-    } else {
-        Answer::Refused(r)
-    }
+    declines::of_start(f, values.len(), waiting.len(), received.len(), state.len())?;
+    fill_memory(v, f, spans, &lanes, values, waiting, received, state);
+    Ok(())
 }
 
 // START
@@ -95,19 +90,14 @@ pub fn start(
     waiting: &mut [u32],
     received: &mut [u32],
     state: &mut [u32],
-) -> Answer
-    ensures { (result ≡ (start (limits_of board) s.now values.now
+) -> Result<(), Refusal>
+    ensures { (numbered result ≡ (start (limits_of board) s.now values.now
         (memory_of waiting.old received.old state.old)).answer)
         × (memory_of waiting.new received.new state.new
         ≡ (start (limits_of board) s.now values.now
         (memory_of waiting.old received.old state.old)).memory) }
 {
     let mut spans = [0u32; SPANS];
-    let v = refuse::survey_of(board, s, &mut spans);
-    if v.refusal == 0 {
-        let spans = &spans;
-        start_accepted(v, spans, values, waiting, received, state)
-    } else {
-        Answer::Refused(v.refusal)
-    }
+    let v = refuse::survey_of(board, s, &mut spans)?;
+    start_accepted(v, &spans, values, waiting, received, state)
 }

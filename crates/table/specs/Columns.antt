@@ -1,13 +1,12 @@
 -- What the columns hold, and that the rows read off them are document 01's. Assumes nothing.
-use Rattle.std.specs.Prelude.{◌≡◌, Bool, true, false, cond, ℕ, zero, suc, ◌+◌, ◌*◌, ◌-◌, ◌≤◌, ◌<◌, eqb, length, get_or, drop, replicate}
+use Rattle.std.specs.Prelude.{◌≡◌, ℕ, zero, suc, ◌+◌, ◌*◌, ◌-◌, ◌≤◌, ◌<◌, length, get_or, drop, replicate}
 use Rattle.std.proofs.Math.Path.{refl, ap}
-use Rattle.std.proofs.Common.{sym, ◌∙◌, ap₂, subst, arith, length-append, ext_get_or, get_or-append-add, eqb-true}
+use Rattle.std.proofs.Common.{sym, ◌∙◌, ap₂, subst, arith, length-append, ext_get_or, get_or-append-add, ne_eqb}
 use mathlib.Core.List.{List, ◌++◌, map}
 use Rattle.std.proofs.Math.Decide.{dec_le}
 use Rattle.std.proofs.lemmas.List.{length-map, length-replicate, get_or-replicate}
 use Rattle.std.proofs.Math.ListN.{get_or-append}
-use Rattle.std.proofs.lemmas.Bool.{eqb-false}
-use Rattle.integers.specs.Fill.{fill_by, fill_zero, fill_same}
+use Rattle.integers.specs.Fill.{fill_by, fill_same}
 use Rattle.integers.specs.Vectors.{zero2}
 use Rattle.integers.specs.declared.V2.{V2}
 use Rattle.meaning.specs.declared.Nest.{Nest}
@@ -15,11 +14,12 @@ use Rattle.meaning.specs.declared.Stream.{Stream}
 use Rattle.meaning.specs.declared.Description.{Description}
 use Rattle.meaning.specs.declared.Row.{Row}
 use Rattle.meaning.specs.declared.Limits.{Limits}
+use Rattle.meaning.specs.Answers.{Done, Refused}
 use Rattle.meaning.specs.Loops.{instances}
 use Rattle.meaning.specs.Space.{Box, points, space, processes, count, first, last}
 use Rattle.meaning.specs.Description.{description_of, streams_of, no_stream}
 use Rattle.meaning.specs.Array.{row_soak}
-use Rattle.meaning.specs.Calls.{refused_by, answer, row_of, table}
+use Rattle.meaning.specs.Calls.{refused_by, row_of, table}
 use Rattle.lists.specs.Members.{map_at}
 use Rattle.numbering.specs.Ranges.{Bounded}
 use Rattle.numbering.specs.Extents.{Spanning, boxed, box_spanning}
@@ -38,7 +38,6 @@ refused_for l s room = refused_by l s (table_lengths (length (processes (descrip
 
 -- the shape of a nest
 pub record Shaped (n : Nest) (h : Shape) : Type 0 where
-  pub refusal : h.refusal ≡ 0
   pub nest : h.nest ≡ n
   pub space : boxed h.space ≡ space n
   pub rows : h.rows ≡ length (processes n)
@@ -54,12 +53,10 @@ pub record Drawn (d : Description) (h : Shape) (w : List ℕ) : Type 0 where
   pub copied : (k : ℕ) → k < 3072 → get_or w k 0 ≡ get_or front k 0
   pub streams : Streamed d.nest (streams_of d) (length (streams_of d)) w
 
--- the columns of a call: no row where it is declined
-pub record Columns (l : Limits) (s : List ℕ) (room : ℕ) (h : Shape) (w : List ℕ) : Type 0 where
-  pub refused : h.refusal ≡ refused_for l s room
+-- the columns of a call that is not declined: the rows have room
+pub record Columns (d : Description) (room : ℕ) (h : Shape) (w : List ℕ) : Type 0 where
   pub enough : h.rows ≤ room
-  pub none : (h.refusal ≡ 0 → ⊥) → h.rows ≡ 0
-  pub drawn : h.refusal ≡ 0 → Drawn (description_of s) h w
+  pub drawn : Drawn d h w
 
 -- ---- the words of all streams at one process
 
@@ -152,37 +149,32 @@ module _ {d : Description} {h : Shape} {w : List ℕ} (g : Drawn d h w) where
 
 -- ---- all rows
 
-module _ {l : Limits} {s : List ℕ} {room : ℕ} {h : Shape} {w : List ℕ} (g : Columns l s room h w) where
+module _ (s : List ℕ) {room : ℕ} {h : Shape} {w : List ℕ} (g : Columns (description_of s) room h w) where
   pub columns_ready : (p : ℕ) → p < h.rows → Readable h w p
-  columns_ready p k = go (eqb h.refusal 0) refl
-    where
-      go : (b : Bool) → eqb h.refusal 0 ≡ b → Readable h w p
-      go true e = drawn_readable (g.drawn (eqb-true h.refusal 0 e)) p k
-      go false e = absurd (omega (arith, g.none (eqb-false h.refusal 0 e)))
+  columns_ready = drawn_readable g.drawn
 
-  pub columns_row : h.refusal ≡ 0 → (p : ℕ) → p < h.rows → row_from h w p ≡ row_of l s (process_of (description_of s).nest p)
-  columns_row z = drawn_row (g.drawn z)
+  pub columns_row : (l : Limits) (p : ℕ) → p < h.rows → row_from h w p ≡ row_of l s (process_of (description_of s).nest p)
+  columns_row l = drawn_row g.drawn
 
-module _ {l : Limits} {s : List ℕ} (rows : List Row) {h : Shape} {w : List ℕ} (g : Columns l s (length rows) h w) where
-  pub columns_answer : answer h.refusal ≡ (table l s rows).answer
+module _ (l : Limits) (s : List ℕ) (rows : List Row) where
+  pub columns_rows : {h : Shape} {w : List ℕ} {out : List Row} → refused_for l s (length rows) ≡ 0
+      → Columns (description_of s) (length rows) h w → out ≡ fill_by (row_from h w) h.rows rows
+      → (Done ≡ (table l s rows).answer) × (out ≡ (table l s rows).rows)
   unfolding table
-  columns_answer = ap answer g.refused
-
-  pub columns_rows : fill_by (row_from h w) h.rows rows ≡ (table l s rows).rows
-  unfolding table
-  columns_rows = go (eqb (refused_for l s (length rows)) 0) refl
+  columns_rows {h} {w} z g o =
+      let d = g.drawn in
+      let many = d.shaped.rows in
+      rw z (
+        refl,
+        o ∙ fill_same (row_from h w) (λ k. row_of l s (get_or ps k zero2)) h.rows rows (drawn_row d)
+            ∙ ap (λ (k : ℕ). fill_by (λ k. row_of l s (get_or ps k zero2)) k rows) many
+            ∙ fill_list (row_of l s) ps zero2 (row_of l s zero2) rows (omega (arith, many, g.enough)),
+      )
     where
       ps : List V2
       ps = processes (description_of s).nest
 
-      go : (b : Bool) → eqb (refused_for l s (length rows)) 0 ≡ b
-          → fill_by (row_from h w) h.rows rows ≡ cond b (map (row_of l s) ps ++ drop (length ps) rows) rows
-      go true e =
-          let d = g.drawn (g.refused ∙ eqb-true (refused_for l s (length rows)) 0 e) in
-          let many = d.shaped.rows in
-          fill_same (row_from h w) (λ k. row_of l s (get_or ps k zero2)) h.rows rows (drawn_row d)
-          ∙ ap (λ (k : ℕ). fill_by (λ k. row_of l s (get_or ps k zero2)) k rows) many
-          ∙ fill_list (row_of l s) ps zero2 (row_of l s zero2) rows (omega (arith, many, g.enough))
-      go false e =
-          ap (λ (k : ℕ). fill_by (row_from h w) k rows) (g.none (λ z. eqb-false (refused_for l s (length rows)) 0 e (sym g.refused ∙ z)))
-          ∙ fill_zero (row_from h w) rows
+  pub rows_declined : {n : ℕ} → n ≡ refused_for l s (length rows) → (n ≡ 0 → ⊥)
+      → (Refused n ≡ (table l s rows).answer) × (rows ≡ (table l s rows).rows)
+  unfolding table
+  rows_declined {n} e f = rw (← e, ne_eqb n 0 f) (refl, refl)

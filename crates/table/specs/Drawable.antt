@@ -86,23 +86,10 @@ module _ (l : Limits) (s : List ℕ) (room : ℕ) where
 
 -- ---- the columns of the call
 
-pub columns_drawn : {l : Limits} {s w : List ℕ} {room r : ℕ} {d : Description} {h : Shape} → r ≡ refused_for l s room → r ≡ 0
-    → d ≡ description_of s → (h.refusal ≡ 0) × Drawn d h w → Columns l s room h w
-columns_drawn {l} {s} {w} {room} {r} {d} {h} e z f g =
+pub columns_drawn : (l : Limits) (s : List ℕ) {w : List ℕ} (room : ℕ) {d : Description} {h : Shape} → refused_for l s room ≡ 0
+    → d ≡ description_of s → Drawn d h w → Columns (description_of s) room h w
+columns_drawn l s {w} room {d} {h} z f g =
     record {
-      refused = g.0 ∙ sym z ∙ e;
-      enough =
-          omega (arith, g.1.shaped.rows, ap (λ (d : Description). length (processes d.nest)) f, (none_refused l s room (sym e ∙ z)).1);
-      none = λ k. absurd (k g.0);
-      drawn = λ k. subst (λ (d : Description). Drawn d h w) f g.1;
-    }
-
-pub columns_declined : {l : Limits} {s w : List ℕ} {room r : ℕ} {h : Shape} → r ≡ refused_for l s room → (r ≡ 0 → ⊥)
-    → (h.refusal ≡ r) × (h.rows ≡ 0) → Columns l s room h w
-columns_declined e z g =
-    record {
-      refused = g.0 ∙ e;
-      enough = omega (arith, g.1);
-      none = λ k. g.1;
-      drawn = λ k. absurd (z (sym g.0 ∙ k));
+      enough = omega (arith, g.shaped.rows, ap (λ (d : Description). length (processes d.nest)) f, (none_refused l s room z).1);
+      drawn = subst (λ (d : Description). Drawn d h w) f g;
     }

@@ -4,15 +4,16 @@
 //
 //   Blocks      the words, block by block: the processes' and each stream's
 //   Columns     what the columns hold; `columns-rows`: the rows read off them are document 01's
-//   Drawable    what a refusal of 0 leaves for the columns; the refusal of the call
+//   Drawable    what acceptance leaves for the columns; the refusal of the call
 
 #![tactic(auto)]
 
-ghost use Rattle.std.specs.Prelude.{◌≡◌, ℕ, ◌<◌, ◌≤◌, length, get_or, replicate};
+ghost use Rattle.std.specs.Prelude.{◌≡◌, ℕ, ◌<◌, ◌≤◌, length, get_or, replicate, IfOk};
 ghost use Rattle.integers.specs.Fill.{fill_by};
+ghost use Rattle.refusals.specs.Numbers.{refusal_number, numbered};
 ghost use Rattle.meaning.specs.Limits.{limits_of, gauge_limits, UpTo};
-ghost use Rattle.meaning.specs.Description.{streams_of};
-ghost use Rattle.meaning.specs.Calls.{answer, table};
+ghost use Rattle.meaning.specs.Description.{description_of, streams_of};
+ghost use Rattle.meaning.specs.Calls.{table};
 ghost use Rattle.survey.specs.Surveys.{Surveyed, SurveyOf};
 ghost use Rattle.layout.specs.Spans.{Spans, span_words};
 ghost use Rattle.process_row.specs.Rows.{row_from, Readable, column_words};
@@ -20,12 +21,11 @@ ghost use Rattle.table.specs.Blocks.{Streamed};
 ghost use Rattle.table.specs.Columns.{Shaped, Drawn, refused_for, Columns};
 ghost use Rattle.table.specs.Drawable.{Drawable};
 
-use integers::{Matrix, V2, V3};
 use layout::SPANS;
-use meaning::{Answer, Limits, Nest, Row};
-use numbering::Extent;
+use meaning::{Limits, Row};
 use pipes::BLOCK;
 use process_row::{COLUMNS, Shape};
+use refusals::Refusal;
 use survey::Survey;
 
 // ---- the columns
@@ -39,13 +39,11 @@ fn fill_streams(v: Survey, spans: &[u32], words: &mut [u32])
 {
     let m = v.description.sizes.streams as usize;
     let processes = v.ground.processes;
-    let mut i: usize = 0;
-    while i < m {
+    for i in 0..m {
         let a = SPANS + BLOCK * i;
         let e = a + BLOCK;
         let f = survey::flow_at(v, i);
         pipes::fill_stream(f, processes, spans, &mut words[a..e]);
-        i += 1;
     }
 }
 
@@ -54,10 +52,8 @@ fn copy_spans(spans: &[u32], words: &mut [u32])
     requires { (span_words ≤ length spans.now) × (span_words ≤ length words.old) }
     ensures { words.new ≡ fill_by (λ k. get_or spans.now k 0) span_words words.old }
 {
-    let mut k: usize = 0;
-    while k < SPANS {
+    for k in 0..SPANS {
         words[k] = spans[k];
-        k += 1;
     }
 }
 
@@ -66,13 +62,10 @@ fn shape_of(v: Survey) -> Shape
     requires { Surveyed v }
     ensures { Shaped v.description.nest result }
 {
-    let n = v.description.nest;
-    let space = v.ground.space;
     Shape {
-        refusal: 0,
         rows: v.ground.processes as usize,
-        nest: n,
-        space: space,
+        nest: v.description.nest,
+        space: v.ground.space,
     }
 }
 
@@ -80,109 +73,65 @@ fn shape_of(v: Survey) -> Shape
 fn draw(v: Survey, spans: &[u32], words: &mut [u32]) -> Shape
     requires { (Drawable v.description) × (Surveyed v) × (Spans v.description.nest spans.now) × (span_words ≤ length spans.now)
         × (words.old ≡ replicate column_words 0) }
-    ensures { (result.refusal ≡ 0) × (Drawn v.description result words.new) }
+    ensures { Drawn v.description result words.new }
 {
     fill_streams(v, spans, words);
     copy_spans(spans, words);
     shape_of(v)
 }
 
-// The shape of a declined call: no rows.
-fn declined(refusal: u32) -> Shape
-    ensures { (result.refusal ≡ refusal) × (result.rows ≡ 0) }
-{
-    let zero2 = V2 { a: 0, b: 0 };
-    let zero3 = V3 { x: 0, y: 0, z: 0 };
-    Shape {
-        refusal: refusal,
-        rows: 0,
-        nest: Nest {
-            left: zero3,
-            right: zero3,
-            direction: zero3,
-            step: zero3,
-            place: Matrix {
-                top: zero3,
-                low: zero3,
-            },
-        },
-        space: Extent {
-            lo: zero2,
-            hi: zero2,
-        },
-    }
-}
-
-// The survey of the description with the refusal of the call, 0 if there is none; the words of the processes are then filled.
-fn survey_for(s: &[u8], limits: Limits, room: usize, spans: &mut [u32; SPANS]) -> Survey
+// The survey of the description, or the refusal of the call; the words of the processes are filled.
+fn survey_for(
+    s: &[u8],
+    limits: Limits,
+    room: usize,
+    spans: &mut [u32; SPANS],
+) -> Result<Survey, Refusal>
     requires { UpTo limits gauge_limits }
-    ensures { (result.refusal ≡ refused_for limits s.now room)
-        × (result.refusal ≡ 0 → (SurveyOf s.now result) × (Spans result.description.nest spans.new)) }
+    ensures number { refusal_number result ≡ refused_for limits s.now room }
+    ensures surveyed { IfOk result (λ v. (SurveyOf s.now v) × (Spans v.description.nest spans.new)) }
 {
-    let mut v = refuse::survey_within(s, limits, spans);
-    if v.refusal == 0 {
-        let refusal = declines::of_table(v.ground.processes as usize, room);
-        v.refusal = refusal;
-    }
-    v
+    let v = refuse::survey_within(s, limits, spans)?;
+    declines::of_table(v.ground.processes as usize, room)?;
+    Ok(v)
 }
 
 // The columns of the call; their words come as zeros.
-pub fn fill_columns(s: &[u8], board: u32, room: usize, words: &mut [u32; COLUMNS]) -> Shape
+pub fn fill_columns(
+    s: &[u8],
+    board: u32,
+    room: usize,
+    words: &mut [u32; COLUMNS],
+) -> Result<Shape, Refusal>
     requires { words.old ≡ replicate column_words 0 }
-    ensures { Columns (limits_of board) s.now room result words.new }
+    ensures number { refusal_number result ≡ refused_for (limits_of board) s.now room }
+    ensures drawn { IfOk result (λ shape. Columns (description_of s.now) room shape words.new) }
 {
     let mut spans = [0u32; SPANS];
-    let v = survey_for(s, boards::limits_of(board), room, &mut spans);
-    if v.refusal == 0 {
-        let spans = &spans;
-        draw(v, spans, words)
-    } else {
-        declined(v.refusal)
-    }
-}
-
-// How many rows are filled.
-fn row_count(shape: Shape) -> usize
-    ensures { result ≡ shape.rows }
-{
-    shape.rows
-}
-
-// Done, or the refusal.
-fn answer_for(shape: Shape) -> Answer
-    ensures { result ≡ answer shape.refusal }
-{
-    if shape.refusal == 0 {
-        Answer::Done
-    } else {
-        Answer::Refused(shape.refusal)
-    }
+    let v = survey_for(s, boards::limits_of(board), room, &mut spans)?;
+    Ok(draw(v, &spans, words))
 }
 
 // ---- all rows
 
-// The first n rows are filled.
-fn fill_rows<'r, 'a>(rows: &'r mut [Row], shape: Shape, words: &'a [u32; COLUMNS], n: usize)
-    requires { (n ≤ length rows.old) × ((p : ℕ) → p < n → Readable shape words.now p) }
-    ensures { rows.new ≡ fill_by (row_from shape words.now) n rows.old }
+// The rows of a shape are filled.
+fn fill_rows<'r, 'a>(rows: &'r mut [Row], shape: Shape, words: &'a [u32; COLUMNS])
+    requires { (shape.rows ≤ length rows.old) × ((p : ℕ) → p < shape.rows → Readable shape words.now p) }
+    ensures { rows.new ≡ fill_by (row_from shape words.now) shape.rows rows.old }
 {
-    let mut i = 0;
-    while i < n {
+    for i in 0..shape.rows {
         rows[i] = process_row::row_at(shape, words, i);
-        i = i + 1;
     }
 }
 
 // Table: one row for each process, in row order, or the refusal and no row.
-pub fn table<'s, 'r>(s: &'s [u8], rows: &'r mut [Row], board: u32) -> Answer
-    ensures { (result ≡ (table (limits_of board) s.now rows.old).answer)
+pub fn table<'s, 'r>(s: &'s [u8], rows: &'r mut [Row], board: u32) -> Result<(), Refusal>
+    ensures { (numbered result ≡ (table (limits_of board) s.now rows.old).answer)
         × (rows.new ≡ (table (limits_of board) s.now rows.old).rows) }
 {
     let mut words = [0u32; COLUMNS];
     let room = rows.len();
-    let shape = fill_columns(s, board, room, &mut words);
-    let n = row_count(shape);
-    fill_rows(rows, shape, &words, n);
-    answer_for(shape)
+    let shape = fill_columns(s, board, room, &mut words)?;
+    fill_rows(rows, shape, &words);
+    Ok(())
 }

@@ -27,8 +27,8 @@ returns-then-out-words c =
     (passes 30 _ (sym c.size_refused.ensures ∙ c.if-size_refused.false)
     (refuses 31 _ (lt-ltb (length a.out.now) (4 * words_of a.z) (omega (arith, c.if-out-words.true, c.line_at-words.ensures.0)))))
 
-pub returns-else-out-words : goal.returns-else-out-words
-returns-else-out-words c =
+pub returns : goal.returns
+returns c =
     let a = c.args in
     passes 29 _ (ne_eqb _ _ c.if-seed-eq0.false)
     (passes 30 _ (sym c.size_refused.ensures ∙ c.if-size_refused.false)

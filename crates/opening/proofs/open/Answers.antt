@@ -5,6 +5,3 @@ use Rattle.opening.proofs.open.Goals as goal
 
 pub open_with_lanes-requires : goal.open_with_lanes-requires
 open_with_lanes-requires c = (refl, c.requires)
-
-pub returns : goal.returns
-returns c = c.open_with_lanes.ensures.0

@@ -1,22 +1,21 @@
 -- `opening::open_within` meets its contract: the memory's refusals come after the description's, and what limits up to the gauge's accept
 -- the gauge's accept too. Assumes nothing.
-use mathlib.Core.Path.{sym, ◌∙◌, subst}
+use mathlib.Core.Path.{◌≡◌, sym, ◌∙◌, subst}
 use native.Mathlib.Omega.{arith}
 use borrow.Author.Rules.{rules}
-use Rattle.meaning.specs.declared.Description.{Description}
+use Rattle.std.proofs.lemmas.Result.{IfOk-weaker}
+use Rattle.refusals.specs.Numbers.{number_of, refusal_number, number-positive}
 use Rattle.meaning.specs.Rules.{memory_of}
 use Rattle.geometry.specs.UpTo.{by_gauge}
-use Rattle.figures.specs.Shares.{AllLanes}
-use Rattle.opening.specs.Opening.{Grounds, grounds, opened, refused}
+use Rattle.opening.specs.Opening.{Grounds, grounds, accepted_number, refused_number, opened, lanes_are}
 use Rattle.opening.proofs.open_within.Goals as goal
 
 pub open_accepted-requires : goal.open_accepted-requires
 open_accepted-requires c =
     let p = c.requires in
-    let z = c.if-r-eq0.true in
-    let e = c.survey_within-v.ensures in
-    let h = e.1 z in (
-      subst Grounds (sym h.0.description_is) (grounds _ (by_gauge p.0 _ (sym e.0 ∙ z))),
+    let e = c.in_ok-v.ensures in
+    let h = e.surveyed in (
+      subst Grounds (sym h.0.description_is) (grounds _ (by_gauge p.0 _ (sym e.number))),
       h.0.surveyed,
       h.1,
       omega arith,
@@ -24,23 +23,24 @@ open_accepted-requires c =
       p.2,
     )
 
-pub returns-then-r-eq0 : goal.returns-then-r-eq0
-returns-then-r-eq0 c =
+pub returns : goal.returns
+returns c =
     let a = c.args in
-    let z = c.if-r-eq0.true in
-    let e = c.survey_within-v.ensures in
-    let h = e.1 z in
-    let l = c.open_accepted.new.lanes in
-    let o = c.open_accepted.ensures in (
-      opened c.requires.0 a.s.now (memory_of a.waiting.now a.received.now a.state.now) (sym e.0 ∙ z) h.0 o.0
-          o.1 h.1,
-      λ _. subst (λ (d : Description). AllLanes d l) h.0.description_is o.2,
-    )
+    let s = a.s.now in
+    let M = memory_of a.waiting.now a.received.now a.state.now in
+    let e = c.in_ok-v.ensures in
+    let h = e.surveyed in
+    let k = c.open_accepted.ensures in
+    record {
+      number = accepted_number a.limits s M (sym e.number) h.0.description_is k.number;
+      opened = IfOk-weaker _ _ _ (λ _ o. opened c.requires.0 s M (sym e.number) h.0 h.1 o) k.opened;
+      lanes = IfOk-weaker _ _ _ (λ _ o. lanes_are h.0 o) k.opened;
+    }
 
-pub returns-else-r-eq0 : goal.returns-else-r-eq0
-returns-else-r-eq0 c =
-    let a = c.args in (
-      refused c.requires.0 a.s.now (memory_of a.waiting.now a.received.now a.state.now)
-          c.survey_within-v.ensures.0 c.if-r-eq0.false,
-      λ h. absurd (c.if-r-eq0.false h),
-    )
+pub returns-in_err-v-clause-number : goal.returns-in_err-v-clause-number
+returns-in_err-v-clause-number c =
+    let a = c.args in
+    let e = c.in_err-v.field-0.0 in
+    let k : refusal_number c.from_residual.result ≡ number_of e = search rules in
+    k ∙ refused_number a.limits a.s.now (memory_of a.waiting.now a.received.now a.state.now) c.in_err-v.ensures.number
+    (λ z. omega (arith, number-positive e))

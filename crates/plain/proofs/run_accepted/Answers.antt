@@ -1,46 +1,46 @@
 -- `plain::run_accepted` meets its contract: where the lengths are right the output is the values, and then what the loops leave.
 -- Assumes nothing.
-use mathlib.Core.Path.{sym, ◌∙◌}
+use mathlib.Core.Path.{◌≡◌, refl, sym, ◌∙◌, subst}
 use native.Mathlib.Omega.{arith}
 use lib.ListN.{length}
 use borrow.Author.Rules.{rules}
-use Rattle.words.specs.Stored.{stored_all}
-use Rattle.plain.specs.Call.{own_is, lengths_are, run_done, run_refused}
+use Rattle.refusals.specs.Numbers.{number_of, numbered, number-positive}
+use Rattle.meaning.specs.Answers.{Answer, Refused}
+use Rattle.plain.specs.Call.{Called, own_is, lengths_are, run_done, run_refused}
 use Rattle.plain.proofs.run_accepted.Goals as goal
 
 pub element_count-e-requires : goal.element_count-e-requires
 element_count-e-requires c = let p = c.requires in (p.0.few, p.1)
 
-pub store-requires : goal.store-requires
-store-requires c =
+pub copy_from_slice-requires : goal.copy_from_slice-requires
+copy_from_slice-requires c =
     let a = c.args in
     let d = a.v.description in
-    let n = own_is d (length a.values.now) (length a.output.now) c.element_count-e.ensures.0 c.of_plain-r.ensures in
-    let l = lengths_are d (length a.values.now) (length a.output.now) n c.if-r-eq0.true in
-    omega (arith, l.0, l.1)
+    let n = own_is d (length a.values.now) (length a.output.now) c.element_count-e.ensures.0 c.in_ok-of_plain.ensures in
+    let l = lengths_are d (length a.values.now) (length a.output.now) n refl in
+    l.1 ∙ sym l.0
 
 pub run_loops-requires : goal.run_loops-requires
 run_loops-requires c =
     let a = c.args in
     let d = a.v.description in
-    let n = own_is d (length a.values.now) (length a.output.now) c.element_count-e.ensures.0 c.of_plain-r.ensures in
-    let l = lengths_are d (length a.values.now) (length a.output.now) n c.if-r-eq0.true in
-    (c.requires.0, c.requires.1, c.store.auto.list ∙ l.1)
+    let n = own_is d (length a.values.now) (length a.output.now) c.element_count-e.ensures.0 c.in_ok-of_plain.ensures in
+    let l = lengths_are d (length a.values.now) (length a.output.now) n refl in
+    (c.requires.0, c.requires.1, c.copy_from_slice.ensures.len ∙ l.1)
 
-pub returns-then-r-eq0 : goal.returns-then-r-eq0
-returns-then-r-eq0 c =
+pub returns : goal.returns
+returns c =
     let a = c.args in
     let d = a.v.description in
-    let n = own_is d (length a.values.now) (length a.output.now) c.element_count-e.ensures.0
-    c.of_plain-r.ensures in
-    let e = lengths_are d (length a.values.now) (length a.output.now) n c.if-r-eq0.true in
-    run_done d a.values.now a.output.now n c.if-r-eq0.true
-    (c.store.ensures ∙ stored_all a.values.now a.output.now (e.1 ∙ sym e.0)) c.run_loops.ensures
+    let n = own_is d (length a.values.now) (length a.output.now) c.element_count-e.ensures.0 c.in_ok-of_plain.ensures in
+    run_done d a.values.now a.output.now n refl c.copy_from_slice.ensures.after c.run_loops.ensures
 
-pub returns-else-r-eq0 : goal.returns-else-r-eq0
-returns-else-r-eq0 c =
+pub returns-in_err-of_plain : goal.returns-in_err-of_plain
+returns-in_err-of_plain c =
     let a = c.args in
     let d = a.v.description in
-    let n = own_is d (length a.values.now) (length a.output.now) c.element_count-e.ensures.0
-    c.of_plain-r.ensures in
-    run_refused d a.values.now a.output.now n c.if-r-eq0.false
+    let e = c.in_err-of_plain.field-0.0 in
+    let n = own_is d (length a.values.now) (length a.output.now) c.element_count-e.ensures.0 c.in_err-of_plain.ensures in
+    let k : numbered c.from_residual.result ≡ Refused (number_of e) = search rules in
+    subst (λ (r : Answer). Called d a.values.now a.output.now r a.output.now) (sym k)
+    (run_refused d a.values.now a.output.now n (λ z. omega (arith, number-positive e)))

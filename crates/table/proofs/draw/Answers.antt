@@ -20,17 +20,15 @@ returns c =
     let g = c.requires.0 in
     let es = c.args.spans.now in
     let w = c.fill_streams.new.words in
-    let l : 3072 ≤ length w = omega (arith, c.fill_streams.auto.words, zeros_length c.requires.4) in (
-      c.shape_of.ensures.refusal,
-      record {
-        shaped = c.shape_of.ensures;
-        bounded = g.bounded;
-        few = g.processes;
-        most = omega (arith, c.requires.1.in_use, g.most);
-        front = es;
-        spans = c.requires.2;
-        copied = subst (λ (v : List ℕ). (j : ℕ) → j < 3072 → get_or v j 0 ≡ get_or es j 0) (sym c.copy_spans.ensures) (front_copied es w l);
-        streams = subst (Streamed d.nest (streams_of d) _) (sym c.copy_spans.ensures)
-            (streamed_copied es w l c.fill_streams.ensures);
-      },
-    )
+    let l : 3072 ≤ length w = omega (arith, c.fill_streams.auto.words, zeros_length c.requires.4) in
+    record {
+      shaped = c.shape_of.ensures;
+      bounded = g.bounded;
+      few = g.processes;
+      most = omega (arith, c.requires.1.in_use, g.most);
+      front = es;
+      spans = c.requires.2;
+      copied = subst (λ (v : List ℕ). (j : ℕ) → j < 3072 → get_or v j 0 ≡ get_or es j 0) (sym c.copy_spans.ensures) (front_copied es w l);
+      streams = subst (Streamed d.nest (streams_of d) _) (sym c.copy_spans.ensures)
+        (streamed_copied es w l c.fill_streams.ensures);
+    }

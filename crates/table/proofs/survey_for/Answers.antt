@@ -1,30 +1,36 @@
 -- `table::survey_for` meets its contract: the call's own test counts only where the description is accepted, and then the survey has the
 -- number of its processes. Assumes nothing.
-use mathlib.Core.Path.{sym, ◌∙◌, ap}
+use mathlib.Core.Path.{◌≡◌, sym, ◌∙◌, ap}
+use native.Mathlib.Omega.{arith}
 use lib.ListN.{length}
+use Rattle.refusals.specs.Numbers.{number_of, refusal_number, number-positive}
 use Rattle.meaning.specs.declared.Description.{Description}
+use Rattle.meaning.specs.Tests.{refusal}
 use Rattle.meaning.specs.Space.{processes}
+use Rattle.meaning.specs.Accept.{refusal_of}
+use Rattle.declines.specs.Tests.{table_lengths}
 use Rattle.table.specs.Drawable.{refused_own, refused_first}
 use borrow.Author.Rules.{rules}
 use Rattle.table.proofs.survey_for.Goals as goal
 
-pub returns-then-v-eq0 : goal.returns-then-v-eq0
-returns-then-v-eq0 c =
-    let h = c.survey_within-v.ensures in
-    let z = c.if-v-eq0.true in
-    let k = h.1 z in
-    let u = k.0.surveyed in
-    let n = u.ground.processes_is ∙ ap (λ (d : Description). length (processes d.nest)) k.0.description_is in (
-      refused_own _ _ _ (sym h.0 ∙ z) n c.of_table-refusal.ensures,
-      λ _. (
-        record {
-          description_is = k.0.description_is;
-          surveyed = record { in_use = u.in_use; ground = u.ground; flow = u.flow };
-        },
-        k.1,
-      ),
-    )
+pub returns : goal.returns
+returns c =
+    let h = c.in_ok-v.ensures in
+    let k = h.surveyed in
+    let n = k.0.surveyed.ground.processes_is ∙ ap (λ (d : Description). length (processes d.nest)) k.0.description_is in
+    record { number = refused_own _ _ _ (sym h.number) n c.in_ok-of_table.ensures; surveyed = k }
 
-pub returns-else-v-eq0 : goal.returns-else-v-eq0
-returns-else-v-eq0 c =
-    (refused_first _ _ _ c.survey_within-v.ensures.0 c.if-v-eq0.false, λ z. absurd (c.if-v-eq0.false z))
+pub returns-in_err-v-clause-number : goal.returns-in_err-v-clause-number
+returns-in_err-v-clause-number c =
+    let e = c.in_err-v.field-0.0 in
+    let k : refusal_number c.from_residual.result ≡ number_of e = search rules in
+    k ∙ refused_first c.args.limits c.args.s.now c.args.room c.in_err-v.ensures.number (λ z. omega (arith, number-positive e))
+
+pub returns-in_err-of_table-clause-number : goal.returns-in_err-of_table-clause-number
+returns-in_err-of_table-clause-number c =
+    let h = c.in_ok-v.ensures in
+    let k = h.surveyed in
+    let e = c.in_err-of_table.field-0.0 in
+    let n = k.0.surveyed.ground.processes_is ∙ ap (λ (d : Description). length (processes d.nest)) k.0.description_is in
+    let r : refusal_number c.from_residual-in_err-of_table.result ≡ number_of e = search rules in
+    r ∙ refused_own c.args.limits c.args.s.now c.args.room (sym h.number) n c.in_err-of_table.ensures

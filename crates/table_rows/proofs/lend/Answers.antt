@@ -30,5 +30,4 @@ returns c =
     let s = c.args.s.now in
     let e = c.mark-m.ensures in
     let t = c.table-answer.ensures in
-    let b = c.both.ensures in
-    (b.0 ∙ answer_is l s c.args.n e c.requires t.0, b.1 ∙ rows_are l s c.args.n e c.requires t.1)
+    (answer_is l s c.args.n e c.requires t.0, rows_are l s c.args.n e c.requires t.1)
