@@ -34,15 +34,17 @@ pub fn untouched(
     requires { Searching f walk.now instances elements marks.old }
     ensures { Misses (number_on f walk.now) instances elements result }
 {
+    let mut found = false;
     let mut k = 0;
-    for q in 0..elements {
+    'elements: for q in 0..elements {
         while !marks[q] {
             if k == instances {
-                return true;
+                found = true;
+                break 'elements;
             }
             marks[number_at(f, walk, k)] = true;
             k += 1;
         }
     }
-    false
+    found
 }

@@ -1,17 +1,18 @@
 -- `untouched::untouched` meets its contract: the inner loop goes on where it stopped, with those passed marked. Assumes nothing.
-use mathlib.Core.Path.{sym, subst}
+use mathlib.Core.Path.{refl, sym, subst}
 use mathlib.Core.Bool.{true}
 use Prim.Native.Nat.{ℕ, ◌+◌, ◌<◌}
 use native.Mathlib.Omega.{arith}
 use lib.ListN.{set}
-use Rattle.untouched.specs.Touched.{Misses.all_touched, Marked, touch_more, none_marked}
+use Rattle.untouched.specs.Touched.{Misses, Misses.all_touched, Marked, touch_more, none_marked}
 use Rattle.untouched.specs.Touched.{marked_on, not_marked, touched_on}
 use Rattle.untouched.specs.Search.{number_on}
 use Rattle.untouched.proofs.untouched.Goals as goal
 
-pub loop-q-init : goal.loop-q-init
-loop-q-init c =
+pub elements-init : goal.elements-init
+elements-init c =
     record {
+      none = refl;
       passed = omega arith;
       marked = none_marked _ _ c.requires.clear;
       touched = λ i h. absurd (omega arith);
@@ -36,33 +37,38 @@ loop-marks-preserved c =
     let f = number_on c.args.f c.args.walk.now in
     let b = c.requires.below l.k (omega (arith, l.invariant.passed, c.if-k-instances.false)) in
     record {
+      none = l.invariant.none;
       passed = omega (arith, l.invariant.passed, c.if-k-instances.false);
       marked =
           subst (λ (r : ℕ). Marked f (l.k + 1) c.args.elements (set l.marks r true)) (sym c.number_at.ensures)
           (marked_on f l.invariant.marked (omega (arith, b, c.requires.few)));
     }
 
-pub loop-q-preserved : goal.loop-q-preserved
-loop-q-preserved c =
+pub elements-preserved : goal.elements-preserved
+elements-preserved c =
     let l = c.loop-marks in
     let f = number_on c.args.f c.args.walk.now in
-    let q = c.loop-q.q in
+    let q = c.elements.q in
     let h : q < c.args.elements = omega arith in
     record {
+      none = l.invariant.none;
       passed = l.invariant.passed;
       marked = l.invariant.marked;
       touched =
-          touched_on f c.loop-q.invariant.touched
+          touched_on f c.elements.invariant.touched
           (touch_more f l.invariant.passed (l.invariant.marked.sound q h c.loop-marks-test.false));
     }
 
-pub returns : goal.returns
-returns c = all_touched (λ i h. c.loop-q.invariant.touched i (omega arith))
+pub returns-after-elements : goal.returns-after-elements
+returns-after-elements c =
+    let e = c.elements in
+    let f = number_on c.args.f c.args.walk.now in
+    subst (Misses f c.args.instances c.args.elements) (sym e.invariant.none) (all_touched (λ i h. e.invariant.touched i (omega arith)))
 
 pub returns-then-k-instances : goal.returns-then-k-instances
 returns-then-k-instances c =
     let l = c.loop-marks in
     let f = number_on c.args.f c.args.walk.now in
-    let h : c.loop-q.q < c.args.elements = omega arith in
+    let h : c.elements.q < c.args.elements = omega arith in
     not_marked f (subst (λ (k : ℕ). Marked f k c.args.elements l.marks) c.if-k-instances.true l.invariant.marked) h
     c.loop-marks-test.true
