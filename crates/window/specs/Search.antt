@@ -53,14 +53,14 @@ pub count_here : (w : Search) (k : ℕ) → w.length ≡ None → w.left ≡ 0
     → record { left = w.left; start = w.start; length = Some k } ≡ counted w k
 count_here w k e z =
     sym (ap (λ (b : Bool). cond b (record { left = w.left; start = w.start; length = Some k })
-        (record { left = w.left - 1; start = w.start + k; length = None })) (eq-eqb w.left 0 z))
+    (record { left = w.left - 1; start = w.start + k; length = None })) (eq-eqb w.left 0 z))
     ∙ ap (counted_on w k) (sym e)
 
 pub count_on : (w : Search) (k : ℕ) → w.length ≡ None → (w.left ≡ 0 → ⊥)
     → record { left = w.left - 1; start = w.start + k; length = None } ≡ counted w k
 count_on w k e z =
     sym (ap (λ (b : Bool). cond b (record { left = w.left; start = w.start; length = Some k })
-        (record { left = w.left - 1; start = w.start + k; length = None })) (ne_eqb w.left 0 z))
+    (record { left = w.left - 1; start = w.start + k; length = None })) (ne_eqb w.left 0 z))
     ∙ ap (counted_on w k) (sym e)
 
 -- a search that has found stays
