@@ -1,10 +1,11 @@
 -- The four answers of a stream, and that by the step of its line they are Accept's. Assumes nothing.
-use Rattle.std.specs.Prelude.{◌≡◌, refl, Bool, true, false, not, cond, ◌&&◌, ℕ, ltb, ℤ, pos, nat_abs}
+use Rattle.std.specs.Prelude.{◌≡◌, refl, Bool, true, false, not, cond, ◌&&◌, ℕ, ltb, ℤ, pos, nat_abs, Ok}
 use Rattle.std.proofs.Common.{sym, ◌∙◌}
 use Rattle.std.specs.Int.Signed.{lt_z}
 use Rattle.integers.specs.Words.{eq_z}
 use Rattle.integers.specs.Vectors.{zero3, neg3, dot}
 use Rattle.integers.specs.declared.V3.{V3}
+use Rattle.refusals.specs.Numbers.{refusal_number}
 use Rattle.meaning.specs.declared.Limits.{Limits}
 use Rattle.meaning.specs.declared.Nest.{Nest}
 use Rattle.meaning.specs.declared.Stream.{Stream}
@@ -17,10 +18,12 @@ use Rattle.vectors.specs.Within.{Within}
 use Rattle.survey.specs.Stages.{late_tests}
 use Rattle.outlook.specs.declared.Outlook.{Outlook}
 
--- the answer to a vector: by the step that it gives the line
+-- the number of the answer to a vector: by the step that it gives the line
 abbrev pub answer_at : Outlook → ℕ → ℤ → ℕ
 answer_at o hop t =
-    cond (eq_z t (pos 0)) o.still (cond (o.moving && ltb hop (nat_abs t)) o.leap (cond (lt_z t (pos 0)) o.back o.onward))
+    cond (eq_z t (pos 0)) (refusal_number o.still)
+    (cond (o.moving && ltb hop (nat_abs t)) (refusal_number o.leap)
+    (cond (lt_z t (pos 0)) (refusal_number o.back) (refusal_number o.onward)))
 
 abbrev pub answer_by : Outlook → ℕ → V3 → ℕ
 answer_by o hop v = answer_at o hop (dot v o.line)
@@ -33,15 +36,16 @@ pub record OutlookOf (n : Nest) (w : Bool) (s : Stream) (o : Outlook) : Type 0 w
   pub line_is : o.line ≡ line n s
   pub line_small : Within 200 o.line
   pub moving_is : o.moving ≡ not (stationary n s)
-  pub still_is : o.still ≡ cond (refused11 s) 11 12
-  pub leap_is : o.leap ≡ cond (refused11 s) 11 (cond (refused13 n s) 13 14)
-  pub onward_is : o.onward ≡ cond (refused11 s) 11 (cond (refused13 n s) 13 (cond (w && against n.direction (line n s)) 15 (late n s)))
-  pub back_is : o.back
+  pub still_is : refusal_number o.still ≡ cond (refused11 s) 11 12
+  pub leap_is : refusal_number o.leap ≡ cond (refused11 s) 11 (cond (refused13 n s) 13 14)
+  pub onward_is : refusal_number o.onward
+      ≡ cond (refused11 s) 11 (cond (refused13 n s) 13 (cond (w && against n.direction (line n s)) 15 (late n s)))
+  pub back_is : refusal_number o.back
       ≡ cond (refused11 s) 11 (cond (refused13 n s) 13 (cond (w && against n.direction (neg3 (line n s))) 15 (late n s)))
 
 -- what stands past the streams in use
 abbrev pub no_outlook : Outlook
-no_outlook = record { line = zero3; moving = false; still = 0; leap = 0; onward = 0; back = 0 }
+no_outlook = record { line = zero3; moving = false; still = Ok tt; leap = Ok tt; onward = Ok tt; back = Ok tt }
 
 -- four answers are the ladder of tests
 on_ladder : (rank still move leap onward back turned loading untouched : Bool)

@@ -4,6 +4,7 @@
 #![tactic(auto)]
 
 ghost use Rattle.std.specs.Prelude.{◌≡◌, ◌&&◌, cond, ltb, nat_abs};
+ghost use Rattle.refusals.specs.Numbers.{refusal_number};
 ghost use Rattle.integers.specs.Differences.{Abs};
 ghost use Rattle.integers.specs.Vectors.{neg3};
 ghost use Rattle.meaning.specs.Accept.{against};
@@ -14,6 +15,7 @@ ghost use Rattle.walk.specs.Walked.{Along};
 ghost use Rattle.outlook.specs.Outlooks.{OutlookOf, answer_at, answer_by};
 
 use integers::V3;
+use refusals::Refusal;
 use survey::{Flow, Ground};
 
 // A stream's line as some step turned it, whether the stream moves, and its answers: where the line's step is 0, where it is over the limit
@@ -22,22 +24,21 @@ use survey::{Flow, Ground};
 pub struct Outlook {
     pub line: V3,
     pub moving: bool,
-    pub still: u32,
-    pub leap: u32,
-    pub onward: u32,
-    pub back: u32,
+    pub still: Result<(), Refusal>,
+    pub leap: Result<(), Refusal>,
+    pub onward: Result<(), Refusal>,
+    pub back: Result<(), Refusal>,
 }
 
 // What stands past the streams in use.
 pub fn no_outlook() -> Outlook {
-    let zero = V3 { x: 0, y: 0, z: 0 };
     Outlook {
-        line: zero,
+        line: V3 { x: 0, y: 0, z: 0 },
         moving: false,
-        still: 0,
-        leap: 0,
-        onward: 0,
-        back: 0,
+        still: Ok(()),
+        leap: Ok(()),
+        onward: Ok(()),
+        back: Ok(()),
     }
 }
 
@@ -46,35 +47,39 @@ fn turned_refused(f: Flow, written: bool) -> bool
     requires { Charted f }
     ensures { result ≡ (written && against f.nest.direction (neg3 (line f.nest f.stream))) }
 {
-    let direction = f.nest.direction;
-    let line = f.line;
-    let turned = vectors::negated(line);
-    written && vectors::against(direction, turned)
+    let turned = vectors::negated(f.line);
+    written && vectors::against(f.nest.direction, turned)
 }
 
 // 15, or what comes after it.
-fn order_answer(against: bool, late: u32) -> u32
-    ensures { result ≡ cond against 15 late }
+fn order_answer(against: bool, late: Result<(), Refusal>) -> Result<(), Refusal>
+    ensures { refusal_number result ≡ cond against 15 (refusal_number late) }
 {
-    if against { 15 } else { late }
+    if against { Err(Refusal::Order) } else { late }
 }
 
 // 11 or 13, or what comes after them.
-fn move_answer(rank: bool, wide: bool, later: u32) -> u32
-    ensures { result ≡ cond rank 11 (cond wide 13 later) }
+fn move_answer(rank: bool, wide: bool, later: Result<(), Refusal>) -> Result<(), Refusal>
+    ensures { refusal_number result ≡ cond rank 11 (cond wide 13 (refusal_number later)) }
 {
     if rank {
-        11
-    } else {
-        if wide { 13 } else { later }
+        return Err(Refusal::MapRank);
     }
+    if wide {
+        return Err(Refusal::Move);
+    }
+    later
 }
 
 // 11, or 12.
-fn still_answer(rank: bool) -> u32
-    ensures { result ≡ cond rank 11 12 }
+fn still_answer(rank: bool) -> Result<(), Refusal>
+    ensures { refusal_number result ≡ cond rank 11 12 }
 {
-    if rank { 11 } else { 12 }
+    if rank {
+        Err(Refusal::MapRank)
+    } else {
+        Err(Refusal::StillLine)
+    }
 }
 
 // The answers of a stream.
@@ -87,12 +92,11 @@ pub fn outlook_of(f: Flow, g: Ground, written: bool, walk: &[i8]) -> Outlook
     let against = stream_tests::order_refused(f, written);
     let turned = turned_refused(f, written);
     let late = refuse_stream::late_refusal(f, g, walk);
-    let line = f.line;
     Outlook {
-        line: line,
+        line: f.line,
         moving: f.moving,
         still: still_answer(rank),
-        leap: move_answer(rank, wide, 14),
+        leap: move_answer(rank, wide, Err(Refusal::Hop)),
         onward: move_answer(rank, wide, order_answer(against, late)),
         back: move_answer(rank, wide, order_answer(turned, late)),
     }
@@ -107,9 +111,9 @@ fn leaps(moving: bool, hop: u32, step: i32) -> bool
 }
 
 // Its answer where a vector gives its line that step.
-fn answer_at(o: Outlook, hop: u32, step: i32) -> u32
+fn answer_at(o: Outlook, hop: u32, step: i32) -> Result<(), Refusal>
     requires { Abs step 4800 }
-    ensures { result ≡ answer_at o hop step }
+    ensures { refusal_number result ≡ answer_at o hop step }
 {
     if step == 0 {
         o.still
@@ -123,10 +127,9 @@ fn answer_at(o: Outlook, hop: u32, step: i32) -> u32
 }
 
 // Its answer to a step vector, with the limit of hops.
-pub fn answer_to(o: Outlook, hop: u32, v: V3) -> u32
+pub fn answer_to(o: Outlook, hop: u32, v: V3) -> Result<(), Refusal>
     requires { (Within 200 o.line) × (Within 8 v) }
-    ensures { result ≡ answer_by o hop v }
+    ensures { refusal_number result ≡ answer_by o hop v }
 {
-    let line = o.line;
-    answer_at(o, hop, vectors::dot_of(v, line))
+    answer_at(o, hop, vectors::dot_of(v, o.line))
 }

@@ -10,6 +10,7 @@
 
 ghost use Rattle.std.specs.Prelude.{◌≡◌, false, ℕ, ◌≤◌, ◌<◌, pos, length, get_or};
 ghost use Rattle.integers.specs.Vectors.{zero3, dot};
+ghost use Rattle.refusals.specs.Numbers.{refusal_number};
 ghost use Rattle.meaning.specs.Limits.{gauge_limits, UpTo};
 ghost use Rattle.meaning.specs.Space.{processes};
 ghost use Rattle.meaning.specs.Description.{streams_of};
@@ -26,6 +27,7 @@ use integers::V3;
 use layout::SPANS;
 use meaning::{Description, Limits, Nest, STREAMS};
 use outlook::Outlook;
+use refusals::Refusal;
 use survey::Survey;
 use walk::WALK;
 
@@ -60,18 +62,13 @@ fn own_nest(n: Nest) -> Nest
     requires { Bounded n }
     ensures { Moved n result }
 {
-    let place = n.place;
-    let short = vectors::line_of(n, place);
-    let increment = short.vector;
-    let left = n.left;
-    let right = n.right;
-    let direction = n.direction;
+    let short = vectors::line_of(n, n.place);
     Nest {
-        left: left,
-        right: right,
-        direction: direction,
-        step: step_along(increment),
-        place: place,
+        left: n.left,
+        right: n.right,
+        direction: n.direction,
+        step: step_along(short.vector),
+        place: n.place,
     }
 }
 
@@ -80,15 +77,13 @@ pub fn own_survey(d: Description) -> Survey
     requires { (Ranged d) × (length (streams_of d) ≡ d.sizes.streams) }
     ensures { Own d result }
 {
-    let z = d.sizes;
-    let n = d.nest;
     let streams = d.streams;
     let lines = d.lines;
     survey::survey_of(Description {
-        sizes: z,
-        nest: own_nest(n),
-        streams: streams,
-        lines: lines,
+        sizes: d.sizes,
+        nest: own_nest(d.nest),
+        streams,
+        lines,
     })
 }
 
@@ -100,14 +95,10 @@ fn outlooks_along(v: Survey, walk: &[i8]) -> [Outlook; STREAMS]
     ensures { OutlooksOf v.description result }
 {
     let d = v.description;
-    let g = v.ground;
-    let m = d.sizes.streams;
     let mut out = [outlook::no_outlook(); STREAMS];
-    let mut i: u32 = 0;
-    while i < m {
+    for i in 0..d.sizes.streams {
         let f = survey::flow_at(v, i as usize);
-        out[i as usize] = outlook::outlook_of(f, g, decode::written(d, i), walk);
-        i += 1;
+        out[i as usize] = outlook::outlook_of(f, v.ground, decode::written(d, i), walk);
     }
     out
 }
@@ -118,11 +109,10 @@ fn outlooks_of(v: Survey) -> [Outlook; STREAMS]
     ensures { OutlooksOf v.description result }
 {
     let n = v.description.nest;
-    let g = v.ground;
     let mut spans = [0u32; SPANS];
-    layout::fill_processes(n, g, &mut spans);
+    layout::fill_processes(n, v.ground, &mut spans);
     let mut walk = [0i8; WALK];
-    walk::fill_walk(n, g, &spans, &mut walk);
+    walk::fill_walk(n, v.ground, &spans, &mut walk);
     outlooks_along(v, &walk)
 }
 
@@ -143,12 +133,10 @@ pub fn prospect_of(v: Survey, limits: Limits) -> Prospect
     requires { (Laid v) × (UpTo limits gauge_limits) }
     ensures { ProspectOf limits v.description result }
 {
-    let g = v.ground;
-    let increment = g.increment;
-    let crowded = refuse_nest::processes_refused(g, limits);
+    let crowded = refuse_nest::processes_refused(v.ground, limits);
     Prospect {
-        increment: increment,
-        crowded: crowded,
+        increment: v.ground.increment,
+        crowded,
         streams: v.description.sizes.streams,
         hop: limits.hop,
         outlooks: outlooks_within(v, crowded),
@@ -162,38 +150,30 @@ fn outlook_at(p: Prospect, i: usize) -> Outlook
     requires { i < 6 }
     ensures { result ≡ get_or p.outlooks i no_outlook }
 {
-    let all = p.outlooks;
-    all[i]
+    p.outlooks[i]
 }
 
-// The first answer of a stream to a step vector that is not 0, 0 if none is.
-fn streams_answer(p: Prospect, v: V3) -> u32
+// The first refusal of a stream to a step vector, if there is one.
+fn streams_answer(p: Prospect, v: V3) -> Result<(), Refusal>
     requires { (Within 8 v) × (p.streams ≤ 6) × ((i : ℕ) → i < p.streams → Within 200 (get_or p.outlooks i no_outlook).line) }
-    ensures { result ≡ first_by p.hop v (used p) }
+    ensures { refusal_number result ≡ first_by p.hop v (used p) }
 {
-    let m = p.streams as usize;
-    let mut i: usize = 0;
-    while i < m {
-        let a = outlook::answer_to(outlook_at(p, i), p.hop, v);
-        if a != 0 {
-            return a;
-        }
-        i += 1;
+    for i in 0..p.streams as usize {
+        outlook::answer_to(outlook_at(p, i), p.hop, v)?;
     }
-    0
+    Ok(())
 }
 
 // Accept's answer to a step vector.
-pub fn answer_to(p: Prospect, v: V3) -> u32
+pub fn answer_to(p: Prospect, v: V3) -> Result<(), Refusal>
     requires { Answering p v }
-    ensures { result ≡ answer_by p v }
+    ensures { refusal_number result ≡ answer_by p v }
 {
-    let increment = p.increment;
-    if vectors::dot_of(v, increment) == 0 {
-        8
-    } else if p.crowded {
-        10
-    } else {
-        streams_answer(p, v)
+    if vectors::dot_of(v, p.increment) == 0 {
+        return Err(Refusal::StillIncrement);
     }
+    if p.crowded {
+        return Err(Refusal::Processes);
+    }
+    streams_answer(p, v)
 }

@@ -44,7 +44,13 @@ pub fn late_refusal(f: Flow, g: Ground, walk: &[i8]) -> Result<(), Refusal>
 }
 
 // The same of 13 to 17.
-fn move_refusal(f: Flow, g: Ground, written: bool, limits: Limits, walk: &[i8]) -> Result<(), Refusal>
+fn move_refusal(
+    f: Flow,
+    g: Ground,
+    written: bool,
+    limits: Limits,
+    walk: &[i8],
+) -> Result<(), Refusal>
     requires { (Charted f) × (GroundOf f.nest g) × (Along f.nest walk.now) }
     ensures { refusal_number result ≡ refusal (move_tests limits f.nest written f.stream) }
 {
@@ -61,7 +67,13 @@ fn move_refusal(f: Flow, g: Ground, written: bool, limits: Limits, walk: &[i8]) 
 }
 
 // The same of 11 to 17.
-pub fn stream_refusal(f: Flow, g: Ground, written: bool, limits: Limits, walk: &[i8]) -> Result<(), Refusal>
+pub fn stream_refusal(
+    f: Flow,
+    g: Ground,
+    written: bool,
+    limits: Limits,
+    walk: &[i8],
+) -> Result<(), Refusal>
     requires { (Charted f) × (GroundOf f.nest g) × (Along f.nest walk.now) }
     ensures { refusal_number result ≡ refusal (stream_tests limits f.nest written f.stream) }
 {

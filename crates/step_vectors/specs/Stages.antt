@@ -1,7 +1,9 @@
 -- The refusals 33, 34 and 1 to 7 in stages, and what the survey of a description at a step of its own then holds. Assumes nothing.
-use Rattle.std.specs.Prelude.{◌≡◌, Bool, List, [], ◌∷◌, ◌++◌, ℕ, eqb, ltb}
+use Rattle.std.specs.Prelude.{◌≡◌, Bool, List, [], ◌∷◌, ◌++◌, ℕ, eqb, ltb, Result, IfOk}
 use Rattle.std.proofs.Math.Path.{refl, ap, ap₂}
 use Rattle.std.proofs.Common.{◌∙◌, arith}
+use Rattle.refusals.specs.declared.Refusal.{Refusal}
+use Rattle.refusals.specs.Numbers.{refusal_number}
 use Rattle.meaning.specs.declared.Limits.{Limits}
 use Rattle.meaning.specs.declared.Nest.{Nest}
 use Rattle.meaning.specs.declared.Description.{Description}
@@ -36,10 +38,10 @@ ground_tests l g = (6 if ltb l.instances g.instances) ∷ (7 if eqb g.divisor 0)
 abbrev last_tests : Limits → Nest → List Test
 last_tests l n = (6 if refused6 l n) ∷ (7 if refused7 n) ∷ []
 
--- the survey with the refusal of the call
-pub record Surveying (l : Limits) (s : List ℕ) (k : ℕ) (v : Survey) : Type 0 where
-  pub refusal_is : v.refusal ≡ refusal (vector_tests l s k)
-  pub own : v.refusal ≡ 0 → Own (description_of s) v
+-- the survey, or the refusal of the call
+pub record Surveying (l : Limits) (s : List ℕ) (k : ℕ) (r : Result Survey Refusal) : Type 0 where
+  pub refusal_is : refusal_number r ≡ refusal (vector_tests l s k)
+  pub own : IfOk r (λ v. Own (description_of s) v)
 
 -- all of them
 all_tests_lem : (l : Limits) (s : List ℕ) (k : ℕ)

@@ -10,6 +10,7 @@
 #![tactic(auto)]
 
 ghost use Rattle.std.specs.Prelude.{◌≡◌, [], ◌+◌, ◌*◌, ◌≤◌, ◌<◌, pos, ◌-ℤ◌, length, get_or};
+ghost use Rattle.refusals.specs.Numbers.{refusal_number, numbered};
 ghost use Rattle.meaning.specs.Limits.{limits_of};
 ghost use Rattle.meaning.specs.Tests.{refusal};
 ghost use Rattle.meaning.specs.StepVectors.{vectors, step_vectors};
@@ -20,49 +21,48 @@ ghost use Rattle.step_vectors.specs.Places.{Placed};
 ghost use Rattle.step_vectors.specs.Tally.{Tallying, tally_of};
 
 use integers::V3;
-use meaning::{ANSWERS, Answer, Limits};
+use meaning::{ANSWERS, Limits};
 use prospect::Prospect;
+use refusals::Refusal;
 use survey::{Ground, Survey};
 
 // ---- refusals
 
-// 33 for another board, then 34 for another k, then 1 to 5 of the description as lent; 0 if none applies.
-fn early_refusal(board: u32, s: &[u8], k: u32) -> u32
-    ensures { result ≡ refusal (early_tests (limits_of board) s.now k) }
+// 33 for another board, then 34 for another k, then 1 to 5 of the description as lent.
+fn early_refusal(board: u32, s: &[u8], k: u32) -> Result<(), Refusal>
+    ensures { refusal_number result ≡ refusal (early_tests (limits_of board) s.now k) }
 {
     if 1 < board {
-        return 33;
+        return Err(Refusal::Board);
     }
     if 3 < k {
-        return 34;
+        return Err(Refusal::Entries);
     }
     refuse_words::refusal(s)
 }
 
-// 6 and 7 of the description as lent, which do not look at its step; 0 if neither applies.
-fn ground_refusal(g: Ground, limits: Limits) -> u32
-    ensures { result ≡ refusal (ground_tests limits g) }
+// 6 and 7 of the description as lent, which do not look at its step.
+fn ground_refusal(g: Ground, limits: Limits) -> Result<(), Refusal>
+    ensures { refusal_number result ≡ refusal (ground_tests limits g) }
 {
     if refuse_nest::instances_refused(g, limits) {
-        return 6;
+        return Err(Refusal::Instances);
     }
-    if refuse_nest::low_rank(g) { 7 } else { 0 }
+    if refuse_nest::low_rank(g) {
+        return Err(Refusal::PlaceRank);
+    }
+    Ok(())
 }
 
-// The survey of the description at a step of its own, with the refusal of the call.
-fn survey_of(board: u32, s: &[u8], k: u32, limits: Limits) -> Survey
+// The survey of the description at a step of its own, or the refusal of the call.
+fn survey_of(board: u32, s: &[u8], k: u32, limits: Limits) -> Result<Survey, Refusal>
     requires { limits ≡ limits_of board }
     ensures { Surveying limits s.now k result }
 {
-    let early = early_refusal(board, s, k);
-    if early == 0 {
-        let mut v = prospect::own_survey(decode::description(s));
-        let g = v.ground;
-        v.refusal = ground_refusal(g, limits);
-        v
-    } else {
-        survey::refused(early)
-    }
+    early_refusal(board, s, k)?;
+    let v = prospect::own_survey(decode::description(s));
+    ground_refusal(v.ground, limits)?;
+    Ok(v)
 }
 
 // ---- vectors
@@ -111,6 +111,16 @@ fn vector_count(k: u32, loops: u32) -> u32
     }
 }
 
+// The place of an answer among the counts.
+fn place_of(answer: Result<(), Refusal>) -> usize
+    ensures { result ≡ refusal_number answer }
+{
+    match answer {
+        Ok(()) => 0,
+        Err(e) => e.number() as usize,
+    }
+}
+
 // How many of them get each answer.
 fn tally(p: Prospect, k: u32, loops: u32) -> [u32; ANSWERS]
     requires { Tallying p k loops }
@@ -118,11 +128,9 @@ fn tally(p: Prospect, k: u32, loops: u32) -> [u32; ANSWERS]
 {
     let all = vector_count(k, loops);
     let mut counts = [0u32; ANSWERS];
-    let mut j: u32 = 0;
-    while j < all {
-        let a = prospect::answer_to(p, vector_at(k, loops, j)) as usize;
+    for j in 0..all {
+        let a = place_of(prospect::answer_to(p, vector_at(k, loops, j)));
         counts[a] += 1;
-        j += 1;
     }
     counts
 }
@@ -130,19 +138,18 @@ fn tally(p: Prospect, k: u32, loops: u32) -> [u32; ANSWERS]
 // ---- the call
 
 // Step vectors: the counts of accepted and of refusals 1 to 17.
-pub fn step_vectors(board: u32, s: &[u8], k: u32, counts: &mut [u32; ANSWERS]) -> Answer
-    ensures { (result ≡ (step_vectors (limits_of board) s.now k counts.old).answer)
+pub fn step_vectors(
+    board: u32,
+    s: &[u8],
+    k: u32,
+    counts: &mut [u32; ANSWERS],
+) -> Result<(), Refusal>
+    ensures { (numbered result ≡ (step_vectors (limits_of board) s.now k counts.old).answer)
         × (counts.new ≡ (step_vectors (limits_of board) s.now k counts.old).counts) }
 {
     let limits = boards::limits_of(board);
-    let v = survey_of(board, s, k, limits);
-    let refusal = v.refusal;
-    if refusal == 0 {
-        let p = prospect::prospect_of(v, limits);
-        let loops = v.description.sizes.loops;
-        *counts = tally(p, k, loops);
-        Answer::Done
-    } else {
-        Answer::Refused(refusal)
-    }
+    let v = survey_of(board, s, k, limits)?;
+    let p = prospect::prospect_of(v, limits);
+    *counts = tally(p, k, v.description.sizes.loops);
+    Ok(())
 }

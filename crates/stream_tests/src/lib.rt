@@ -22,9 +22,7 @@ pub fn line_refused(f: Flow) -> bool
     requires { Charted f }
     ensures { result ≡ refused12 f.nest f.stream }
 {
-    let n = f.nest;
-    let line = f.line;
-    survey::still(n, line)
+    survey::still(f.nest, f.line)
 }
 
 // Refusal 13: a component of the move outside −1 to 1; a loading vector has none.
@@ -32,8 +30,7 @@ pub fn move_refused(f: Flow) -> bool
     requires { Charted f }
     ensures { result ≡ refused13 f.nest f.stream }
 {
-    let way = f.way;
-    !survey::small2(way)
+    !survey::small2(f.way)
 }
 
 // Refusal 14: moving with a hop over the limit.
@@ -49,9 +46,7 @@ pub fn order_refused(f: Flow, written: bool) -> bool
     requires { Charted f }
     ensures { result ≡ refused15 written f.nest f.stream }
 {
-    let direction = f.nest.direction;
-    let line = f.line;
-    written && vectors::against(direction, line)
+    written && vectors::against(f.nest.direction, f.line)
 }
 
 // Refusal 16: moving with a loading vector, or stationary with none.

@@ -1,8 +1,8 @@
 -- The refusals in stages, each a test or two and the stage after them; lists of tests one after the other; stream by stream. Assumes
 -- nothing.
-use Rattle.std.specs.Prelude.{◌≡◌, Bool, true, false, cond, List, [], ◌∷◌, ◌++◌, ℕ, ◌+◌, ◌≤◌, ◌<◌, T, drop}
+use Rattle.std.specs.Prelude.{◌≡◌, Bool, true, false, List, [], ◌∷◌, ◌++◌, ℕ, ◌+◌, ◌≤◌, ◌<◌, T, drop}
 use Rattle.std.proofs.Math.Path.{refl, sym}
-use Rattle.std.proofs.Common.{◌∙◌, ap₂, arith, drop_of_length-le, get_or-take, ltb-false}
+use Rattle.std.proofs.Common.{◌∙◌, arith, drop_of_length-le, get_or-take, ltb-false}
 use Rattle.std.proofs.Math.Numerals.{add-one}
 use Rattle.std.proofs.Math.ListN.{length, get_or}
 use Rattle.std.proofs.Math.Seq.{drop-cons}
@@ -16,7 +16,6 @@ use Rattle.meaning.specs.Space.{processes}
 use Rattle.meaning.specs.Description.{description_of, streams_of, no_stream, written}
 use Rattle.meaning.specs.Accept.{refused33, refused6, refused7, refused8, refused10, refused13, refused14, refused15, refused16, refused17}
 use Rattle.meaning.specs.Accept.{stream_tests, tests_from, refusal_of}
-use Rattle.meaning.specs.Calls.{or_else}
 use Rattle.meaning.specs.Walk.{walk_tests, walk_refusal}
 use Rattle.geometry.specs.Tests.{numbered, none_applies, one_applies}
 use Rattle.decode.specs.Refusals.{first_tests, refuses, passes, passed}
@@ -37,18 +36,9 @@ order_tests n w s = (15 if refused15 w n s) ∷ late_tests n s
 abbrev pub move_tests : Limits → Nest → Bool → Stream → List Test
 move_tests l n w s = (13 if refused13 n s) ∷ (14 if refused14 l n s) ∷ order_tests n w s
 
--- 33 and 1 to 5: the board's refusal, or else that of the words
+-- 33 and 1 to 5
 abbrev pub early_tests : Limits → List ℕ → List Test
 early_tests l s = (33 if refused33 l) ∷ first_tests s
-
-pub early : (l : Limits) (s : List ℕ) {r b w : ℕ} → r ≡ or_else b w → b ≡ refusal ((33 if refused33 l) ∷ []) → w ≡ refusal (first_tests s)
-    → r ≡ refusal (early_tests l s)
-unfolding refusal
-early l s e f g = e ∙ ap₂ or_else f g ∙ go (refused33 l)
-  where
-    go : (b : Bool) → or_else (cond b 33 0) (refusal (first_tests s)) ≡ cond b 33 (refusal (first_tests s))
-    go true = refl
-    go false = refl
 
 -- 33 and 1 to 10, after those
 pub walk_tests_lem : (l : Limits) (s : List ℕ) → refusal (early_tests l s ++ layout_tests l (description_of s).nest) ≡ walk_refusal l s

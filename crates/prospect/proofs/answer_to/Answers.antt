@@ -1,10 +1,8 @@
 -- `prospect::answer_to` meets its contract. Assumes nothing.
-use mathlib.Core.Path.{◌≡◌, refl, sym, ◌∙◌, ap}
-use mathlib.Core.Bool.{false}
+use mathlib.Core.Path.{refl, sym, ◌∙◌, ap}
 use lib.IntN.{ℤ, pos}
 use borrow.Author.Tests.{eq-eqb, ne_eqb}
 use Rattle.integers.specs.Words.{eq_z}
-use Rattle.integers.specs.Vectors.{dot}
 use Rattle.vectors.specs.Within.{zero_bits}
 use Rattle.prospect.proofs.answer_to.Goals as goal
 
@@ -29,8 +27,8 @@ returns-then-p c =
       c.if-p.true,
     ) refl
 
-pub returns-else-p : goal.returns-else-p
-returns-else-p c =
+pub returns : goal.returns
+returns c =
     let d = c.dot_of in
     rw (
       sym (zero_bits tt d.ensures.1 ∙ ap (λ (z : ℤ). eq_z z (pos 0)) d.ensures.0) ∙ ne_eqb _ _ c.if-dot_of-eq0.false,

@@ -1,9 +1,9 @@
 -- `prospect::outlooks_along` meets its contract: the outlooks are those of the first i streams. Assumes nothing.
-use mathlib.Core.Path.{◌≡◌, refl, sym, subst, subst₂}
+use mathlib.Core.Path.{refl, sym, subst, subst₂}
 use mathlib.Core.Bool.{Bool}
-use Prim.Native.Nat.{ℕ, ◌-◌, ◌≤◌, ◌<◌}
+use Prim.Native.Nat.{ℕ, ◌<◌}
 use native.Mathlib.Omega.{arith}
-use lib.ListN.{length, get_or, length-set}
+use lib.ListN.{get_or, length-set}
 use Rattle.meaning.specs.declared.Nest.{Nest}
 use Rattle.meaning.specs.declared.Stream.{Stream}
 use Rattle.meaning.specs.Description.{no_stream, written}
@@ -13,12 +13,10 @@ use Rattle.outlook.specs.Outlooks.{OutlookOf, no_outlook}
 use Rattle.survey.specs.InRange.{in_range_lem}
 use Rattle.survey.specs.Surveys.{GroundOf, charted, flow_is}
 use Rattle.walk.specs.Walked.{Along}
-use Rattle.prospect.specs.Prospects.{FirstOutlooks}
-use borrow.Author.Rules.{rules}
 use Rattle.prospect.proofs.outlooks_along.Goals as goal
 
 pub loop-i-init : goal.loop-i-init
-loop-i-init c = (omega arith, refl, λ i l. absurd (omega arith))
+loop-i-init c = (refl, λ i l. absurd (omega arith))
 
 pub flow_at-f-requires : goal.flow_at-f-requires
 flow_at-f-requires c =
@@ -47,9 +45,6 @@ offset_bounds-out-i c = record { fits = omega (arith, stream_lt c) }
 pub bounds-out-i : goal.bounds-out-i
 bounds-out-i c = omega (arith, stream_lt c)
 
-pub overflow_add-i : goal.overflow_add-i
-overflow_add-i c = record { fits = omega (arith, stream_lt c) }
-
 pub loop-i-preserved : goal.loop-i-preserved
 loop-i-preserved c =
     let l = c.loop-i in
@@ -57,13 +52,12 @@ loop-i-preserved c =
     let d = c.args.v.description in
     let k = flow_is c.requires.1 l.i t c.flow_at-f.ensures in
     let o = c.outlook_of.result in (
-      omega (arith, t),
-      simp length-set l.invariant.1,
+      simp length-set l.invariant.0,
       known_next (λ (k : ℕ) (o : Outlook). OutlookOf d.nest (written d k) (get_or d.streams k no_stream) o) no_outlook l.out
-          (omega (arith, stream_lt c, l.invariant.1)) l.invariant.2
+          (omega (arith, stream_lt c, l.invariant.0)) l.invariant.1
           (subst (λ (b : Bool). OutlookOf d.nest b (get_or d.streams l.i no_stream) o) c.written.ensures
           (subst₂ (λ (n : Nest) (r : Stream). OutlookOf n c.written.result r o) k.nest_is k.stream_is c.outlook_of.ensures)),
     )
 
 pub returns : goal.returns
-returns c i h = c.loop-i.invariant.2 i (omega (arith, c.loop-i-test.false, h))
+returns c i h = c.loop-i.invariant.1 i (omega (arith, h))

@@ -3,7 +3,6 @@
 use Rattle.decode.specs.Refusals.{accepts}
 use Rattle.survey.specs.Grounds.{six, seven, eight, ten}
 use Rattle.survey.specs.Stages.{applies, skips}
-use borrow.Author.Rules.{rules}
 use Rattle.refuse_nest.proofs.nest_refusal.Goals as goal
 
 pub returns-then-instances_refused : goal.returns-then-instances_refused

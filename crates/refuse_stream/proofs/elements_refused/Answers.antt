@@ -6,7 +6,6 @@ use native.Mathlib.Omega.{arith}
 use lib.ListN.{get_or-replicate}
 use Rattle.untouched.specs.Search.{box_sized, size_is, searching_by, refusal_by, too_many}
 use Rattle.survey.specs.Surveys.{spans}
-use borrow.Author.Rules.{rules}
 use Rattle.refuse_stream.proofs.elements_refused.Goals as goal
 
 pub size_of-elements-requires : goal.size_of-elements-requires

@@ -1,7 +1,6 @@
 -- `refuse_stream::late_refusal` meets its contract: the first of the tests 16 and 17 that applies gives the number. Assumes nothing.
 use Rattle.decode.specs.Refusals.{accepts}
 use Rattle.survey.specs.Stages.{applies, skips}
-use borrow.Author.Rules.{rules}
 use Rattle.refuse_stream.proofs.late_refusal.Goals as goal
 
 pub returns-then-loading_refused : goal.returns-then-loading_refused

@@ -1,7 +1,6 @@
--- `refuse_stream::move_refusal` meets its contract: the first of the tests 13, 14 and 15 that applies gives the number; where none does, the
--- tests 16 and 17 give it. Assumes nothing.
+-- `refuse_stream::move_refusal` meets its contract: the first of the tests 13, 14 and 15 that applies gives the number; where none does,
+-- the tests 16 and 17 give it. Assumes nothing.
 use Rattle.survey.specs.Stages.{applies, skips}
-use borrow.Author.Rules.{rules}
 use Rattle.refuse_stream.proofs.move_refusal.Goals as goal
 
 pub returns-then-move_refused : goal.returns-then-move_refused

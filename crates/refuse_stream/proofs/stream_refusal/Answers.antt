@@ -1,7 +1,6 @@
 -- `refuse_stream::stream_refusal` meets its contract: the first of the tests 11 and 12 that applies gives the number; where neither does,
 -- the tests 13 to 17 give it. Assumes nothing.
 use Rattle.survey.specs.Stages.{move_tests, applies, skips}
-use borrow.Author.Rules.{rules}
 use Rattle.refuse_stream.proofs.stream_refusal.Goals as goal
 
 pub returns-then-rank_refused : goal.returns-then-rank_refused

@@ -1,6 +1,5 @@
 -- `refuse_words::in_range` meets its contract. Assumes nothing.
 use mathlib.Core.Path.{◌∙◌, ap}
-use borrow.Author.Rules.{rules}
 use Rattle.integers.specs.Words.{held}
 use Rattle.meaning.specs.Description.{in_range}
 use Rattle.refuse_words.proofs.in_range.Goals as goal

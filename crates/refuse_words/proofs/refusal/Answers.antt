@@ -4,7 +4,6 @@ use mathlib.Core.Path.{◌∙◌, sym, ap}
 use mathlib.Core.Bool.{not}
 use borrow.Author.Tests.{lt-ltb, le-ltb, eq-eqb, ne_eqb}
 use Rattle.decode.specs.Refusals.{refuses, passes, sizes_in_range}
-use borrow.Author.Rules.{rules}
 use Rattle.refuse_words.proofs.refusal.Goals as goal
 
 pub line_at-n-requires : goal.line_at-n-requires

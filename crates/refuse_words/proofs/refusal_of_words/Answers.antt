@@ -3,7 +3,6 @@
 use mathlib.Core.Path.{sym, ◌∙◌, ap}
 use Rattle.meaning.specs.Description.{refused5}
 use Rattle.decode.specs.Refusals.{refuses, passes, accepts}
-use borrow.Author.Rules.{rules}
 use Rattle.refuse_words.proofs.refusal_of_words.Goals as goal
 
 pub returns-then-word_refused : goal.returns-then-word_refused

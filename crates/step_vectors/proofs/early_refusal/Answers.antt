@@ -1,7 +1,6 @@
 -- `step_vectors::early_refusal` meets its contract. Assumes nothing.
 use borrow.Author.Tests.{lt-ltb, le-ltb}
 use Rattle.decode.specs.Refusals.{refuses, passes}
-use borrow.Author.Rules.{rules}
 use Rattle.step_vectors.proofs.early_refusal.Goals as goal
 
 pub returns-then-board-gt1 : goal.returns-then-board-gt1

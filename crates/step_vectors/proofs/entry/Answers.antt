@@ -1,7 +1,6 @@
 -- `step_vectors::entry` meets its contract: the difference of two numbers up to 6 fits. Assumes nothing.
 use native.Mathlib.Omega.{arith}
 use Rattle.integers.specs.Words.{fits, box, sub, bits}
-use borrow.Author.Rules.{rules}
 use Rattle.step_vectors.proofs.entry.Goals as goal
 
 pub overflow_sub-result : goal.overflow_sub-result

@@ -1,7 +1,6 @@
 -- `step_vectors::ground_refusal` meets its contract. Assumes nothing.
 use Rattle.decode.specs.Refusals.{accepts}
 use Rattle.survey.specs.Stages.{applies, skips}
-use borrow.Author.Rules.{rules}
 use Rattle.step_vectors.proofs.ground_refusal.Goals as goal
 
 pub returns-then-instances_refused : goal.returns-then-instances_refused
@@ -11,6 +10,6 @@ pub returns-then-low_rank : goal.returns-then-low_rank
 returns-then-low_rank c =
     skips 6 _ c.instances_refused.ensures c.if-instances_refused.false (applies 7 _ c.low_rank.ensures c.if-low_rank.true)
 
-pub returns-else-low_rank : goal.returns-else-low_rank
-returns-else-low_rank c =
+pub returns : goal.returns
+returns c =
     skips 6 _ c.instances_refused.ensures c.if-instances_refused.false (skips 7 _ c.low_rank.ensures c.if-low_rank.false accepts)

@@ -1,7 +1,7 @@
 -- `step_vectors::tally` meets its contract: the counts are those of the first j answers. Assumes nothing.
 use mathlib.Core.Path.{◌≡◌, refl, sym, ◌∙◌, ap, subst}
 use mathlib.Core.List.{[]}
-use Prim.Native.Nat.{ℕ, ◌-◌, ◌<◌}
+use Prim.Native.Nat.{ℕ, ◌<◌}
 use native.Mathlib.Omega.{arith}
 use lib.ListN.{length, get_or, length-map}
 use Rattle.integers.specs.declared.V3.{V3}
@@ -10,8 +10,7 @@ use Rattle.meaning.specs.HowManyWork.{step_vector}
 use Rattle.lists.specs.Members.{map_at}
 use Rattle.prospect.specs.declared.Prospect.{Prospect}
 use Rattle.prospect.specs.Prospects.{answer_by}
-use Rattle.step_vectors.specs.Tally.{answers_by, Counted, Tallying, count_most, counted_none, counted_next, counted_all}
-use borrow.Author.Rules.{rules}
+use Rattle.step_vectors.specs.Tally.{answers_by, Tallying, count_most, counted_none, counted_next, counted_all}
 use Rattle.step_vectors.proofs.tally.Goals as goal
 
 pub vector_count-all-requires : goal.vector_count-all-requires
@@ -26,8 +25,8 @@ vector_at-requires c =
     let p = c.requires in
     record { few = p.few; least = p.least; most = p.most; place = omega (arith, c.loop-j-test.true, v.0) }
 
-pub answer_to-a-requires : goal.answer_to-a-requires
-answer_to-a-requires c =
+pub answer_to-requires : goal.answer_to-requires
+answer_to-requires c =
     c.requires.answering c.vector_at.result c.vector_at.ensures.1
 
 -- the answer of vector j, one that is counted
@@ -41,14 +40,15 @@ module _ (p : Prospect) (k loops j : ℕ) (l : j < length (vectors k loops)) whe
 below : (x : V3) {p : Prospect} {k loops r : ℕ} → Tallying p k loops → r ≡ answer_by p x → r < answer_count
 below x h e = subst (λ (n : ℕ). n < answer_count) (sym e) (h.below x)
 
-pub overflow_cast-a : goal.overflow_cast-a
-overflow_cast-a c = record { fits = omega (arith, below c.vector_at.result c.requires c.answer_to-a.ensures) }
+-- the answer of vector j, by its place
+placed : (c : goal.After-place_of-a) → c.place_of-a.result ≡ answer_by c.args.p c.vector_at.result
+placed c = c.place_of-a.ensures ∙ c.answer_to.ensures
 
 pub offset_bounds-counts-a : goal.offset_bounds-counts-a
-offset_bounds-counts-a c = record { fits = omega (arith, below c.vector_at.result c.requires c.answer_to-a.ensures) }
+offset_bounds-counts-a c = record { fits = omega (arith, below c.vector_at.result c.requires (placed c)) }
 
 pub bounds-counts-a : goal.bounds-counts-a
-bounds-counts-a c = below c.vector_at.result c.requires c.answer_to-a.ensures
+bounds-counts-a c = below c.vector_at.result c.requires (placed c)
 
 pub overflow_add-counts : goal.overflow_add-counts
 overflow_add-counts c =
@@ -59,7 +59,7 @@ overflow_add-counts c =
       fits =
           omega (
             arith,
-            count_most answers c.loop-j.invariant c.answer_to-a.result (below c.vector_at.result c.requires c.answer_to-a.ensures),
+            count_most answers c.loop-j.invariant c.place_of-a.result (below c.vector_at.result c.requires (placed c)),
             length-map (vectors a.k a.loops) (λ v. answer_by a.p (step_vector v)),
             v.0,
             v.1,
@@ -67,11 +67,7 @@ overflow_add-counts c =
     }
 
 pub bounds-counts-a-in-loop-j : goal.bounds-counts-a-in-loop-j
-bounds-counts-a-in-loop-j c = below c.vector_at.result c.requires c.answer_to-a.ensures
-
-pub overflow_add-j : goal.overflow_add-j
-overflow_add-j c =
-    record { fits = omega (arith, c.loop-j-test.true, c.vector_count-all.ensures.1) }
+bounds-counts-a-in-loop-j c = below c.vector_at.result c.requires (placed c)
 
 pub loop-j-preserved : goal.loop-j-preserved
 loop-j-preserved c =
@@ -79,8 +75,8 @@ loop-j-preserved c =
     let j = c.loop-j.j in
     let l : j < length (vectors a.k a.loops) = omega (arith, c.loop-j-test.true, c.vector_count-all.ensures.0) in
     counted_next (answers_by a.p a.k a.loops) (in_answers a.p a.k a.loops j l)
-    (here_is a.p a.k a.loops j l c.answer_to-a.ensures c.vector_at.ensures.0)
-    (below c.vector_at.result c.requires c.answer_to-a.ensures) c.loop-j.invariant
+    (here_is a.p a.k a.loops j l (placed c) c.vector_at.ensures.0)
+    (below c.vector_at.result c.requires (placed c)) c.loop-j.invariant
 
 pub returns : goal.returns
 returns c =
@@ -88,7 +84,6 @@ returns c =
     counted_all (answers_by a.p a.k a.loops)
     (omega (
       arith,
-      c.loop-j-test.false,
       c.vector_count-all.ensures.0,
       length-map (vectors a.k a.loops) (λ v. answer_by a.p (step_vector v)),
     ))

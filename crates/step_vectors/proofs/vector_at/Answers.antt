@@ -12,7 +12,6 @@ use Rattle.integers.specs.Vectors.{same3}
 use Rattle.meaning.specs.StepVectors.{vectors}
 use Rattle.meaning.specs.HowManyWork.{step_vector}
 use Rattle.step_vectors.specs.Places.{Placed, two_digits, three_digits, entry_small}
-use borrow.Author.Rules.{rules}
 use Rattle.step_vectors.proofs.vector_at.Goals as goal
 
 -- the place, with two entries and with three

@@ -6,7 +6,6 @@ use native.Mathlib.Omega.{arith}
 use lib.ListN.{length}
 use Rattle.meaning.specs.StepVectors.{vectors}
 use Rattle.step_vectors.specs.Places.{two_long, three_long}
-use borrow.Author.Rules.{rules}
 use Rattle.step_vectors.proofs.vector_count.Goals as goal
 
 -- at most seven entries

@@ -9,13 +9,12 @@ use Rattle.integers.specs.declared.V2.{V2}
 use Rattle.integers.specs.declared.V3.{V3}
 use Rattle.meaning.specs.Loops.{step_of}
 use Rattle.meaning.specs.Space.{Box, eq2}
-use Rattle.meaning.specs.Streams.{line, stationary}
+use Rattle.meaning.specs.Streams.{stationary}
 use Rattle.meaning.specs.Pipes.{backward}
 use Rattle.vectors.specs.Within.{rows_wider}
 use Rattle.numbering.specs.Extents.{Spanning, box_spanning}
 use Rattle.counting.specs.Forms.{weigh}
 use Rattle.survey.specs.Small.{step_up}
-use borrow.Author.Rules.{rules}
 use Rattle.survey.proofs.flow_of.Goals as goal
 
 pub image_of-across-requires : goal.image_of-across-requires

@@ -2,7 +2,6 @@
 use mathlib.Core.Path.{◌∙◌, ap}
 use lib.ListN.{length}
 use Rattle.meaning.specs.Space.{Box, points}
-use borrow.Author.Rules.{rules}
 use Rattle.survey.proofs.ground_of.Goals as goal
 
 pub returns : goal.returns

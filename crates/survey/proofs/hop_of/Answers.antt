@@ -2,7 +2,6 @@
 use mathlib.Core.Path.{◌∙◌, ap}
 use lib.IntN.{nat_abs}
 use Rattle.integers.specs.Words.{held}
-use borrow.Author.Rules.{rules}
 use Rattle.survey.proofs.hop_of.Goals as goal
 
 pub returns-else-stationary : goal.returns-else-stationary

@@ -5,7 +5,6 @@ use lib.Dec.{leb}
 use lib.IntN.{nat_abs}
 use Rattle.integers.specs.Words.{tower}
 use Rattle.geometry.specs.Numbers.{small_is}
-use borrow.Author.Rules.{rules}
 use Rattle.survey.proofs.small.Goals as goal
 
 pub returns : goal.returns

@@ -4,7 +4,6 @@ use mathlib.Core.Path.{◌∙◌, ap}
 use Rattle.integers.specs.Words.{at}
 use Rattle.meaning.specs.Accept.{small}
 use Rattle.survey.specs.Small.{and_goes, and_stops}
-use borrow.Author.Rules.{rules}
 use Rattle.survey.proofs.small2.Goals as goal
 
 pub returns-then-small : goal.returns-then-small

@@ -3,7 +3,6 @@ use mathlib.Core.Path.{◌∙◌, ap}
 use lib.IntN.{ℤ, pos}
 use Rattle.integers.specs.Words.{eq_z}
 use Rattle.vectors.specs.Within.{zero_bits}
-use borrow.Author.Rules.{rules}
 use Rattle.survey.proofs.still.Goals as goal
 
 pub returns : goal.returns

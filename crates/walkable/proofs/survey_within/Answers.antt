@@ -3,7 +3,6 @@
 use mathlib.Core.Path.{sym}
 use native.Mathlib.Omega.{arith}
 use Rattle.walkable.specs.Walkable.{walkable}
-use borrow.Author.Rules.{rules}
 use Rattle.walkable.proofs.survey_within.Goals as goal
 
 pub fill_processes-requires : goal.fill_processes-requires
