@@ -7,7 +7,6 @@ use native.Mathlib.Omega.{arith}
 use lib.ListN.{length, get_or}
 use Rattle.meaning.specs.Description.{streams_of}
 use Rattle.table.specs.Blocks.{Streamed, zeros_length, front_copied, streamed_copied}
-use borrow.Author.Rules.{rules}
 use Rattle.table.proofs.draw.Goals as goal
 
 pub copy_spans-requires : goal.copy_spans-requires
@@ -30,5 +29,5 @@ returns c =
       spans = c.requires.2;
       copied = subst (λ (v : List ℕ). (j : ℕ) → j < 3072 → get_or v j 0 ≡ get_or es j 0) (sym c.copy_spans.ensures) (front_copied es w l);
       streams = subst (Streamed d.nest (streams_of d) _) (sym c.copy_spans.ensures)
-        (streamed_copied es w l c.fill_streams.ensures);
+          (streamed_copied es w l c.fill_streams.ensures);
     }
