@@ -50,18 +50,11 @@ fn lend<'s>(s: &'s [u8], n: usize, board: u32) -> Listed
     both(answer, rows)
 }
 
-// As many rows as are asked for, up to as many as there are.
-fn room(n: usize) -> usize
-    ensures { result ≡ min n gauge_limits.processes }
-{
-    n.min(PROCESSES)
-}
-
 // The call is lent n marked rows, or 1,024 if that is fewer: there are never more processes.
 pub fn table<'s>(s: &'s [u8], n: usize, board: u32) -> Listed
     ensures { (result.answer ≡ (table (limits_of board) s.now (replicate (min n gauge_limits.processes) marked)).answer)
         × (result.rows ≡ (table (limits_of board) s.now (replicate (min n gauge_limits.processes) marked)).rows
         ++ replicate (gauge_limits.processes - min n gauge_limits.processes) marked) }
 {
-    lend(s, room(n), board)
+    lend(s, n.min(PROCESSES), board)
 }
