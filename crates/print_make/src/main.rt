@@ -21,8 +21,7 @@ fn print_refusal(rt: &impl Eprint, number: u32) -> io::Result<()> {
 
 fn print_make(rt: &(impl Print + Eprint), seed: u32, z: Sizes) -> io::Result<()> {
     let mut out = [0u8; BYTES];
-    let answer = make::make(seed, z, &mut out);
-    match answer {
+    match make::make(seed, z, &mut out) {
         Made::Made { bytes } => print_bytes(rt, &out, bytes),
         Made::Refused(number) => print_refusal(rt, number),
     }
