@@ -9,198 +9,94 @@
 
 #![tactic(auto)]
 
-ghost use Rattle.std.specs.Prelude.{◌+◌, ◌*◌, ◌<◌, ◌≤◌, length, IfOk};
+ghost use Rattle.std.specs.Prelude.{◌+◌, ◌≤◌, length, IfOk};
 ghost use Rattle.meaning.specs.Limits.{gauge_limits, elements_most};
 
 use integers::V3;
 use layout::SPANS;
-use meaning::{Acceptance, Answer, Divisors, ELEMENTS, Figures, PROCESSES, Row};
+use meaning::{Divisors, ELEMENTS, Figures, PROCESSES, Row};
+use refusals::Refusal;
 use std::io;
 use std::io::Read;
+use text::{Each, Instance, Point};
 use walk::WALK;
+
+// How many descriptions are read, and the bytes of one that are read.
+const DESCRIPTIONS: u32 = 65536;
+
+const BYTES: usize = 508;
 
 // ---- sums
 
-// A whole number modulo 2^32.
-fn mix_signed(sum: u32, z: i32) -> u32 {
-    let size = integers::magnitude(z);
-    if z < 0 {
-        return sums::mix(sum, std::num::wrapping_sub_u32(0, size));
-    }
-    sums::mix(sum, size)
+// The sum goes on over whole numbers, each modulo 2^32.
+fn mix_signed<T: Into<i32> + Copy>(sum: u32, numbers: &[T]) -> u32 {
+    numbers
+        .iter()
+        .fold(sum, |sum, z| sums::mix(sum, (*z).into().cast_unsigned()))
 }
 
 fn mix_vector(sum: u32, v: V3) -> u32 {
-    mix_signed(mix_signed(mix_signed(sum, v.x), v.y), v.z)
-}
-
-fn mix_streams(sum: u32, words: [u32; 6]) -> u32 {
-    sums::sum_of(sum, &words, 6)
+    mix_signed(sum, &[v.x, v.y, v.z])
 }
 
 fn mix_row(sum: u32, r: Row) -> u32 {
     let y = r.point;
-    let point = mix_signed(mix_signed(sum, y.a), y.b);
+    let point = mix_signed(sum, &[y.a, y.b]);
     let count = sums::mix(point, r.count);
     let first = mix_vector(count, r.first);
     let last = mix_vector(first, r.last);
-    let soak = r.soak;
-    let soaks = mix_streams(last, soak);
-    let drain = r.drain;
-    mix_streams(soaks, drain)
+    let soaks = sums::sum_of(last, &r.soak);
+    sums::sum_of(soaks, &r.drain)
 }
 
-fn sum_of_rows(rows: [Row; PROCESSES], count: usize) -> u32 {
-    let mut sum: u32 = 0;
-    let mut p: usize = 0;
-    while p < PROCESSES {
-        if count <= p {
-            return sum;
-        }
-        sum = mix_row(sum, rows[p]);
-        p += 1;
-    }
-    sum
-}
-
-// The same of the walk's first instances, from 0.
-fn sum_of_walk(walk: &[i8], instances: usize) -> u32
-    requires { 3 * instances ≤ length walk.now }
-{
-    let mut sum: u32 = 0;
-    let mut k: usize = 0;
-    while k < instances {
-        sum = mix_vector(sum, walk::instance_at(walk, k));
-        k += 1;
-    }
-    sum
-}
-
-// The words of an output before a call.
-fn mark(output: &mut [u32], count: usize)
-    requires { count ≤ length output.old }
-{
-    let mut k: usize = 0;
-    while k < count {
-        output[k] = 7;
-        k += 1;
-    }
+fn sum_of_rows(rows: &[Row]) -> u32 {
+    rows.iter().fold(0, |sum, row| mix_row(sum, *row))
 }
 
 // ---- text
 
-fn print(rt: &impl Print, text: &[u8]) -> io::Result<()> {
-    rt.write_all(text)
-}
-
-fn print_number(rt: &impl Print, x: u32) -> io::Result<()> {
-    print(rt, b" ")?;
-    rt.print(x)
-}
-
-fn print_signed(rt: &impl Print, z: i32) -> io::Result<()> {
-    let size = integers::magnitude(z);
-    if z < 0 {
-        print(rt, b" -")?;
-        rt.print(size)
-    } else {
-        print_number(rt, size)
-    }
-}
-
-fn print_vector(rt: &impl Print, v: V3) -> io::Result<()> {
-    print_signed(rt, v.x)?;
-    print_signed(rt, v.y)?;
-    print_signed(rt, v.z)
-}
-
-fn print_words(rt: &impl Print, words: &[u32], count: usize) -> io::Result<()>
-    requires { count ≤ length words.now }
-{
-    let mut i: usize = 0;
-    while i < count {
-        print_number(rt, words[i])?;
-        i += 1;
-    }
-    Ok(())
-}
-
-fn print_instances(rt: &impl Print, walk: &[i8], instances: usize) -> io::Result<()>
-    requires { 3 * instances ≤ length walk.now }
-{
-    let mut k: usize = 0;
-    while k < instances {
-        print_vector(rt, walk::instance_at(walk, k))?;
-        k += 1;
-    }
-    Ok(())
-}
-
-fn print_streams(rt: &impl Print, words: [u32; 6]) -> io::Result<()> {
-    print_words(rt, &words, 6)
-}
-
 fn print_row(rt: &impl Print, r: Row) -> io::Result<()> {
-    print(rt, b"row")?;
-    let y = r.point;
-    print_signed(rt, y.a)?;
-    print_signed(rt, y.b)?;
-    print_number(rt, r.count)?;
-    print_vector(rt, r.first)?;
-    print_vector(rt, r.last)?;
-    let soak = r.soak;
-    print_streams(rt, soak)?;
-    let drain = r.drain;
-    print_streams(rt, drain)?;
-    print(rt, b"\n")
+    let point = Point {
+        y: r.point,
+        loops: 3,
+    };
+    let count = r.count;
+    let first = Instance {
+        x: r.first,
+        loops: 3,
+    };
+    let last = Instance {
+        x: r.last,
+        loops: 3,
+    };
+    let soak = Each(&r.soak[..]);
+    let drain = Each(&r.drain[..]);
+    println!(rt; "row{point} {count}{first}{last}{soak}{drain}")
 }
 
-fn print_rows(rt: &impl Print, rows: [Row; PROCESSES], count: usize) -> io::Result<()> {
-    let mut p: usize = 0;
-    while p < PROCESSES {
-        if count <= p {
-            return Ok(());
-        }
-        print_row(rt, rows[p])?;
-        p += 1;
-    }
-    Ok(())
-}
-
-fn print_list(rt: &impl Print, name: &[u8], words: &[u32], count: usize) -> io::Result<()>
-    requires { count ≤ length words.now }
-{
-    print(rt, name)?;
-    print_words(rt, words, count)?;
-    print(rt, b"\n")
-}
-
-fn print_call(rt: &impl Print, answer: Answer, sum: u32) -> io::Result<()> {
-    print_number(rt, answer_words::number_of(answer))?;
-    print_number(rt, sum)
+fn print_call(rt: &impl Print, answer: Result<(), Refusal>, sum: u32) -> io::Result<()> {
+    let number = answer_words::number_of(&answer);
+    print!(rt; " {number} {sum}")
 }
 
 fn print_figures(rt: &impl Print, f: Figures, g: Divisors) -> io::Result<()> {
-    rt.print(f.processes)?;
-    print_number(rt, f.instances)?;
-    print_number(rt, f.elements)?;
-    print_number(rt, f.pipes)?;
-    print_number(rt, f.words)?;
-    print_number(rt, f.steps)?;
-    print_number(rt, g.place)?;
-    print_number(rt, g.stream0)?;
-    print_number(rt, g.stream1)?;
-    print_number(rt, g.stream2)?;
-    print_number(rt, g.stream3)?;
-    print_number(rt, g.stream4)?;
-    print_number(rt, g.stream5)?;
-    print(rt, b"\n")
-}
-
-fn print_refusal(rt: &impl Print, number: u32) -> io::Result<()> {
-    print(rt, b"refused")?;
-    print_number(rt, number)?;
-    print(rt, b"\n")
+    let processes = f.processes;
+    let others = [
+        f.instances,
+        f.elements,
+        f.pipes,
+        f.words,
+        f.steps,
+        g.place,
+        g.stream0,
+        g.stream1,
+        g.stream2,
+        g.stream3,
+        g.stream4,
+        g.stream5,
+    ];
+    let others = Each(&others[..]);
+    println!(rt; "{processes}{others}")
 }
 
 // ---- the calls
@@ -213,33 +109,21 @@ struct Extents {
     small: bool,
 }
 
-// x, or the nearest number from 1 to most.
-fn within(x: u32, most: usize) -> usize
-    requires { (1 ≤ most) × (most < 4294967296) }
-    ensures { (1 ≤ result) × (result ≤ most) }
-{
-    if x == 0 {
-        return 1;
-    }
-    if x as usize <= most { x as usize } else { most }
-}
-
 fn accept_line(rt: &impl Print, board: u32, s: &[u8]) -> io::Result<Extents>
     ensures { IfOk result (λ e. (1 ≤ e.processes) × (e.processes ≤ gauge_limits.processes)
         × (1 ≤ e.elements) × (e.elements ≤ elements_most)) }
 {
-    let answer = accept::accept(board, s);
-    match answer {
-        Acceptance::Accepted(f, g) => {
+    match accept::accept(board, s) {
+        Ok((f, g)) => {
             print_figures(rt, f, g)?;
             Ok(Extents {
-                processes: within(f.processes, PROCESSES),
-                elements: within(f.elements, ELEMENTS),
+                processes: (f.processes as usize).clamp(1, PROCESSES),
+                elements: (f.elements as usize).clamp(1, ELEMENTS),
                 small: f.elements <= 12,
             })
         }
-        Acceptance::Refused(number) => {
-            print_refusal(rt, number)?;
+        Err(refusal) => {
+            text::print_refusal(rt, refusal)?;
             Ok(Extents {
                 processes: 1,
                 elements: 1,
@@ -249,16 +133,13 @@ fn accept_line(rt: &impl Print, board: u32, s: &[u8]) -> io::Result<Extents>
     }
 }
 
-// Of the walk's first instances the sum, and all of them if the array is small.
-fn print_visits(rt: &impl Print, walk: &[i8], instances: usize, small: bool) -> io::Result<()>
-    requires { 3 * instances ≤ length walk.now }
-{
-    print_number(rt, sum_of_walk(walk, instances))?;
-    print(rt, b"\n")?;
+// The sum of the walk's coordinates, and all of them if the array is small.
+fn print_visits(rt: &impl Print, walk: &[i8], small: bool) -> io::Result<()> {
+    let sum = mix_signed(0, walk);
+    println!(rt; "walk 0 {sum}")?;
     if small {
-        print(rt, b"along")?;
-        print_instances(rt, walk, instances)?;
-        print(rt, b"\n")?;
+        let coordinates = Each(walk);
+        println!(rt; "along{coordinates}")?;
     }
     Ok(())
 }
@@ -266,60 +147,56 @@ fn print_visits(rt: &impl Print, walk: &[i8], instances: usize, small: bool) -> 
 fn walk_lines(rt: &impl Print, board: u32, s: &[u8], small: bool) -> io::Result<()> {
     let mut spans = [0u32; SPANS];
     let mut walk = [0i8; WALK];
-    print(rt, b"walk")?;
     match walkable::walk_of(board, s, &mut spans, &mut walk) {
         Ok(v) => {
-            print_number(rt, 0)?;
-            print_visits(rt, &walk, v.ground.instances as usize, small)
+            let n = 3 * v.ground.instances as usize;
+            print_visits(rt, &walk[..n], small)
         }
-        Err(e) => {
-            print_number(rt, e.number())?;
-            print(rt, b" 0\n")
-        }
+        Err(refusal) => println!(rt; "walk {refusal} 0"),
     }
 }
 
 fn table_call(rt: &impl Print, board: u32, s: &[u8], lent: usize, seen: usize) -> io::Result<()> {
     let listed = table_rows::table(s, lent, board);
-    let answer = listed.answer;
-    let rows = listed.rows;
-    print_call(rt, answer, sum_of_rows(rows, seen))
+    let n = seen.min(PROCESSES);
+    print_call(rt, listed.answer, sum_of_rows(&listed.rows[..n]))
 }
 
 fn table_lines(rt: &impl Print, board: u32, s: &[u8], e: Extents) -> io::Result<()>
     requires { (1 ≤ e.processes) × (e.processes ≤ gauge_limits.processes) }
 {
     let processes = e.processes;
-    print(rt, b"table")?;
+    print!(rt; "table")?;
     table_call(rt, board, s, processes - 1, processes + 1)?;
     table_call(rt, board, s, processes, processes + 1)?;
     table_call(rt, board, s, PROCESSES, processes + 1)?;
-    print(rt, b"\n")?;
+    println!(rt; "")?;
     if e.small {
-        let listed = table_rows::table(s, processes, board);
-        let rows = listed.rows;
-        print_rows(rt, rows, processes)?;
+        let rows = table_rows::table(s, processes, board).rows;
+        for row in &rows[..processes] {
+            print_row(rt, *row)?;
+        }
     }
     Ok(())
 }
 
+// The call is lent the first places of a list of which all are seen.
 fn plain_call(
     rt: &impl Print,
     board: u32,
     s: &[u8],
     values: &[u32],
-    given: usize,
     output: &mut [u32],
     lent: usize,
-    seen: usize,
 ) -> io::Result<()>
-    requires { (given ≤ length values.now) × (lent ≤ length output.old) × (seen ≤ length output.old) }
+    requires { lent ≤ length output.old }
 {
-    mark(output, seen);
-    let answer = plain::plain_run(board, s, &values[..given], &mut output[..lent]);
-    print_call(rt, answer, sums::sum_of(0, output, seen))
+    output.fill(7);
+    let answer = plain::plain_run(board, s, values, &mut output[..lent]);
+    print_call(rt, answer, sums::sum_of(0, output))
 }
 
+// The list and the values have a place more than there are elements.
 fn plain_calls(
     rt: &impl Print,
     board: u32,
@@ -332,78 +209,63 @@ fn plain_calls(
 {
     let fewer = elements - 1;
     let more = elements + 1;
-    plain_call(rt, board, s, values, fewer, output, elements, more)?;
-    plain_call(rt, board, s, values, elements, output, more, more)?;
-    plain_call(rt, board, s, values, more, output, fewer, more)?;
-    plain_call(rt, board, s, values, elements, output, elements, more)
+    plain_call(rt, board, s, &values[..fewer], output, elements)?;
+    plain_call(rt, board, s, &values[..elements], output, more)?;
+    plain_call(rt, board, s, &values[..more], output, fewer)?;
+    plain_call(rt, board, s, &values[..elements], output, elements)
 }
 
-// The values of the description of a number are those of Fill from the next number.
-fn plain_lines(rt: &impl Print, board: u32, s: &[u8], e: Extents, number: u32) -> io::Result<()>
-    requires { (1 ≤ e.elements) × (e.elements ≤ elements_most) × (number < 65536) }
+// The values are those of Fill from a seed.
+fn plain_lines(rt: &impl Print, board: u32, s: &[u8], e: Extents, seed: u32) -> io::Result<()>
+    requires { (1 ≤ e.elements) × (e.elements ≤ elements_most) }
 {
     let elements = e.elements;
+    let more = elements + 1;
     let mut values = [0u32; ELEMENTS + 1];
     let mut output = [0u32; ELEMENTS + 1];
-    fill::fill(number + 1, elements + 1, &mut values);
-    print(rt, b"plain")?;
-    plain_calls(rt, board, s, &values, &mut output, elements)?;
-    print(rt, b"\n")?;
+    let _ = fill::fill(seed, more, &mut values);
+    print!(rt; "plain")?;
+    plain_calls(rt, board, s, &values, &mut output[..more], elements)?;
+    println!(rt; "")?;
     if e.small {
-        print_list(rt, b"values", &values, elements)?;
-        print_list(rt, b"final", &output, elements)?;
+        let values = Each(&values[..elements]);
+        println!(rt; "values{values}")?;
+        let output = Each(&output[..elements]);
+        println!(rt; "final{output}")?;
     }
     Ok(())
 }
 
-fn compare(rt: &impl Print, board: u32, s: &[u8], number: u32) -> io::Result<()>
-    requires { number < 65536 }
-{
+fn compare(rt: &impl Print, board: u32, s: &[u8], seed: u32) -> io::Result<()> {
     let e = accept_line(rt, board, s)?;
     walk_lines(rt, board, s, e.small)?;
     table_lines(rt, board, s, e)?;
-    plain_lines(rt, board, s, e, number)
+    plain_lines(rt, board, s, e, seed)
 }
 
 // ---- the input
 
-// The number of bytes of the next description.
-fn bytes_in(words: &[u8]) -> usize {
-    let n = integers::bits_at(words, 0);
-    if n < 508 { n as usize } else { 508 }
-}
-
-fn read(input: &mut impl Read, bytes: &mut [u8], wanted: usize) -> io::Result<()> {
-    let n = bytes.len().min(wanted);
-    reading::read_full(input, &mut bytes[..n])?;
-    Ok(())
-}
-
 // Whether there was a description.
-fn compare_next(rt: &impl Print, input: &mut impl Read, number: u32) -> io::Result<bool>
-    requires { number < 65536 }
-{
+fn compare_next(rt: &impl Print, input: &mut impl Read, seed: u32) -> io::Result<bool> {
     let mut words = [0u8; 8];
-    let got = reading::read_full(input, &mut words)?;
-    if got < 8 {
+    if reading::read_full(input, &mut words)? < 8 {
         return Ok(false);
     }
-    let wanted = bytes_in(&words);
+    let wanted = integers::bits_at(&words, 0);
     let board = integers::bits_at(&words, 1);
-    let mut bytes = [0u8; 508];
-    read(input, &mut bytes, wanted)?;
-    let n = bytes.len().min(wanted);
-    compare(rt, board, &bytes[..n], number)?;
+    let mut bytes = [0u8; BYTES];
+    let n = bytes.len().min(wanted as usize);
+    reading::read_full(input, &mut bytes[..n])?;
+    compare(rt, board, &bytes[..n], seed)?;
     Ok(true)
 }
 
+// The values of the description of a number are those of Fill from the next number.
 fn main(rt: HostRuntime) -> io::Result<()> {
-    let mut number: u32 = 0;
-    while number < 65536 {
-        if compare_next(&rt, &mut rt.stdin(), number)? {
-            number += 1;
-        } else {
-            return Ok(());
+    let mut input = rt.stdin();
+    for number in 0..DESCRIPTIONS {
+        if !compare_next(&rt, &mut input, number + 1)? {
+            break;
         }
     }
     Ok(())

@@ -10,15 +10,16 @@
 
 ghost use Rattle.std.specs.Prelude.{◌<◌};
 
-use meaning::{Answer, Made, Sizes};
-use std::io;
+use meaning::Sizes;
+use std::fmt::Display;
 use std::io::Read;
-use text::PAGE;
+use std::{fmt, io};
+use text::Each;
 
 // The places of Fill's list and of Make's.
-const WORDS: u32 = 4096;
+const WORDS: usize = 4096;
 
-const BYTES: u32 = 512;
+const BYTES: usize = 512;
 
 // A call.
 #[derive(Clone, Copy)]
@@ -32,101 +33,75 @@ struct Record {
 }
 
 // How many places are lent: so many, or all but the last.
-fn within(lent: u32, places: u32) -> u32
+fn within(lent: u32, places: usize) -> usize
     requires { 0 < places }
     ensures { result < places }
 {
-    if lent < places { lent } else { places - 1 }
+    (places - 1).min(lent as usize)
 }
 
 // ---- Fill
 
-// The state n rounds before another.
-fn rounds_back(state: u32, n: usize) -> u32 {
-    let mut before = state;
-    let mut i: usize = 0;
-    while i < n {
-        before = generator::previous(before);
-        i += 1;
-    }
-    before
-}
-
 // The state as many rounds before the last value as there are values; the seed if there are none.
 fn back(seed: u32, values: &[u32]) -> u32 {
-    let n = values.len();
-    if n == 0 {
+    let Some(last) = values.last() else {
         return seed;
+    };
+    let mut state = *last;
+    for _ in values {
+        state = generator::previous(state);
     }
-    rounds_back(values[n - 1], n)
+    state
 }
 
 fn print_filled(rt: &impl Print, seed: u32, values: &[u32], sum: u32) -> io::Result<()> {
-    text::print_words(rt, b"fill", &[0, sum, back(seed, values)])?;
+    let state = back(seed, values);
+    println!(rt; "fill 0 {sum} {state}")?;
     if values.len() <= 8 {
-        text::print_words(rt, b"values", values)?;
+        let values = Each(values);
+        println!(rt; "values{values}")?;
     }
     Ok(())
 }
 
-fn fill_call(seed: u32, n: u32, list: &mut [u32], lent: u32) -> Answer {
-    let k = script::part_of(list, lent);
-    fill::fill(seed, n as usize, &mut list[..k])
-}
-
 fn fill_lines(rt: &impl Print, r: Record) -> io::Result<()> {
     let lent = within(r.lent, WORDS);
-    let mut list = [7u32; WORDS as usize];
-    let answer = fill_call(r.seed, r.a, &mut list, lent);
-    let sum = sums::sum_of(0, &list, lent as usize + 1);
+    let mut list = [7u32; WORDS];
+    let answer = fill::fill(r.seed, r.a as usize, &mut list[..lent]);
+    let sum = sums::sum_of(0, &list[..=lent]);
     match answer {
-        Answer::Done => {
+        Ok(()) => {
             let n = script::part_of(&list, r.a);
             print_filled(rt, r.seed, &list[..n], sum)
         }
-        Answer::Refused(number) => text::print_words(rt, b"fill", &[number, sum, 0]),
+        Err(refusal) => println!(rt; "fill {refusal} {sum} 0"),
     }
 }
 
 // ---- Make
 
 // The words of a description, each behind a blank.
-fn put_description(
-    rt: &impl Print,
-    page: &mut [u8; PAGE],
-    at: usize,
-    bytes: &[u8],
-    words: u32,
-) -> io::Result<usize> {
-    let mut next = at;
-    let mut k: u32 = 0;
-    while k < words {
-        next = text::put_signed(rt, page, next, integers::word_at(bytes, k))?;
-        k += 1;
+#[derive(Clone, Copy)]
+struct Description<'a>(&'a [u8]);
+
+impl Display for Description<'_> {
+    fn fmt<W: fmt::Write>(&self, f: &mut fmt::Formatter<W>) -> fmt::Result {
+        for bytes in self.0.chunks_exact(4) {
+            let word = integers::word_at(bytes, 0);
+            write!(f, " {word}")?;
+        }
+        Ok(())
     }
-    Ok(next)
 }
 
-fn print_description(rt: &impl Print, bytes: &[u8], words: u32) -> io::Result<()> {
-    let mut page = [0u8; PAGE];
-    let name = text::put_text(rt, &mut page, 0, b"words")?;
-    let end = put_description(rt, &mut page, name, bytes, words)?;
-    let all = text::put(rt, &mut page, end, b'\n')?;
-    text::print_page(rt, page, all)
-}
-
-fn print_made(rt: &impl Print, bytes: u32, output: &[u8], sum: u32) -> io::Result<()> {
-    text::print_words(rt, b"make", &[0, bytes, sum])?;
-    let words = bytes / 4;
-    if words <= 36 {
-        print_description(rt, output, words)?;
+fn print_made(rt: &impl Print, description: &[u8], sum: u32) -> io::Result<()> {
+    let bytes = description.len();
+    println!(rt; "make 0 {bytes} {sum}")?;
+    if bytes / 4 <= 36 {
+        let words = Description(description);
+        println!(rt; "words{words}")?;
     }
     Ok(())
-}
-
-fn make_call(seed: u32, z: Sizes, output: &mut [u8], lent: u32) -> Made {
-    let k = output.len().min(lent as usize);
-    make::make(seed, z, &mut output[..k])
 }
 
 fn make_lines(rt: &impl Print, r: Record) -> io::Result<()> {
@@ -136,18 +111,21 @@ fn make_lines(rt: &impl Print, r: Record) -> io::Result<()> {
         lines: r.c,
     };
     let lent = within(r.lent, BYTES);
-    let mut output = [7u8; BYTES as usize];
-    let answer = make_call(r.seed, z, &mut output, lent);
-    let sum = sums::sum_of_bytes(0, &output, lent as usize + 1);
+    let mut output = [7u8; BYTES];
+    let answer = make::make(r.seed, z, &mut output[..lent]);
+    let sum = sums::sum_of(0, &output[..=lent]);
     match answer {
-        Made::Made { bytes } => print_made(rt, bytes, &output, sum),
-        Made::Refused(number) => text::print_words(rt, b"make", &[number, 0, sum]),
+        Ok(bytes) => {
+            let n = output.len().min(bytes as usize);
+            print_made(rt, &output[..n], sum)
+        }
+        Err(refusal) => println!(rt; "make {refusal} 0 {sum}"),
     }
 }
 
 // ---- the input
 
-fn record_of(bytes: &[u8]) -> Record {
+fn record_of(bytes: &[u8; 24]) -> Record {
     Record {
         call: integers::bits_at(bytes, 0),
         seed: integers::bits_at(bytes, 1),
@@ -169,8 +147,7 @@ fn print_lines(rt: &impl Print, r: Record) -> io::Result<()> {
 // Whether there was a call.
 fn next_call(rt: &impl Print, input: &mut impl Read) -> io::Result<bool> {
     let mut bytes = [0u8; 24];
-    let got = reading::read_full(input, &mut bytes)?;
-    if got < 24 {
+    if reading::read_full(input, &mut bytes)? < 24 {
         return Ok(false);
     }
     print_lines(rt, record_of(&bytes))?;
@@ -178,12 +155,10 @@ fn next_call(rt: &impl Print, input: &mut impl Read) -> io::Result<bool> {
 }
 
 fn main(rt: HostRuntime) -> io::Result<()> {
-    let mut number: u32 = 0;
-    while number < 65536 {
-        if next_call(&rt, &mut rt.stdin())? {
-            number += 1;
-        } else {
-            return Ok(());
+    let mut input = rt.stdin();
+    for _ in 0..65536 {
+        if !next_call(&rt, &mut input)? {
+            break;
         }
     }
     Ok(())

@@ -4,41 +4,36 @@
 
 #![tactic(auto)]
 
-use meaning::Answer;
+use std::fmt;
+use std::fmt::Display;
 use std::io;
-use text::PAGE;
 
 const PLACES: usize = 65536;
 
-fn put_value(rt: &impl Print, page: &mut [u8; PAGE], at: usize, value: u32) -> io::Result<usize> {
-    let end = text::put_number(rt, page, at, b"", value)?;
-    text::put(rt, page, end, b'\n')
-}
+// Values, one to a line.
+#[derive(Clone, Copy)]
+struct Lines<'a>(&'a [u32]);
 
-fn put_values(rt: &impl Print, page: &mut [u8; PAGE], values: &[u32]) -> io::Result<usize> {
-    let mut next: usize = 0;
-    let mut i: usize = 0;
-    while i < values.len() {
-        next = put_value(rt, page, next, values[i])?;
-        i += 1;
+impl Display for Lines<'_> {
+    fn fmt<W: fmt::Write>(&self, f: &mut fmt::Formatter<W>) -> fmt::Result {
+        for value in self.0 {
+            writeln!(f, "{value}")?;
+        }
+        Ok(())
     }
-    Ok(next)
 }
 
 // Lines with the first n words of a list.
 fn print_values(rt: &impl Print, list: &[u32], n: u32) -> io::Result<()> {
-    let k = script::part_of(list, n);
-    let mut page = [0u8; PAGE];
-    let end = put_values(rt, &mut page, &list[..k])?;
-    text::print_page(rt, page, end)
+    let lines = Lines(&list[..script::part_of(list, n)]);
+    print!(rt; "{lines}")
 }
 
 fn print_fill(rt: &impl Print, seed: u32, n: u32) -> io::Result<()> {
     let mut list = [0u32; PLACES];
-    let answer = fill::fill(seed, n as usize, &mut list);
-    match answer {
-        Answer::Done => print_values(rt, &list, n),
-        Answer::Refused(number) => text::print_refusal(rt, number),
+    match fill::fill(seed, n as usize, &mut list) {
+        Ok(()) => print_values(rt, &list, n),
+        Err(refusal) => text::print_refusal(rt, refusal),
     }
 }
 

@@ -4,7 +4,8 @@
 
 #![tactic(auto)]
 
-use meaning::{Made, Sizes};
+use meaning::Sizes;
+use refusals::Refusal;
 use std::io;
 
 // More bytes than any description has.
@@ -15,16 +16,15 @@ fn print_bytes(rt: &impl Print, out: &[u8], bytes: u32) -> io::Result<()> {
     rt.write_all(&out[..n])
 }
 
-fn print_refusal(rt: &impl Eprint, number: u32) -> io::Result<()> {
-    eprintln!(rt; "refused {number}")
+fn print_refusal(rt: &impl Eprint, refusal: Refusal) -> io::Result<()> {
+    eprintln!(rt; "refused {refusal}")
 }
 
 fn print_make(rt: &(impl Print + Eprint), seed: u32, z: Sizes) -> io::Result<()> {
     let mut out = [0u8; BYTES];
-    let answer = make::make(seed, z, &mut out);
-    match answer {
-        Made::Made { bytes } => print_bytes(rt, &out, bytes),
-        Made::Refused(number) => print_refusal(rt, number),
+    match make::make(seed, z, &mut out) {
+        Ok(bytes) => print_bytes(rt, &out, bytes),
+        Err(refusal) => print_refusal(rt, refusal),
     }
 }
 

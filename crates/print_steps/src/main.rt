@@ -5,97 +5,54 @@
 
 #![tactic(auto)]
 
-use meaning::{ANSWERS, Answer};
+use meaning::ANSWERS;
 use std::io;
-use text::PAGE;
-
-// ---- an answer
 
 // What a refusal means.
-fn put_meaning(
-    rt: &impl Print,
-    page: &mut [u8; PAGE],
-    at: usize,
-    refusal: u32,
-) -> io::Result<usize> {
+fn meaning_of(refusal: usize) -> &'static str {
     match refusal {
-        1 => text::put_text(rt, page, at, b"under 12 bytes"),
-        2 => text::put_text(rt, page, at, b"a size out of range"),
-        3 => text::put_text(rt, page, at, b"not the length that the sizes give"),
-        4 => text::put_text(rt, page, at, b"a word out of range"),
-        5 => text::put_text(rt, page, at, b"a left bound above its right"),
-        6 => text::put_text(rt, page, at, b"over the limit of instances"),
-        7 => text::put_text(rt, page, at, b"place of rank below r-1"),
-        8 => text::put_text(rt, page, at, b"increment of step 0"),
-        9 => text::put_text(rt, page, at, b"never given"),
-        10 => text::put_text(rt, page, at, b"over the limit of processes"),
-        11 => text::put_text(rt, page, at, b"index map of rank below r-1"),
-        12 => text::put_text(rt, page, at, b"line of step 0"),
-        13 => text::put_text(rt, page, at, b"a component of the move outside -1 to 1"),
-        14 => text::put_text(rt, page, at, b"moving with a hop over the limit"),
-        15 => text::put_text(
-            rt,
-            page,
-            at,
-            b"written, with a line against the order of the loops",
-        ),
-        16 => text::put_text(
-            rt,
-            page,
-            at,
-            b"moving with a loading vector, or stationary with none",
-        ),
-        17 => text::put_text(rt, page, at, b"some element touched by no instance"),
-        _ => Ok(at),
+        1 => "under 12 bytes",
+        2 => "a size out of range",
+        3 => "not the length that the sizes give",
+        4 => "a word out of range",
+        5 => "a left bound above its right",
+        6 => "over the limit of instances",
+        7 => "place of rank below r-1",
+        8 => "increment of step 0",
+        9 => "never given",
+        10 => "over the limit of processes",
+        11 => "index map of rank below r-1",
+        12 => "line of step 0",
+        13 => "a component of the move outside -1 to 1",
+        14 => "moving with a hop over the limit",
+        15 => "written, with a line against the order of the loops",
+        16 => "moving with a loading vector, or stationary with none",
+        17 => "some element touched by no instance",
+        _ => "",
     }
 }
 
 // Answer 0 is accepted, any other a refusal.
-fn put_answer(rt: &impl Print, page: &mut [u8; PAGE], at: usize, answer: u32) -> io::Result<usize> {
+fn print_count(rt: &impl Print, answer: usize, count: u32) -> io::Result<()> {
     if answer == 0 {
-        return text::put_text(rt, page, at, b" accepted");
+        return println!(rt; "{count} accepted");
     }
-    let number = text::put_number(rt, page, at, b" refused ", answer)?;
-    let blank = text::put(rt, page, number, b' ')?;
-    put_meaning(rt, page, blank, answer)
+    let meaning = meaning_of(answer);
+    println!(rt; "{count} refused {answer} {meaning}")
 }
 
-fn put_count(
-    rt: &impl Print,
-    page: &mut [u8; PAGE],
-    at: usize,
-    answer: u32,
-    count: u32,
-) -> io::Result<usize> {
-    let number = text::put_number(rt, page, at, b"", count)?;
-    let end = put_answer(rt, page, number, answer)?;
-    text::put(rt, page, end, b'\n')
-}
-
-// ---- all answers
-
-fn put_counts(rt: &impl Print, page: &mut [u8; PAGE], counts: [u32; ANSWERS]) -> io::Result<usize> {
-    let mut next: usize = 0;
-    let mut a: usize = 0;
-    while a < ANSWERS {
-        next = put_count(rt, page, next, a as u32, counts[a])?;
-        a += 1;
+fn print_counts(rt: &impl Print, counts: &[u32; ANSWERS]) -> io::Result<()> {
+    for (answer, count) in counts.iter().enumerate() {
+        print_count(rt, answer, *count)?;
     }
-    Ok(next)
-}
-
-fn print_counts(rt: &impl Print, counts: [u32; ANSWERS]) -> io::Result<()> {
-    let mut page = [0u8; PAGE];
-    let end = put_counts(rt, &mut page, counts)?;
-    text::print_page(rt, page, end)
+    Ok(())
 }
 
 fn print_steps(rt: &impl Print, board: u32, s: &[u8], k: u32) -> io::Result<()> {
     let mut counts = [0u32; ANSWERS];
-    let answer = step_vectors::step_vectors(board, s, k, &mut counts);
-    match answer {
-        Answer::Done => print_counts(rt, counts),
-        Answer::Refused(number) => text::print_refusal(rt, number),
+    match step_vectors::step_vectors(board, s, k, &mut counts) {
+        Ok(()) => print_counts(rt, &counts),
+        Err(refusal) => text::print_refusal(rt, refusal),
     }
 }
 

@@ -15,35 +15,19 @@ use layout::SPANS;
 use meaning::Nest;
 use std::io;
 use survey::Survey;
-use text::PAGE;
+use text::{Instance, Point};
 use walk::WALK;
-
-fn put_visit(
-    rt: &impl Print,
-    page: &mut [u8; PAGE],
-    n: Nest,
-    x: V3,
-    loops: u32,
-) -> io::Result<usize>
-    requires { (Bounded n) × (Within 64 x) }
-{
-    let place = n.place;
-    let step = n.step;
-    let y = text::put(rt, page, 0, b'y')?;
-    let point = text::put_point(rt, page, y, vectors::image_of(place, x), loops)?;
-    let t = text::put_text(rt, page, point, b" t")?;
-    let time = text::put_signed(rt, page, t, vectors::dot_of(step, x))?;
-    let i = text::put_text(rt, page, time, b" x")?;
-    let end = text::put_instance(rt, page, i, x, loops)?;
-    text::put(rt, page, end, b'\n')
-}
 
 fn print_visit(rt: &impl Print, n: Nest, x: V3, loops: u32) -> io::Result<()>
     requires { (Bounded n) × (Within 64 x) }
 {
-    let mut page = [0u8; PAGE];
-    let end = put_visit(rt, &mut page, n, x, loops)?;
-    text::print_page(rt, page, end)
+    let point = Point {
+        y: vectors::image_of(n.place, x),
+        loops,
+    };
+    let time = vectors::dot_of(n.step, x);
+    let instance = Instance { x, loops };
+    println!(rt; "y{point} t {time} x{instance}")
 }
 
 fn print_visits(
@@ -55,37 +39,19 @@ fn print_visits(
 ) -> io::Result<()>
     requires { Readable n walk.now instances }
 {
-    let mut k: usize = 0;
-    while k < instances {
+    for k in 0..instances {
         print_visit(rt, n, walk::instance_at(walk, k), loops)?;
-        k += 1;
     }
     Ok(())
-}
-
-fn put_figures(
-    rt: &impl Print,
-    page: &mut [u8; PAGE],
-    processes: u32,
-    instances: u32,
-) -> io::Result<usize> {
-    let first = text::put_number(rt, page, 0, b"processes ", processes)?;
-    let second = text::put_number(rt, page, first, b" instances ", instances)?;
-    text::put(rt, page, second, b'\n')
-}
-
-fn print_figures(rt: &impl Print, processes: u32, instances: u32) -> io::Result<()> {
-    let mut page = [0u8; PAGE];
-    let end = put_figures(rt, &mut page, processes, instances)?;
-    text::print_page(rt, page, end)
 }
 
 fn print_whole(rt: &impl Print, v: Survey, walk: &[i8]) -> io::Result<()>
     requires { (Bounded v.description.nest) × (Surveyed v) × (Along v.description.nest walk.now) }
 {
     let n = v.description.nest;
+    let processes = v.ground.processes;
     let instances = v.ground.instances;
-    print_figures(rt, v.ground.processes, instances)?;
+    println!(rt; "processes {processes} instances {instances}")?;
     print_visits(rt, n, walk, instances as usize, v.description.sizes.loops)
 }
 
@@ -94,7 +60,7 @@ fn print_walk(rt: &impl Print, board: u32, s: &[u8]) -> io::Result<()> {
     let mut walk = [0i8; WALK];
     match walkable::walk_of(board, s, &mut spans, &mut walk) {
         Ok(v) => print_whole(rt, v, &walk),
-        Err(e) => text::print_refusal(rt, e.number()),
+        Err(refusal) => text::print_refusal(rt, refusal),
     }
 }
 

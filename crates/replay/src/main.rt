@@ -6,10 +6,12 @@
 
 #![tactic(auto)]
 
-use meaning::{Acceptance, Answer, Divisors, Figures, Ran, Readiness};
-use script::{Call, KEPT, Lent, Rest};
+use meaning::{Divisors, Figures, Ran, Readiness};
+use refusals::Refusal;
+use script::{Call, KEPT, Lent};
 use std::io;
 use std::io::Read;
+use text::Each;
 
 // The lengths of the lists that a script is lent at most: more values and words than any description asks for that is not declined.
 const VALUES: usize = 32768;
@@ -21,37 +23,20 @@ const BUNDLE: u32 = 4294967295;
 
 // ---- answers
 
-fn print_answer(rt: &impl Print, name: &[u8], answer: Answer) -> io::Result<()> {
+fn print_answer(rt: &impl Print, name: &str, answer: Result<(), Refusal>) -> io::Result<()> {
     match answer {
-        Answer::Done => text::print_text(rt, name),
-        Answer::Refused(number) => text::print_refusal(rt, number),
+        Ok(()) => println!(rt; "{name}"),
+        Err(refusal) => text::print_refusal(rt, refusal),
     }
 }
 
-// As many words as there are, at most so many.
-fn print_part(rt: &impl Print, name: &[u8], list: &[u32], words: u32) -> io::Result<()> {
-    let n = script::part_of(list, words);
-    text::print_words(rt, name, &list[..n])
+// The first so many words of a list, or all if there are fewer.
+fn print_part(rt: &impl Print, name: &str, list: &[u32], words: u32) -> io::Result<()> {
+    let part = Each(&list[..script::part_of(list, words)]);
+    println!(rt; "{name}{part}")
 }
 
-fn print_list(
-    rt: &impl Print,
-    name: &[u8],
-    answer: Answer,
-    list: &[u32],
-    words: u32,
-) -> io::Result<()> {
-    match answer {
-        Answer::Done => print_part(rt, name, list, words),
-        Answer::Refused(number) => text::print_refusal(rt, number),
-    }
-}
-
-// How many words an accepted description has to show: the six figures and the divisors of place and of each stream in use.
-fn shown(streams: u32) -> u32 {
-    if streams <= 6 { 7 + streams } else { 13 }
-}
-
+// The six figures and the divisors of place and of each stream in use.
 fn print_figures(rt: &impl Print, f: Figures, g: Divisors, streams: u32) -> io::Result<()> {
     let words = [
         f.processes,
@@ -68,43 +53,45 @@ fn print_figures(rt: &impl Print, f: Figures, g: Divisors, streams: u32) -> io::
         g.stream4,
         g.stream5,
     ];
-    print_part(rt, b"accept", &words, shown(streams))
+    print_part(rt, "accept", &words, streams.saturating_add(7))
 }
 
-fn print_ran(rt: &impl Print, answer: Ran) -> io::Result<()> {
+fn print_ran(rt: &impl Print, answer: Result<Ran, Refusal>) -> io::Result<()> {
     match answer {
-        Ran::Ran { steps, ready } => {
-            let words = [steps, words::flag(ready)];
-            text::print_words(rt, b"run", &words)
+        Ok(Ran { steps, ready }) => {
+            let ready = u32::from(ready);
+            println!(rt; "run {steps} {ready}")
         }
-        Ran::Refused(number) => text::print_refusal(rt, number),
+        Err(refusal) => text::print_refusal(rt, refusal),
     }
 }
 
 // The first 16 of the lent words are those of the call.
-fn print_readiness(rt: &impl Print, answer: Readiness, words: &[u64]) -> io::Result<()> {
+fn print_readiness(
+    rt: &impl Print,
+    answer: Result<Readiness, Refusal>,
+    words: &[u64; 32],
+) -> io::Result<()> {
     match answer {
-        Readiness::Ready { count, lowest } => {
-            let n = script::part_of_masks(words, 16);
-            text::print_masks(rt, b"ready", count, lowest, &words[..n])
+        Ok(Readiness { count, lowest }) => {
+            let words = Each(&words[..16]);
+            println!(rt; "ready {count} {lowest}{words}")
         }
-        Readiness::Refused(number) => text::print_refusal(rt, number),
+        Err(refusal) => text::print_refusal(rt, refusal),
     }
 }
 
 // ---- the calls
 
 fn accept_line(rt: &impl Print, board: u32, s: &[u8]) -> io::Result<Lent> {
-    let answer = accept::accept(board, s);
-    match answer {
-        Acceptance::Accepted(f, g) => {
-            let z = decode::sizes(s);
-            print_figures(rt, f, g, z.streams)?;
-            Ok(script::lent_by(f.elements, f.words))
+    match accept::accept(board, s) {
+        Ok((f, g)) => {
+            print_figures(rt, f, g, decode::sizes(s).streams)?;
+            Ok(Lent::new(f.elements, f.words))
         }
-        Acceptance::Refused(number) => {
-            text::print_refusal(rt, number)?;
-            Ok(script::lent_by(0, 0))
+        Err(refusal) => {
+            text::print_refusal(rt, refusal)?;
+            Ok(Lent::new(0, 0))
         }
     }
 }
@@ -130,46 +117,7 @@ fn start_line(
         &mut received[..r],
         &mut state[..n],
     );
-    print_answer(rt, b"start", answer)
-}
-
-fn step_line(
-    rt: &impl Print,
-    board: u32,
-    s: &[u8],
-    c: Call,
-    waiting: &[u32],
-    received: &mut [u32],
-    state: &mut [u32],
-) -> io::Result<()> {
-    let answer = step::step(board, s, c.a, c.b, c.c, waiting, received, state);
-    print_answer(rt, b"step", answer)
-}
-
-fn run_line(
-    rt: &impl Print,
-    board: u32,
-    s: &[u8],
-    steps: u32,
-    waiting: &[u32],
-    received: &mut [u32],
-    state: &mut [u32],
-) -> io::Result<()> {
-    let answer = run::run(board, s, steps, waiting, received, state);
-    print_ran(rt, answer)
-}
-
-fn ready_call(
-    board: u32,
-    s: &[u8],
-    length: u32,
-    words: &mut [u64],
-    waiting: &[u32],
-    received: &[u32],
-    state: &[u32],
-) -> Readiness {
-    let k = script::part_of_masks(words, length);
-    ready::ready(board, s, &mut words[..k], waiting, received, state)
+    print_answer(rt, "start", answer)
 }
 
 fn ready_line(
@@ -182,7 +130,8 @@ fn ready_line(
     state: &[u32],
 ) -> io::Result<()> {
     let mut words = [7u64; 32];
-    let answer = ready_call(board, s, length, &mut words, waiting, received, state);
+    let k = script::part_of(&words, length);
+    let answer = ready::ready(board, s, &mut words[..k], waiting, received, state);
     print_readiness(rt, answer, &words)
 }
 
@@ -195,26 +144,13 @@ fn window_line<'a>(
     waiting: &'a [u32],
     received: &'a [u32],
 ) -> io::Result<()> {
-    let mut number: u32 = 0;
-    let part = window::window(board, s, pipe, side, waiting, received, &mut number);
-    if number == 0 {
-        text::print_words(rt, b"window", part)
-    } else {
-        text::print_refusal(rt, number)
+    match window::window(board, s, pipe, side, waiting, received) {
+        Ok(part) => {
+            let part = Each(part);
+            println!(rt; "window{part}")
+        }
+        Err(refusal) => text::print_refusal(rt, refusal),
     }
-}
-
-fn result_call(
-    board: u32,
-    s: &[u8],
-    length: u32,
-    output: &mut [u32],
-    waiting: &[u32],
-    received: &[u32],
-    state: &[u32],
-) -> Answer {
-    let k = script::part_of(output, length);
-    result::result(board, s, &mut output[..k], waiting, received, state)
 }
 
 fn result_line(
@@ -227,66 +163,56 @@ fn result_line(
     state: &[u32],
 ) -> io::Result<()> {
     let mut output = [7u32; VALUES];
-    let answer = result_call(board, s, length, &mut output, waiting, received, state);
-    print_list(rt, b"result", answer, &output, length)
-}
-
-// A word of the lent state is written, if there is one.
-fn poke(word: u32, value: u32, state: &mut [u32]) {
-    let k = word as usize;
-    if k < state.len() {
-        state[k] = value;
+    let k = script::part_of(&output, length);
+    match result::result(board, s, &mut output[..k], waiting, received, state) {
+        Ok(()) => print_part(rt, "result", &output, length),
+        Err(refusal) => text::print_refusal(rt, refusal),
     }
 }
 
 // ---- a script
-
-// The calls that write no list of the network.
-fn ask<'a>(
-    rt: &impl Print,
-    board: u32,
-    s: &[u8],
-    c: Call,
-    l: Lent,
-    waiting: &'a [u32],
-    received: &'a [u32],
-    state: &[u32],
-) -> io::Result<()> {
-    let number = c.number;
-    match number {
-        2 => ready_line(rt, board, s, l.ready, waiting, received, state),
-        3 => window_line(rt, board, s, c.a, c.b, waiting, received),
-        4 => result_line(rt, board, s, l.output, waiting, received, state),
-        5 => text::print_words(rt, b"state", state),
-        6 => text::print_words(rt, b"received", received),
-        8 => text::print_text(rt, b"lend"),
-        _ => Ok(()),
-    }
-}
 
 // A call on the lists that are lent.
 fn call_on(
     rt: &impl Print,
     board: u32,
     s: &[u8],
-    c: Call,
+    call: Call,
     l: Lent,
     waiting: &[u32],
     received: &mut [u32],
     state: &mut [u32],
 ) -> io::Result<()> {
-    let number = c.number;
-    if number == 0 {
-        return step_line(rt, board, s, c, waiting, received, state);
+    match call {
+        Call::Step {
+            kind,
+            number,
+            stream,
+        } => {
+            let answer = step::step(board, s, kind, number, stream, waiting, received, state);
+            print_answer(rt, "step", answer)
+        }
+        Call::Run { steps } => print_ran(rt, run::run(board, s, steps, waiting, received, state)),
+        Call::Ready => ready_line(rt, board, s, l.ready, waiting, received, state),
+        Call::Window { pipe, side } => window_line(rt, board, s, pipe, side, waiting, received),
+        Call::Result => result_line(rt, board, s, l.output, waiting, received, state),
+        Call::State => {
+            let words = Each(state);
+            println!(rt; "state{words}")
+        }
+        Call::Received => {
+            let words = Each(received);
+            println!(rt; "received{words}")
+        }
+        Call::Poke { word, value } => {
+            let k = word as usize;
+            if k < state.len() {
+                state[k] = value;
+            }
+            println!(rt; "poke")
+        }
+        Call::Lend { .. } => println!(rt; "lend"),
     }
-    if number == 1 {
-        return run_line(rt, board, s, c.a, waiting, received, state);
-    }
-    if number == 7 {
-        poke(c.a, c.b, state);
-        return text::print_text(rt, b"poke");
-    }
-    ask(rt, board, s, c, l, waiting, received, state)
 }
 
 // The same on as much of the lists as is lent.
@@ -294,7 +220,7 @@ fn play_call(
     rt: &impl Print,
     board: u32,
     s: &[u8],
-    c: Call,
+    call: Call,
     l: Lent,
     waiting: &[u32],
     received: &mut [u32],
@@ -307,7 +233,7 @@ fn play_call(
         rt,
         board,
         s,
-        c,
+        call,
         l,
         &waiting[..w],
         &mut received[..r],
@@ -315,42 +241,28 @@ fn play_call(
     )
 }
 
-// The lengths after a call.
-fn lent_after(c: Call, l: Lent) -> Lent {
-    if c.number == 8 {
-        return script::lend(l, c.a, c.b);
-    }
-    l
-}
-
-fn ends(c: Call) -> bool {
-    if c.found { 8 < c.number } else { true }
-}
-
-// Plays the calls in so many bytes; the answer is how many bytes are left.
+// Plays the calls of a script. No input has as many as the bound.
 fn play_calls(
     rt: &impl Print,
     input: &mut impl Read,
     board: u32,
     s: &[u8],
     first: Lent,
-    bytes: u64,
     waiting: &[u32],
     received: &mut [u32],
     state: &mut [u32],
-) -> io::Result<u64> {
+) -> io::Result<()> {
     let mut l = first;
-    let mut left = bytes;
-    while 16 <= left {
-        let c = script::read_call(input)?;
-        left -= 16;
-        if ends(c) {
-            return Ok(left);
+    for _ in 0..u64::MAX {
+        let Some(call) = script::read_call(input)? else {
+            break;
+        };
+        play_call(rt, board, s, call, l, waiting, received, state)?;
+        if let Call::Lend { list, length } = call {
+            l.lend(list, length);
         }
-        play_call(rt, board, s, c, l, waiting, received, state)?;
-        l = lent_after(c, l);
     }
-    Ok(left)
+    Ok(())
 }
 
 fn play_whole(
@@ -359,8 +271,7 @@ fn play_whole(
     board: u32,
     s: &[u8],
     values: &[u32],
-    bytes: u64,
-) -> io::Result<u64> {
+) -> io::Result<()> {
     let l = accept_line(rt, board, s)?;
     let mut waiting = [0u32; VALUES];
     let mut received = [0u32; VALUES];
@@ -381,71 +292,83 @@ fn play_whole(
         board,
         s,
         l,
-        bytes,
         &waiting,
         &mut received,
         &mut state,
     )
 }
 
+// The words between a description and the calls: the board, and the number of values.
+#[derive(Clone, Copy)]
+struct Head {
+    board: u32,
+    count: u32,
+}
+
+// Reads what stands before the calls; none of a script that ends before.
+fn read_head(
+    input: &mut impl Read,
+    length: u32,
+    bytes: &mut [u8; KEPT],
+    values: &mut [u32],
+) -> io::Result<Option<Head>> {
+    if !script::read_description(input, length, bytes)? {
+        return Ok(None);
+    }
+    let Some(board) = script::read_word(input)? else {
+        return Ok(None);
+    };
+    let Some(count) = script::read_word(input)? else {
+        return Ok(None);
+    };
+    if !script::read_values(input, count, values)? {
+        return Ok(None);
+    }
+    Ok(Some(Head { board, count }))
+}
+
 // Plays a script with a description of so many bytes.
-fn play_script(rt: &impl Print, input: &mut impl Read, length: u32, r: Rest) -> io::Result<u64> {
+fn play_script(rt: &impl Print, input: &mut impl Read, length: Option<u32>) -> io::Result<()> {
     let mut bytes = [0u8; KEPT];
     let mut values = [0u32; VALUES];
-    let described = script::read_description(input, r, length, &mut bytes)?;
-    let board = script::read_word(input, described)?;
-    let count = script::read_word(input, board.rest)?;
-    let calls = script::read_values(input, count.rest, count.value, &mut values)?;
-    if calls.whole {
-        let n = bytes.len().min(length as usize);
-        let m = script::part_of(&values, count.value);
-        return play_whole(
-            rt,
-            input,
-            board.value,
-            &bytes[..n],
-            &values[..m],
-            calls.left,
-        );
-    }
-    text::print_text(rt, b"short script")?;
-    Ok(calls.left)
+    let Some(length) = length else {
+        return println!(rt; "short script");
+    };
+    let Some(head) = read_head(input, length, &mut bytes, &mut values)? else {
+        return println!(rt; "short script");
+    };
+    let n = bytes.len().min(length as usize);
+    let m = script::part_of(&values, head.count);
+    play_whole(rt, input, head.board, &bytes[..n], &values[..m])
 }
 
 // ---- the input
 
-// Whether there may be another script.
-fn next_script(rt: &impl Print, input: &mut impl Read, number: u32) -> io::Result<bool> {
-    let head = script::read_word(input, script::endless())?;
-    let r = head.rest;
-    if r.whole {
-        text::print_number(rt, b"script", number)?;
-        let first = script::read_word(input, script::script_of(head.value))?;
-        let left = play_script(rt, input, first.value, first.rest)?;
-        return script::skipped(input, left);
-    }
-    Ok(false)
+// Plays the next script of a bundle, which has so many bytes.
+fn next_script(rt: &impl Print, input: &mut impl Read, bytes: u32) -> io::Result<()> {
+    let mut script = input.take(u64::from(bytes));
+    let length = script::read_word(&mut script)?;
+    play_script(rt, &mut script, length)?;
+    let left = script.limit();
+    script::skipped(&mut script, left)?;
+    Ok(())
 }
 
 fn play_bundle(rt: &impl Print, input: &mut impl Read) -> io::Result<()> {
-    let mut number: u32 = 0;
-    while number < 4294967295 {
-        if next_script(rt, input, number)? {
-            number += 1;
-        } else {
-            return Ok(());
-        }
+    for number in 0..u32::MAX {
+        let Some(bytes) = script::read_word(input)? else {
+            break;
+        };
+        println!(rt; "script {number}")?;
+        next_script(rt, input, bytes)?;
     }
     Ok(())
 }
 
 fn main(rt: HostRuntime) -> io::Result<()> {
     let mut input = rt.stdin();
-    let head = script::read_word(&mut input, script::endless())?;
-    if head.value == BUNDLE {
-        play_bundle(&rt, &mut input)
-    } else {
-        play_script(&rt, &mut input, head.value, head.rest)?;
-        Ok(())
+    match script::read_word(&mut input)? {
+        Some(BUNDLE) => play_bundle(&rt, &mut input),
+        length => play_script(&rt, &mut input, length),
     }
 }

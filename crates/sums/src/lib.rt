@@ -12,7 +12,5 @@ pub fn mix(sum: u32, word: u32) -> u32 {
 
 // The sum goes on over words, or over bytes, each mixed as a word.
 pub fn sum_of<T: Into<u32> + Copy>(sum: u32, words: &[T]) -> u32 {
-    words
-        .iter()
-        .fold(sum, |sum, word| mix(sum, (*word).into()))
+    words.iter().fold(sum, |sum, word| mix(sum, (*word).into()))
 }

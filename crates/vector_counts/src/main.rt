@@ -8,7 +8,7 @@
 use meaning::ANSWERS;
 use std::io;
 use std::io::Read;
-use text::PAGE;
+use text::Each;
 
 // How many descriptions are read, the bytes of the three words before one, and the bytes of it that are read.
 const DESCRIPTIONS: u32 = 65536;
@@ -22,52 +22,37 @@ const MARK: u32 = 7;
 
 // ---- the call
 
-fn print_counts(rt: &impl Print, number: u32, counts: [u32; ANSWERS]) -> io::Result<()> {
-    let mut page = [0u8; PAGE];
-    let first = text::put_number(rt, &mut page, 0, b"steps ", number)?;
-    let end = text::put_words(rt, &mut page, first, &counts)?;
-    let all = text::put(rt, &mut page, end, b'\n')?;
-    text::print_page(rt, page, all)
-}
-
 fn count_vectors(rt: &impl Print, board: u32, s: &[u8], k: u32) -> io::Result<()> {
     let mut counts = [MARK; ANSWERS];
     let answer = step_vectors::step_vectors(board, s, k, &mut counts);
-    print_counts(rt, answer_words::number_of(answer), counts)
+    let number = answer_words::number_of(&answer);
+    let counts = Each(&counts[..]);
+    println!(rt; "steps {number}{counts}")
 }
 
 // ---- the input
 
-fn read(input: &mut impl Read, bytes: &mut [u8], wanted: u32) -> io::Result<()> {
-    let n = bytes.len().min(wanted as usize);
-    reading::read_full(input, &mut bytes[..n])?;
-    Ok(())
-}
-
 // Whether there was a description.
 fn count_next(rt: &impl Print, input: &mut impl Read) -> io::Result<bool> {
     let mut words = [0u8; WORDS];
-    let got = reading::read_full(input, &mut words)?;
-    if got < WORDS {
+    if reading::read_full(input, &mut words)? < WORDS {
         return Ok(false);
     }
     let k = integers::bits_at(&words, 0);
     let board = integers::bits_at(&words, 1);
     let wanted = integers::bits_at(&words, 2);
     let mut bytes = [0u8; BYTES];
-    read(input, &mut bytes, wanted)?;
     let n = bytes.len().min(wanted as usize);
+    reading::read_full(input, &mut bytes[..n])?;
     count_vectors(rt, board, &bytes[..n], k)?;
     Ok(true)
 }
 
 fn main(rt: HostRuntime) -> io::Result<()> {
-    let mut number: u32 = 0;
-    while number < DESCRIPTIONS {
-        if count_next(&rt, &mut rt.stdin())? {
-            number += 1;
-        } else {
-            return Ok(());
+    let mut input = rt.stdin();
+    for _ in 0..DESCRIPTIONS {
+        if !count_next(&rt, &mut input)? {
+            break;
         }
     }
     Ok(())

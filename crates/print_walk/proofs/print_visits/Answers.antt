@@ -4,9 +4,6 @@ use native.Mathlib.Omega.{arith}
 use Rattle.vectors.specs.Within.{Within}
 use Rattle.print_walk.proofs.print_visits.Goals as goal
 
-pub loop-k-init : goal.loop-k-init
-loop-k-init g c = omega arith
-
 pub instance_at-requires : goal.instance_at-requires
 instance_at-requires g c = let p = c.requires in omega (arith, p.words)
 
@@ -14,6 +11,3 @@ pub print_visit-requires : goal.print_visit-requires
 print_visit-requires g c =
     let p = c.requires in
     (p.nest, subst (Within 64) (sym c.instance_at.ensures) (p.small c.loop-k.k (omega arith)))
-
-pub loop-k-preserved : goal.loop-k-preserved
-loop-k-preserved g c = omega arith
