@@ -1,7 +1,6 @@
 -- `make::put_word` meets its contract. Assumes nothing.
 use native.Mathlib.Omega.{arith}
 use lib.ListN.{length-set}
-use borrow.Author.Rules.{rules}
 use Rattle.make.specs.Words.{put_is}
 use Rattle.make.proofs.put_word.Goals as goal
 
