@@ -11,15 +11,17 @@
 #![tactic(auto)]
 
 ghost use Rattle.std.specs.Prelude.{◌≡◌, ◌≤◌, ◌<◌, get_or};
-ghost use Rattle.meaning.specs.Description.{sizes_of, map_at, loading_at, line_at, stream_of, body_line, no_stream, no_line};
-ghost use Rattle.meaning.specs.Description.{description_of};
-ghost use Rattle.meaning.specs.Description.{written};
+ghost use Rattle.meaning.specs.Description.{sizes_of, stream_of, body_line, no_stream, no_line, description_of, written};
 ghost use Rattle.decode.specs.Offsets.{Sized};
 ghost use Rattle.decode.specs.Filled.{filled};
 
 use decode_nest::{loading, matrix, nest};
 use integers::{Matrix, V2, V3};
-use meaning::{Description, LINE_WORDS, Line, Nest, Sizes, Stream};
+use meaning::{Description, Line, Nest, Sizes, Stream};
+
+mod fit_sizes;
+
+pub use fit_sizes::FitSizes;
 
 // ---- the parts
 
@@ -34,55 +36,23 @@ pub fn sizes(s: &[u8]) -> Sizes
     }
 }
 
-// The word at which index map i begins.
-fn map_at(z: Sizes, i: u32) -> u32
-    requires { (Sized z) × (i ≤ 6) }
-    ensures { (result ≡ map_at z i) × (result ≤ 57) }
-{
-    if z.loops == 2 { 13 + 2 * i } else { 21 + 6 * i }
-}
-
-// The word at which loading vector i begins.
-pub fn loading_at(z: Sizes, i: u32) -> u32
-    requires { (Sized z) × (i ≤ 6) }
-    ensures { (result ≡ loading_at z i) × (result ≤ 69) }
-{
-    if z.loops == 2 {
-        13 + 2 * z.streams + i
-    } else {
-        21 + 6 * z.streams + 2 * i
-    }
-}
-
-// The word at which line i begins.
-pub fn line_at(z: Sizes, i: u32) -> u32
-    requires { (Sized z) × (i ≤ 8) }
-    ensures { (result ≡ line_at z i) × (result ≤ 125) }
-{
-    if z.loops == 2 {
-        13 + 3 * z.streams + LINE_WORDS * i
-    } else {
-        21 + 8 * z.streams + LINE_WORDS * i
-    }
-}
-
 // Stream i.
-fn stream_of(s: &[u8], z: Sizes, i: u32) -> Stream
-    requires { (Sized z) × (i < 6) }
-    ensures { result ≡ stream_of s.now z i }
+fn stream_of(s: &[u8], z: FitSizes, i: u32) -> Stream
+    requires { i < 6 }
+    ensures { result ≡ stream_of s.now z.sizes i }
 {
     Stream {
-        map: matrix(s, z, map_at(z, i)),
-        loading: loading(s, z, loading_at(z, i)),
+        map: matrix(s, z.sizes, z.map_at(i)),
+        loading: loading(s, z.sizes, z.loading_at(i)),
     }
 }
 
 // Line i.
-fn line_of(s: &[u8], z: Sizes, i: u32) -> Line
-    requires { (Sized z) × (i < 8) }
-    ensures { result ≡ body_line s.now z i }
+fn line_of(s: &[u8], z: FitSizes, i: u32) -> Line
+    requires { i < 8 }
+    ensures { result ≡ body_line s.now z.sizes i }
 {
-    let k = line_at(z, i);
+    let k = z.line_at(i);
     Line {
         operation: integers::bits_at(s, k),
         target: integers::bits_at(s, k + 1),
@@ -124,24 +94,22 @@ fn no_line() -> Line
 }
 
 // All streams.
-fn streams(s: &[u8], z: Sizes) -> [Stream; 6]
-    requires { Sized z }
-    ensures { result ≡ filled (stream_of s.now z) z.streams 6 no_stream }
+fn streams(s: &[u8], z: FitSizes) -> [Stream; 6]
+    ensures { result ≡ filled (stream_of s.now z.sizes) z.sizes.streams 6 no_stream }
 {
     let mut out = [no_stream(); 6];
-    for i in 0..z.streams {
+    for i in 0..z.sizes.streams {
         out[i as usize] = stream_of(s, z, i);
     }
     out
 }
 
 // All lines.
-fn lines(s: &[u8], z: Sizes) -> [Line; 8]
-    requires { Sized z }
-    ensures { result ≡ filled (body_line s.now z) z.lines 8 no_line }
+fn lines(s: &[u8], z: FitSizes) -> [Line; 8]
+    ensures { result ≡ filled (body_line s.now z.sizes) z.sizes.lines 8 no_line }
 {
     let mut out = [no_line(); 8];
-    for i in 0..z.lines {
+    for i in 0..z.sizes.lines {
         out[i as usize] = line_of(s, z, i);
     }
     out
@@ -154,10 +122,10 @@ pub fn description(s: &[u8]) -> Description
     requires { Sized (sizes_of s.now) }
     ensures { result ≡ description_of s.now }
 {
-    let z = sizes(s);
+    let z = FitSizes { sizes: sizes(s) };
     Description {
-        sizes: z,
-        nest: nest(s, z),
+        sizes: z.sizes,
+        nest: nest(s, z.sizes),
         streams: streams(s, z),
         lines: lines(s, z),
     }

@@ -9,7 +9,7 @@
 
 #![tactic(auto)]
 
-ghost use Rattle.std.specs.Prelude.{◌≡◌, ◌+◌, ◌*◌, ◌≤◌, length};
+ghost use Rattle.std.specs.Prelude.{◌≡◌, ◌+◌, ◌*◌, ◌≤◌, length, IfOk};
 ghost use Rattle.std.specs.Int.{w32};
 ghost use Rattle.std.proofs.Common.{of_z};
 ghost use Rattle.refusals.specs.Numbers.{refusal_number, numbered};
@@ -17,10 +17,10 @@ ghost use Rattle.meaning.specs.Tests.{refusal};
 ghost use Rattle.meaning.specs.Description.{bytes_of, words_of};
 ghost use Rattle.meaning.specs.Generator.{size_of, drawn_from, drawn_direction, drawn, made_words, make_tests, make};
 ghost use Rattle.words.specs.Stored.{stored};
-ghost use Rattle.decode.specs.Offsets.{Sized};
 ghost use Rattle.make.specs.Words.{words_to};
 ghost use Rattle.make.specs.Ranges.{Drawable};
 
+use decode::FitSizes;
 use meaning::{Range, Sizes};
 use refusals::Refusal;
 
@@ -51,9 +51,8 @@ fn drawn_direction(x: u32) -> i32
 }
 
 // Word k, drawn by a state.
-fn drawn(z: Sizes, k: u32, x: u32) -> i32
-    requires { Sized z }
-    ensures { result ≡ drawn z k x }
+fn drawn(z: FitSizes, k: u32, x: u32) -> i32
+    ensures { result ≡ drawn z.sizes k x }
 {
     if word_ranges::is_direction(z, k) {
         drawn_direction(x)
@@ -63,9 +62,8 @@ fn drawn(z: Sizes, k: u32, x: u32) -> i32
 }
 
 // Its bits.
-fn bits_drawn(z: Sizes, k: u32, x: u32) -> u32
-    requires { Sized z }
-    ensures { result ≡ of_z w32 (drawn z k x) }
+fn bits_drawn(z: FitSizes, k: u32, x: u32) -> u32
+    ensures { result ≡ of_z w32 (drawn z.sizes k x) }
 {
     integers::bits_of(drawn(z, k, x))
 }
@@ -93,14 +91,13 @@ fn put_sizes(z: Sizes, out: &mut [u8])
 }
 
 // The sizes, and then a word for each round.
-fn put_words(seed: u32, z: Sizes, out: &mut [u8])
-    requires { (Sized z) × (4 * words_of z ≤ length out.old) }
-    ensures { out.new ≡ words_to (made_words z seed) (words_of z) out.old }
+fn put_words(seed: u32, z: FitSizes, out: &mut [u8])
+    requires { 4 * words_of z.sizes ≤ length out.old }
+    ensures { out.new ≡ words_to (made_words z.sizes seed) (words_of z.sizes) out.old }
 {
-    put_sizes(z, out);
-    let words = decode::line_at(z, z.lines);
+    put_sizes(z.sizes, out);
     let mut state = seed;
-    for k in 3..words {
+    for k in 3..z.words() {
         let next = generator::next(state);
         put_word(out, k, bits_drawn(z, k, next));
         state = next;
@@ -109,28 +106,28 @@ fn put_words(seed: u32, z: Sizes, out: &mut [u8])
 
 // ---- the call
 
-// 29 for seed zero, then 30 for the sizes, then 31 for an output that is short.
-fn refusal(seed: u32, z: Sizes, out: &[u8]) -> Result<(), Refusal>
-    ensures { refusal_number result ≡ refusal (make_tests seed z out.now) }
+// 29 for seed zero, then 30 for the sizes, then 31 for an output that is short; else the sizes as they fit.
+fn fit(seed: u32, z: Sizes, out: &[u8]) -> Result<FitSizes, Refusal>
+    ensures number { refusal_number result ≡ refusal (make_tests seed z out.now) }
+    ensures same { IfOk result (λ f. f.sizes ≡ z) }
 {
     if seed == 0 {
         return Err(Refusal::Seed);
     }
-    if word_ranges::size_refused(z) {
+    let Some(fit) = word_ranges::fit(z) else {
         return Err(Refusal::Made);
-    }
-    let words = decode::line_at(z, z.lines);
-    if out.len() < 4 * words as usize {
+    };
+    if out.len() < 4 * fit.words() as usize {
         return Err(Refusal::Room);
     }
-    Ok(())
+    Ok(fit)
 }
 
 // Make: a description of these sizes; what stands behind it stays. Its answer is the number of bytes.
 pub fn make(seed: u32, z: Sizes, out: &mut [u8]) -> Result<u32, Refusal>
     ensures { (numbered result ≡ (make seed z out.old).answer) × (out.new ≡ (make seed z out.old).output) }
 {
-    refusal(seed, z, out)?;
-    put_words(seed, z, out);
-    Ok(4 * decode::line_at(z, z.lines))
+    let fit = fit(seed, z, out)?;
+    put_words(seed, fit, out);
+    Ok(4 * fit.words())
 }

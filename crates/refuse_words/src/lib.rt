@@ -7,28 +7,24 @@ ghost use Rattle.std.specs.Prelude.{◌≡◌};
 ghost use Rattle.integers.specs.Bytes.{word_at};
 ghost use Rattle.meaning.specs.Tests.{refusal};
 ghost use Rattle.meaning.specs.Description.{in_range, refused4};
-ghost use Rattle.decode.specs.Offsets.{Sized};
 ghost use Rattle.decode.specs.Refusals.{word_tests, first_tests};
 ghost use Rattle.refusals.specs.Numbers.{refusal_number};
 
-use meaning::Sizes;
+use decode::FitSizes;
 use refusals::Refusal;
 
 // Whether word k is in its range.
-fn in_range(s: &[u8], z: Sizes, k: u32) -> bool
-    requires { Sized z }
-    ensures { result ≡ in_range z k (word_at s.now k) }
+fn in_range(s: &[u8], z: FitSizes, k: u32) -> bool
+    ensures { result ≡ in_range z.sizes k (word_at s.now k) }
 {
     word_ranges::in_range(z, k, integers::word_at(s, k))
 }
 
 // Refusal 4: a word out of range.
-fn word_refused(s: &[u8], z: Sizes) -> bool
-    requires { Sized z }
-    ensures { result ≡ refused4 s.now z }
+fn word_refused(s: &[u8], z: FitSizes) -> bool
+    ensures { result ≡ refused4 s.now z.sizes }
 {
-    let words = decode::line_at(z, z.lines);
-    for k in 3..words {
+    for k in 3..z.words() {
         if !in_range(s, z, k) {
             return true;
         }
@@ -37,14 +33,13 @@ fn word_refused(s: &[u8], z: Sizes) -> bool
 }
 
 // The first of the refusals 4 and 5 that applies.
-fn refusal_of_words(s: &[u8], z: Sizes) -> Result<(), Refusal>
-    requires { Sized z }
-    ensures { refusal_number result ≡ refusal (word_tests s.now z) }
+fn refusal_of_words(s: &[u8], z: FitSizes) -> Result<(), Refusal>
+    ensures { refusal_number result ≡ refusal (word_tests s.now z.sizes) }
 {
     if word_refused(s, z) {
         return Err(Refusal::Range);
     }
-    if word_ranges::bound_refused(decode_nest::nest(s, z)) {
+    if word_ranges::bound_refused(decode_nest::nest(s, z.sizes)) {
         return Err(Refusal::Bounds);
     }
     Ok(())
@@ -57,12 +52,10 @@ pub fn refusal(s: &[u8]) -> Result<(), Refusal>
     if s.len() < 12 {
         return Err(Refusal::Bytes);
     }
-    let z = decode::sizes(s);
-    if word_ranges::size_refused(z) {
+    let Some(z) = word_ranges::fit(decode::sizes(s)) else {
         return Err(Refusal::Sizes);
-    }
-    let n = decode::line_at(z, z.lines);
-    if s.len() != 4 * n as usize {
+    };
+    if s.len() != 4 * z.words() as usize {
         return Err(Refusal::Length);
     }
     refusal_of_words(s, z)

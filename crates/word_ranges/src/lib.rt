@@ -2,11 +2,11 @@
 
 #![tactic(auto)]
 
-ghost use Rattle.std.specs.Prelude.{◌≡◌, not, ◌&&◌, ◌≤◌, leb, pos};
+ghost use Rattle.std.specs.Prelude.{◌≡◌, not, ◌&&◌, ◌≤◌, leb, pos, is_none, IfSome};
 ghost use Rattle.std.specs.Int.Signed.{lt_z};
 ghost use Rattle.meaning.specs.Description.{◌to◌, within, line_range, range_at, is_direction, in_range, refused2, refused5};
-ghost use Rattle.decode.specs.Offsets.{Sized};
 
+use decode::FitSizes;
 use integers::V3;
 use meaning::{LAST_OPERATION, LINE_WORDS, Nest, Range, Sizes};
 
@@ -18,10 +18,21 @@ fn outside(a: u32, b: u32, n: u32) -> bool
 }
 
 // Refusal 2: a size out of range.
-pub fn size_refused(z: Sizes) -> bool
+fn size_refused(z: Sizes) -> bool
     ensures { result ≡ refused2 z }
 {
     outside(2, 3, z.loops) || outside(1, 6, z.streams) || outside(1, 8, z.lines)
+}
+
+// Sizes as they fit; none where refusal 2 applies.
+pub fn fit(z: Sizes) -> Option<FitSizes>
+    ensures same { IfSome result (λ f. f.sizes ≡ z) }
+    ensures none { is_none result ≡ refused2 z }
+{
+    if size_refused(z) {
+        return None;
+    }
+    Some(FitSizes { sizes: z })
 }
 
 // Numbers from 0 on.
@@ -36,14 +47,13 @@ fn up_to(last: u32) -> Range
 }
 
 // The range of word j of a line.
-fn line_range(z: Sizes, j: u32) -> Range
-    requires { Sized z }
-    ensures { result ≡ line_range z j }
+fn line_range(z: FitSizes, j: u32) -> Range
+    ensures { result ≡ line_range z.sizes j }
 {
     match j {
         0 => up_to(LAST_OPERATION),
-        1..=3 => up_to(z.streams + 1),
-        4 => up_to(z.loops - 1),
+        1..=3 => up_to(z.sizes.streams + 1),
+        4 => up_to(z.sizes.loops - 1),
         5 => up_to(3),
         _ => Range {
             least: -64,
@@ -53,11 +63,10 @@ fn line_range(z: Sizes, j: u32) -> Range
 }
 
 // The range of word k, if it is no direction.
-pub fn range_at(z: Sizes, k: u32) -> Range
-    requires { Sized z }
-    ensures { result ≡ range_at z k }
+pub fn range_at(z: FitSizes, k: u32) -> Range
+    ensures { result ≡ range_at z.sizes k }
 {
-    let r = z.loops;
+    let r = z.sizes.loops;
     if k < 3 + r + r {
         return Range {
             least: -64,
@@ -70,13 +79,13 @@ pub fn range_at(z: Sizes, k: u32) -> Range
             greatest: 8,
         };
     }
-    if k < decode::loading_at(z, 0) {
+    if k < z.loading_at(0) {
         return Range {
             least: -4,
             greatest: 4,
         };
     }
-    let body = decode::line_at(z, 0);
+    let body = z.line_at(0);
     if k < body {
         return Range {
             least: -1,
@@ -87,12 +96,11 @@ pub fn range_at(z: Sizes, k: u32) -> Range
 }
 
 // Whether word k is a direction.
-pub fn is_direction(z: Sizes, k: u32) -> bool
-    requires { Sized z }
-    ensures { result ≡ is_direction z k }
+pub fn is_direction(z: FitSizes, k: u32) -> bool
+    ensures { result ≡ is_direction z.sizes k }
 {
-    let direction = 3 + 2 * z.loops;
-    (direction..direction + z.loops).contains(&k)
+    let direction = 3 + 2 * z.sizes.loops;
+    (direction..direction + z.sizes.loops).contains(&k)
 }
 
 // Whether a range has a word.
@@ -103,9 +111,8 @@ fn covers(r: Range, w: i32) -> bool
 }
 
 // Whether word k is in its range.
-pub fn in_range(z: Sizes, k: u32, w: i32) -> bool
-    requires { Sized z }
-    ensures { result ≡ in_range z k w }
+pub fn in_range(z: FitSizes, k: u32, w: i32) -> bool
+    ensures { result ≡ in_range z.sizes k w }
 {
     if is_direction(z, k) {
         return integers::magnitude(w) == 1;

@@ -5,4 +5,4 @@ use Rattle.decode.proofs.description.Goals as goal
 pub returns : goal.returns
 unfolding description_of
 returns c =
-    rw (c.nest.ensures, c.streams.ensures, c.lines.ensures, c.sizes-z.ensures)
+    rw (c.nest.ensures, c.streams.ensures, c.lines.ensures, c.sizes.ensures)

@@ -5,4 +5,4 @@ use Rattle.meaning.specs.Description.{body_line, no_line}
 use Rattle.decode.proofs.lines.Given as goal
 
 abbrev pub invariant-loop-i : goal.invariant-loop-i
-invariant-loop-i l = l.out ≡ fill_by (body_line l.s l.z) l.i (replicate 8 no_line)
+invariant-loop-i l = l.out ≡ fill_by (body_line l.s l.z.sizes) l.i (replicate 8 no_line)

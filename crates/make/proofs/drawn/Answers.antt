@@ -8,7 +8,7 @@ use Rattle.make.proofs.drawn.Goals as goal
 
 pub drawn_from-requires : goal.drawn_from-requires
 drawn_from-requires c =
-    subst Drawable (sym c.range_at.ensures) (drawable c.args.z c.requires c.args.k)
+    subst Drawable (sym c.range_at.ensures) (drawable c.args.z.sizes c.args.z.fit c.args.k)
 
 pub returns-then-is_direction : goal.returns-then-is_direction
 returns-then-is_direction c =

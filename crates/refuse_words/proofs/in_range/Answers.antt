@@ -7,4 +7,4 @@ use Rattle.refuse_words.proofs.in_range.Goals as goal
 pub returns : goal.returns
 returns c =
     let a = c.args in
-    c.in_range.ensures ∙ ap (in_range a.z a.k) (held c.word_at.type_inv c.word_at.ensures)
+    c.in_range.ensures ∙ ap (in_range a.z.sizes a.k) (held c.word_at.type_inv c.word_at.ensures)

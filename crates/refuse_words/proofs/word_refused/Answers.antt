@@ -4,13 +4,10 @@ use mathlib.Core.Bool.{Bool, not}
 use mathlib.Core.List.{List}
 use Prim.Native.Nat.{ℕ, ◌-◌}
 use native.Mathlib.Omega.{arith}
-use borrow.Author.Tests.{not-true, not-false}
-use Rattle.integers.specs.Bytes.{word_at}
 use Rattle.meaning.specs.declared.Sizes.{Sizes}
 use Rattle.meaning.specs.Lists.{every, numbers_from}
-use Rattle.meaning.specs.Description.{words_of, in_range, refused4}
+use Rattle.meaning.specs.Description.{words_of, refused4}
 use Rattle.lists.specs.Loops.{every_turn, every_stop, every_end}
-use borrow.Author.Rules.{rules}
 use Rattle.refuse_words.proofs.word_refused.Invariants.{test}
 use Rattle.refuse_words.proofs.word_refused.Goals as goal
 
@@ -24,7 +21,7 @@ loop-k-init c = refl
 
 pub returns-then-not-in_range : goal.returns-then-not-in_range
 returns-then-not-in_range c =
-    answer _ _ c.line_at-words.ensures.0
+    answer _ _ (omega arith)
     (sym (every_stop _ _ _ (omega arith) (sym c.in_range.ensures ∙ c.if-not-in_range.true)) ∙ c.loop-k.invariant)
 
 pub loop-k-preserved : goal.loop-k-preserved
@@ -33,4 +30,4 @@ loop-k-preserved c =
     ∙ c.loop-k.invariant
 
 pub returns : goal.returns
-returns c = answer _ _ c.line_at-words.ensures.0 (sym (every_end _ _ _ (omega arith)) ∙ c.loop-k.invariant)
+returns c = answer _ _ (omega arith) (sym (every_end _ _ _ (omega arith)) ∙ c.loop-k.invariant)
