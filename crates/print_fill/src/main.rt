@@ -4,9 +4,8 @@
 
 #![tactic(auto)]
 
-use std::fmt;
 use std::fmt::Display;
-use std::io;
+use std::{fmt, io};
 
 const PLACES: usize = 65536;
 

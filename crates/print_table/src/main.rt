@@ -24,7 +24,12 @@ fn print_row(rt: &impl Print, r: Row, z: Sizes) -> io::Result<()> {
 }
 
 fn print_figures(rt: &impl Print, f: Figures) -> io::Result<()> {
-    let Figures { processes, instances, steps, .. } = f;
+    let Figures {
+        processes,
+        instances,
+        steps,
+        ..
+    } = f;
     println!(rt; "processes {processes} instances {instances} steps {steps}")
 }
 

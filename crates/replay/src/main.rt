@@ -286,16 +286,7 @@ fn play_whole(
         &mut received,
         &mut state,
     )?;
-    play_calls(
-        rt,
-        input,
-        board,
-        s,
-        l,
-        &waiting,
-        &mut received,
-        &mut state,
-    )
+    play_calls(rt, input, board, s, l, &waiting, &mut received, &mut state)
 }
 
 // The words between a description and the calls: the board, and the number of values.
