@@ -1,5 +1,5 @@
--- What the answers of the calls leave in words, by the answers of meaning: their numbers; their values, or the words as they were where there
--- are none. Assumes nothing.
+-- What the answers of the calls leave in words, by the answers of meaning: their numbers; their values, or the words as they were where
+-- there are none. Assumes nothing.
 use Rattle.std.specs.Prelude.{◌≡◌, List, [], ◌∷◌, ℕ, Result, Ok, Err}
 use Rattle.std.proofs.Common.{ap}
 use Rattle.refusals.specs.declared.Refusal.{Refusal}

@@ -2,8 +2,10 @@
 use Rattle.std.specs.Prelude.{◌≡◌, refl, cond, ℕ, suc, ◌<◌, eqb, Option, Some, None, Result, Ok, Err}
 use Rattle.std.proofs.Common.{arith, ap}
 use Rattle.refusals.specs.declared.Refusal.{Refusal}
-use Rattle.refusals.specs.declared.Refusal.TheVariants.{Bytes, Sizes, Length, Range, Bounds, Instances, PlaceRank, StillIncrement, Processes, MapRank, StillLine, Move, Hop, Order, Loading, Untouched}
-use Rattle.refusals.specs.declared.Refusal.TheVariants.{Rows, Pipe, Values, State, Unsound, NoStep, NotReady, NotOut, Received, Words, Output, Seed, Made, Room, Board, Entries}
+use Rattle.refusals.specs.declared.Refusal.TheVariants.{Bytes, Sizes, Length, Range, Bounds, Instances, PlaceRank, StillIncrement}
+use Rattle.refusals.specs.declared.Refusal.TheVariants.{Processes, MapRank, StillLine, Move, Hop, Order, Loading, Untouched, Rows, Pipe}
+use Rattle.refusals.specs.declared.Refusal.TheVariants.{Values, State, Unsound, NoStep, NotReady, NotOut, Received, Words, Output, Seed}
+use Rattle.refusals.specs.declared.Refusal.TheVariants.{Made, Room, Board, Entries}
 
 -- the number of a refusal
 abbrev pub number_of : Refusal → ℕ

@@ -9,4 +9,5 @@ use Rattle.make.proofs.put_words.Given as goal
 abbrev pub invariant-loop-k : goal.invariant-loop-k
 invariant-loop-k l =
     (l.state ≡ after (l.k - 3) l.seed)
-    × ((first : List ℕ) → l.initial.out ≡ words_to (made_words l.z.sizes l.seed) 3 first → l.out ≡ words_to (made_words l.z.sizes l.seed) l.k first)
+    × ((first : List ℕ) → l.initial.out ≡ words_to (made_words l.z.sizes l.seed) 3 first
+    → l.out ≡ words_to (made_words l.z.sizes l.seed) l.k first)

@@ -1,5 +1,5 @@
--- `refuse::survey_within` meets its contract: where none of 33 and 1 to 10 applies the streams' tests decide, and the words are in range and
--- the processes' filled; else that refusal stands. Assumes nothing.
+-- `refuse::survey_within` meets its contract: where none of 33 and 1 to 10 applies the streams' tests decide, and the words are in range
+-- and the processes' filled; else that refusal stands. Assumes nothing.
 use mathlib.Core.Path.{◌≡◌, refl, sym, ◌∙◌, ap, subst}
 use native.Mathlib.Omega.{arith}
 use Rattle.refusals.specs.Numbers.{number_of, refusal_number, number-positive}

@@ -1,4 +1,5 @@
--- `wakeups::counter` meets its contract: there is at least one stream, and the row of the first has the word of the firings. Assumes nothing.
+-- `wakeups::counter` meets its contract: there is at least one stream, and the row of the first has the word of the firings. Assumes
+-- nothing.
 use Rattle.std.proofs.Common.{refl, arith}
 use Rattle.wakeups.proofs.counter.Goals as goal
 
