@@ -1,7 +1,7 @@
 -- What the range tests of a description leave: a nest in range, one loop of it, small numbers and the words that hold them.
 -- Assumes nothing.
 use Rattle.std.specs.Prelude.{◌≡◌, Bool, List, ℕ, ◌+◌, ◌≤◌, ◌<◌, length, get_or, ℤ, pos, ◌-ℤ◌, ◌≤ℤ◌}
-use Rattle.std.proofs.Common.{sym, ◌∙◌, ap, ap₂, subst₂, arith, SFits, to_z, of_z, to_z-of_z}
+use Rattle.std.proofs.Common.{sym, ◌∙◌, ap, ap₂, subst, subst₂, arith, SFits, to_z, of_z, to_z-of_z}
 use Rattle.std.specs.Int.Signed.{lt_z}
 use Rattle.std.specs.Int.{w32}
 use Rattle.integers.specs.Differences.{Abs, gaps, parts, up}
@@ -52,7 +52,34 @@ middle_of n = record { left = n.left.y; right = n.right.y; direction = n.directi
 abbrev pub inner_of : Nest → Loop
 inner_of n = record { left = n.left.z; right = n.right.z; direction = n.direction.z }
 
+pub outer_ranged : {n : Nest} → Bounded n → Ranged (outer_of n)
+outer_ranged h = record { left = h.left.xs; right = h.right.xs; ordered = h.outer; direction = h.directed.outer }
+
+pub middle_ranged : {n : Nest} → Bounded n → Ranged (middle_of n)
+middle_ranged h = record { left = h.left.ys; right = h.right.ys; ordered = h.middle; direction = h.directed.middle }
+
+pub inner_ranged : {n : Nest} → Bounded n → Ranged (inner_of n)
+inner_ranged h = record { left = h.left.zs; right = h.right.zs; ordered = h.inner; direction = h.directed.inner }
+
 -- ---- words that hold numbers
+
+abbrev word : ℤ → ℤ
+word z = to_z w32 (of_z w32 z)
+
+-- a loop in range, of the words that hold its bounds and its direction
+direction_small : {d : ℤ} → Direction d → Abs d 1
+direction_small Direction.onward = record { abs = omega arith }
+direction_small Direction.back = record { abs = omega arith }
+
+same_loop : {l r d a b c : ℤ} → l ≡ a → r ≡ b → d ≡ c
+    → ◌≡◌ {A = Loop} (record { left = l; right = r; direction = d }) (record { left = a; right = b; direction = c })
+same_loop e f g = cc
+
+pub loop_words : {k l : Loop} → Ranged l → k ≡ record { left = word l.left; right = word l.right; direction = word l.direction }
+    → (k ≡ l) × Ranged k
+loop_words {k} {l} h e =
+    let i : k ≡ l = e ∙ same_loop (at tt h.left).eq (at tt h.right).eq (at tt (direction_small h.direction)).eq in
+    (i, subst Ranged (sym i) h)
 
 -- the test that two words are in order is that of the numbers
 pub less_words : {a b : ℤ} {t : Bool} → SFits w32 a → SFits w32 b → lt_z (to_z w32 (of_z w32 a)) (to_z w32 (of_z w32 b)) ≡ t → t ≡ lt_z a b

@@ -56,39 +56,14 @@ pub fn distance(a: i32, b: i32) -> u32
     (b - a) as u32
 }
 
-// Loop 0.
-fn outer(n: Nest) -> Loop
-    requires { Bounded n }
-    ensures { (result ≡ outer_of n) × (Ranged result) }
+// A loop of its bounds and direction.
+fn loop_of(left: i32, right: i32, direction: i32) -> Loop
+    ensures { result ≡ record { left = left; right = right; direction = direction } }
 {
     Loop {
-        left: n.left.x,
-        right: n.right.x,
-        direction: n.direction.x,
-    }
-}
-
-// Loop 1.
-fn middle(n: Nest) -> Loop
-    requires { Bounded n }
-    ensures { (result ≡ middle_of n) × (Ranged result) }
-{
-    Loop {
-        left: n.left.y,
-        right: n.right.y,
-        direction: n.direction.y,
-    }
-}
-
-// Loop 2.
-fn inner(n: Nest) -> Loop
-    requires { Bounded n }
-    ensures { (result ≡ inner_of n) × (Ranged result) }
-{
-    Loop {
-        left: n.left.z,
-        right: n.right.z,
-        direction: n.direction.z,
+        left,
+        right,
+        direction,
     }
 }
 
@@ -118,9 +93,9 @@ pub fn turns_of(n: Nest) -> Turns
     ensures { result ≡ turns_of n }
 {
     Turns {
-        outer: turn_count(outer(n)),
-        middle: turn_count(middle(n)),
-        inner: turn_count(inner(n)),
+        outer: turn_count(loop_of(n.left.x, n.right.x, n.direction.x)),
+        middle: turn_count(loop_of(n.left.y, n.right.y, n.direction.y)),
+        inner: turn_count(loop_of(n.left.z, n.right.z, n.direction.z)),
     }
 }
 
@@ -155,9 +130,9 @@ pub fn instance(n: Nest, k: u32) -> V3
 {
     let t = turns_before(n, k);
     V3 {
-        x: value_after(outer(n), t.outer),
-        y: value_after(middle(n), t.middle),
-        z: value_after(inner(n), t.inner),
+        x: value_after(loop_of(n.left.x, n.right.x, n.direction.x), t.outer),
+        y: value_after(loop_of(n.left.y, n.right.y, n.direction.y), t.middle),
+        z: value_after(loop_of(n.left.z, n.right.z, n.direction.z), t.inner),
     }
 }
 

@@ -7,7 +7,6 @@ ghost use Rattle.std.specs.Int.Signed.{lt_z};
 ghost use Rattle.meaning.specs.Description.{◌to◌, within, line_range, range_at, is_direction, in_range, refused2, refused5};
 
 use decode::FitSizes;
-use integers::V3;
 use meaning::{LAST_OPERATION, LINE_WORDS, Nest, Range, Sizes};
 
 // Whether n is outside a to b.
@@ -120,28 +119,9 @@ pub fn in_range(z: FitSizes, k: u32, w: i32) -> bool
     covers(range_at(z, k), w)
 }
 
-// Whether a is above b in the first component; then in the second and the third.
-fn above_x(a: V3, b: V3) -> bool
-    ensures { result ≡ lt_z b.x a.x }
-{
-    b.x < a.x
-}
-
-fn above_y(a: V3, b: V3) -> bool
-    ensures { result ≡ lt_z b.y a.y }
-{
-    b.y < a.y
-}
-
-fn above_z(a: V3, b: V3) -> bool
-    ensures { result ≡ lt_z b.z a.z }
-{
-    b.z < a.z
-}
-
 // Refusal 5: a left bound above its right.
 pub fn bound_refused(n: Nest) -> bool
     ensures { result ≡ refused5 n }
 {
-    above_x(n.left, n.right) || above_y(n.left, n.right) || above_z(n.left, n.right)
+    n.right.x < n.left.x || n.right.y < n.left.y || n.right.z < n.left.z
 }
