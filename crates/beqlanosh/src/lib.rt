@@ -1,6 +1,7 @@
 // The library that programs in C or Rust link (include/beqlanosh.h): the calls over numbers and slices alone, each answering the number by
 // which it declines, or 0. It decides nothing of its own but how values lie in words. The first argument of each call on a description is
-// the board that it serves.
+// the board that it serves. Functions that look alike stay apart, and kinds are numbers: each is a name of the C interface with its
+// parameters.
 //
 // specs/, by file:
 //

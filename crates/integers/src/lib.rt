@@ -51,21 +51,21 @@ pub struct Matrix {
     pub low: V3,
 }
 
-// The absolute value; that of the least i32 fits too.
+// The absolute value; that of the least i32 fits too. Kept beside `unsigned_abs`, since the edit magnitude_off_by_one is of it.
 pub fn magnitude(a: i32) -> u32
     ensures { result ≡ nat_abs a }
 {
     a.unsigned_abs()
 }
 
-// The signed number of 32 bits.
+// The signed number of 32 bits. Kept beside `cast_signed`: `Bytes.word_at` of specs/ is said by its contract.
 pub fn signed(u: u32) -> i32
     ensures { result ≡ to_z w32 u }
 {
     u.cast_signed()
 }
 
-// The 32 bits of a signed number.
+// The 32 bits of a signed number. Kept beside `cast_unsigned`, since the edit negative_one_too_low is of it.
 pub fn bits_of(z: i32) -> u32
     ensures { result ≡ of_z w32 z }
 {

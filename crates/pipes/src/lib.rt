@@ -49,7 +49,8 @@ fn last_element(f: Flow, spans: &[u32], p: usize) -> V2
     )
 }
 
-// Of a moving stream: its soak, its drain, and how many elements its pipe has.
+// Of a moving stream: its soak, its drain, and how many elements its pipe has. Soak and drain differ in the vector and in the element; one
+// function of both would be told all that it does.
 fn soak_at(f: Flow, spans: &[u32], p: usize) -> u32
     requires { (At f spans.now p) × (T f.moving) }
     ensures { result ≡ soak f.nest f.stream (process_of f.nest p) }
@@ -91,6 +92,7 @@ pub fn held_at(f: Flow, spans: &[u32], lanes: &[u16], p: usize) -> u32
     u32::from(lanes[HELD + e])
 }
 
+// A twin of `held_at` but for the words that it reads and for what it asks: a function over both would have neither name nor clause.
 pub fn one_at(f: Flow, spans: &[u32], lanes: &[u16], p: usize) -> u32
     requires { (Near f spans.now lanes.now p) × (T f.moving) }
     ensures { result ≡ get_or lanes.now (gauge_limits.processes + get_or lanes.now p 0) 0 }

@@ -98,7 +98,7 @@ pub fn put_port(ports: &mut [u32], at: usize, k: Port)
     words::store(ports, at, &port_words(k));
 }
 
-// The row of a pipe's ends.
+// The row of a pipe's ends. Beside `put_port`: each is one call of `store`, and a function over both would take the row's words.
 pub fn put_end(ports: &mut [u32], at: usize, e: End)
     requires { (at + 3 ≤ length ports.old) × (EndWide e) }
     ensures { ports.new ≡ stored (end_words e) at 3 ports.old }

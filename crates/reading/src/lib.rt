@@ -18,6 +18,7 @@ pub fn read_full<R: Read>(input: &mut R, buf: &mut [u8]) -> io::Result<usize>
     ensures err { OnErr result ((n : ℕ) × Consumes (R.remaining input.old) (R.remaining input.new) (take n buf.new)) }
 {
     let mut done = 0;
+    // A read may put fewer bytes than there is room for, so no range counts the reads.
     while done < buf.len() {
         let n = input.read(&mut buf[done..])?;
         if n == 0 {

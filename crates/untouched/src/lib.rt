@@ -37,6 +37,7 @@ pub fn untouched(
     let mut found = false;
     let mut k = 0;
     'elements: for q in 0..elements {
+        // A search, in the form that document 01 names: it goes on from where it stopped, so no range counts it.
         while !marks[q] {
             if k == instances {
                 found = true;
