@@ -30,7 +30,8 @@ use Rattle.counting.specs.Forms.{weigh}
 use Rattle.layout.specs.Spans.{process_of, Spans}
 use Rattle.survey.specs.declared.Flow.{Flow}
 use Rattle.survey.specs.declared.Survey.{Survey}
-use Rattle.survey.specs.Surveys.{FlowOf, Surveyed, no_flow, flow_is}
+use Rattle.survey.specs.Surveys.{FlowOf, no_flow}
+use Rattle.survey.specs.OfBytes.{Surveyed, flow_is}
 use Rattle.lanes.specs.Flow.{Flows, LanesIn, Seen}
 use Rattle.lanes.specs.All.{seen_of}
 use Rattle.pipes.specs.Elements.{At, Near, good, inside, total_none, at_one, one_elements, index_moving}

@@ -19,7 +19,7 @@ ghost use Rattle.meaning.specs.Limits.{gauge_limits, elements_most};
 ghost use Rattle.meaning.specs.Space.{processes};
 ghost use Rattle.geometry.specs.Wiring.{process_at};
 ghost use Rattle.layout.specs.Spans.{process_of, Spans, span_words};
-ghost use Rattle.survey.specs.Surveys.{Surveyed};
+ghost use Rattle.survey.specs.OfBytes.{Surveyed};
 ghost use Rattle.figures.specs.Shares.{AllLanes};
 ghost use Rattle.pipe_parts.specs.Starts.{entering, entering_length};
 ghost use Rattle.element_places.specs.Spread.{spread};

@@ -29,7 +29,8 @@ use Rattle.survey.specs.declared.Flow.{Flow}
 use Rattle.lanes.specs.All.{LanesOf, lanes_of}
 use Rattle.lanes.specs.Flow.{Laid, LanesIn, Seen, Flowing, flowing_at}
 use Rattle.survey.specs.declared.Survey.{Survey}
-use Rattle.survey.specs.Surveys.{Surveyed, no_flow, flow_is, streams_used}
+use Rattle.survey.specs.Surveys.{no_flow, streams_used}
+use Rattle.survey.specs.OfBytes.{Surveyed, flow_is}
 use Rattle.layout.specs.Spans.{Spans}
 use Rattle.lanes.specs.Accepted.{laid_stream}
 use Rattle.pipe_parts.specs.Starts.{entering}

@@ -12,7 +12,7 @@ ghost use Rattle.std.specs.Prelude.{◌≡◌, true, ℕ, suc, ◌≤◌, ◌<�
 ghost use Rattle.meaning.specs.Pipes.{is_entry, entries};
 ghost use Rattle.meaning.specs.Accept.{figures};
 ghost use Rattle.layout.specs.Spans.{process_of, Spans, span_words};
-ghost use Rattle.survey.specs.Surveys.{Surveyed};
+ghost use Rattle.survey.specs.OfBytes.{Surveyed};
 ghost use Rattle.lanes.specs.Flow.{LanesIn, Flowing};
 ghost use Rattle.lanes.specs.All.{own_lane_words, lane_words};
 ghost use Rattle.pipes.specs.Elements.{Near};

@@ -23,7 +23,8 @@ use Rattle.geometry.specs.Pipes.{Accepted}
 use Rattle.geometry.specs.Elements.{entry_of, entry_is}
 use Rattle.vectors.specs.Within.{Within2}
 use Rattle.survey.specs.InRange.{InRange}
-use Rattle.survey.specs.Surveys.{FlowOf, Surveyed, no_flow, flow_is}
+use Rattle.survey.specs.Surveys.{FlowOf, no_flow}
+use Rattle.survey.specs.OfBytes.{Surveyed, flow_is}
 use Rattle.numbering.specs.Ranges.{between_apart}
 use Rattle.numbering.specs.Extents.{Spanning, boxed, box_spanning}
 use Rattle.counting.specs.Forms.{weigh, stride_small}

@@ -12,7 +12,7 @@ ghost use Rattle.std.specs.Prelude.{◌≡◌, length};
 ghost use Rattle.meaning.specs.Description.{description_of};
 ghost use Rattle.meaning.specs.Array.{array_of};
 ghost use Rattle.meaning.specs.Rules.{memory_of, apply};
-ghost use Rattle.survey.specs.Surveys.{Surveyed, SurveyOf};
+ghost use Rattle.survey.specs.OfBytes.{Surveyed, SurveyOf};
 ghost use Rattle.layout.specs.Spans.{Spans, span_words};
 ghost use Rattle.step_rules.specs.Meaning.{step_named};
 ghost use Rattle.opening.specs.Opening.{Opened};

@@ -23,7 +23,7 @@ use Rattle.decode.specs.Refusals.{passed}
 use Rattle.declines.specs.Tests.{memory_lengths, memory_fits}
 use Rattle.figures.specs.Shares.{Described, AllLanes, described}
 use Rattle.survey.specs.declared.Survey.{Survey}
-use Rattle.survey.specs.Surveys.{SurveyOf}
+use Rattle.survey.specs.OfBytes.{SurveyOf}
 use Rattle.layout.specs.Spans.{Spans}
 use Rattle.body.specs.Fit.{Fit}
 use Rattle.ports.specs.Layout.{Regular}

@@ -16,7 +16,7 @@ ghost use Rattle.meaning.specs.Array.{array_of};
 ghost use Rattle.meaning.specs.Rules.{sound, memory_of};
 ghost use Rattle.meaning.specs.Description.{description_of};
 ghost use Rattle.meaning.specs.Calls.{memory_tests, refused_by};
-ghost use Rattle.survey.specs.Surveys.{Surveyed};
+ghost use Rattle.survey.specs.OfBytes.{Surveyed};
 ghost use Rattle.layout.specs.Spans.{Spans, span_words};
 ghost use Rattle.lanes.specs.All.{lane_words};
 ghost use Rattle.figures.specs.Shares.{AllLanes};

@@ -33,7 +33,8 @@ use Rattle.ports.specs.Rows.{row_of}
 use Rattle.ports.specs.Ends.{end_of}
 use Rattle.survey.specs.declared.Flow.{Flow}
 use Rattle.survey.specs.declared.Survey.{Survey}
-use Rattle.survey.specs.Surveys.{FlowOf, Surveyed, no_flow, flow_is}
+use Rattle.survey.specs.Surveys.{FlowOf, no_flow}
+use Rattle.survey.specs.OfBytes.{Surveyed, flow_is}
 use Rattle.layout.specs.Spans.{Spans}
 use Rattle.lanes.specs.Flow.{LanesIn}
 use Rattle.lanes.specs.All.{lanes_of}

@@ -15,7 +15,7 @@ ghost use Rattle.meaning.specs.Limits.{gauge_limits, process_words_most};
 ghost use Rattle.meaning.specs.Pipes.{entries};
 ghost use Rattle.meaning.specs.Array.{array_of};
 ghost use Rattle.geometry.specs.Descriptions.{Laid};
-ghost use Rattle.survey.specs.Surveys.{Surveyed};
+ghost use Rattle.survey.specs.OfBytes.{Surveyed};
 ghost use Rattle.addresses.specs.Indices.{stride_of};
 ghost use Rattle.layout.specs.Spans.{Spans, span_words};
 ghost use Rattle.pipe_parts.specs.Starts.{entering_one};

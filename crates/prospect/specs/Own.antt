@@ -21,7 +21,7 @@ use Rattle.vectors.specs.Within.{Within}
 use Rattle.decode.specs.Ranged.{Ranged}
 use Rattle.survey.specs.declared.Survey.{Survey}
 use Rattle.survey.specs.InRange.{nest_bounded}
-use Rattle.survey.specs.Surveys.{Surveyed}
+use Rattle.survey.specs.OfBytes.{Surveyed}
 
 -- a vector that is not zero moves along the step of its first component that is not 0
 module _ (u : V3) where

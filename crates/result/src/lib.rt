@@ -15,7 +15,7 @@ ghost use Rattle.meaning.specs.Limits.{limits_of};
 ghost use Rattle.meaning.specs.Description.{description_of};
 ghost use Rattle.meaning.specs.Rules.{memory_of};
 ghost use Rattle.meaning.specs.Calls.{length_of, result as result_call};
-ghost use Rattle.survey.specs.Surveys.{Surveyed, SurveyOf};
+ghost use Rattle.survey.specs.OfBytes.{Surveyed, SurveyOf};
 ghost use Rattle.layout.specs.Spans.{Spans, span_words};
 ghost use Rattle.figures.specs.Shares.{AllLanes};
 ghost use Rattle.element_places.specs.Order.{Placeable};

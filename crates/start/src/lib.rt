@@ -12,7 +12,7 @@ ghost use Rattle.refusals.specs.Numbers.{numbered};
 ghost use Rattle.meaning.specs.Limits.{limits_of};
 ghost use Rattle.meaning.specs.Rules.{memory_of};
 ghost use Rattle.meaning.specs.Calls.{start};
-ghost use Rattle.survey.specs.Surveys.{Surveyed};
+ghost use Rattle.survey.specs.OfBytes.{Surveyed};
 ghost use Rattle.layout.specs.Spans.{Spans, span_words};
 ghost use Rattle.figures.specs.Shares.{AllLanes};
 ghost use Rattle.element_places.specs.Order.{Placeable};

@@ -18,7 +18,8 @@ use Rattle.survey.specs.declared.Flow.{Flow}
 use Rattle.survey.specs.declared.Survey.{Survey}
 use Rattle.survey.specs.InRange.{nest_bounded}
 use Rattle.survey.specs.Accepted.{accepted_within}
-use Rattle.survey.specs.Surveys.{Surveyed, SurveyOf, no_flow, flow_is}
+use Rattle.survey.specs.Surveys.{no_flow}
+use Rattle.survey.specs.OfBytes.{Surveyed, SurveyOf, flow_is}
 use Rattle.layout.specs.Spans.{Spans}
 use Rattle.lanes.specs.Flow.{Laid, Flowing, flowing_at}
 use Rattle.lanes.specs.Accepted.{laid_stream}

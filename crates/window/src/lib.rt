@@ -13,7 +13,7 @@ ghost use Rattle.meaning.specs.Tests.{refusal};
 ghost use Rattle.meaning.specs.Description.{streams_of, description_of};
 ghost use Rattle.meaning.specs.Array.{array_of, pipe_number};
 ghost use Rattle.meaning.specs.Calls.{refused_by, window};
-ghost use Rattle.survey.specs.Surveys.{Surveyed};
+ghost use Rattle.survey.specs.OfBytes.{Surveyed};
 ghost use Rattle.layout.specs.Spans.{process_of, Spans, span_words};
 ghost use Rattle.lanes.specs.Flow.{Flowing};
 ghost use Rattle.pipes.specs.Elements.{Near};

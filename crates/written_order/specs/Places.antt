@@ -25,7 +25,8 @@ use Rattle.numbering.specs.Extents.{Numbered, image_inside}
 use Rattle.survey.specs.declared.Flow.{Flow}
 use Rattle.survey.specs.declared.Survey.{Survey}
 use Rattle.survey.specs.InRange.{InRange, in_range_lem}
-use Rattle.survey.specs.Surveys.{Charted, Surveyed, no_flow, charted, flow_is}
+use Rattle.survey.specs.Surveys.{Charted, no_flow, charted}
+use Rattle.survey.specs.OfBytes.{Surveyed, flow_is}
 use Rattle.elements.specs.Counts.{Few, start_next, start_most}
 use Rattle.body.specs.Fit.{Runnable}
 use Rattle.written_order.specs.Columns.{column, column_length, column_other, column_at}

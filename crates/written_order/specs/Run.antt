@@ -11,7 +11,7 @@ use Rattle.meaning.specs.Body.{execute, execute_all}
 use Rattle.numbering.specs.Turns.{turning, all_some, instances_length}
 use Rattle.survey.specs.declared.Survey.{Survey}
 use Rattle.survey.specs.InRange.{nest_bounded}
-use Rattle.survey.specs.Surveys.{Surveyed}
+use Rattle.survey.specs.OfBytes.{Surveyed}
 use Rattle.body.specs.Execute.{execute_at, execute_touched}
 use Rattle.written_order.specs.Places.{Fitting, Table, lent}
 

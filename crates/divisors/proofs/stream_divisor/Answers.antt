@@ -6,7 +6,7 @@ use Rattle.meaning.specs.declared.Stream.{Stream}
 use Rattle.meaning.specs.Loops.{divisor}
 use Rattle.meaning.specs.Description.{no_stream}
 use Rattle.geometry.specs.Divisors.{in_use, past_use}
-use Rattle.survey.specs.Surveys.{flow_is}
+use Rattle.survey.specs.OfBytes.{flow_is}
 use Rattle.divisors.proofs.stream_divisor.Goals as goal
 
 pub returns-then-i-v : goal.returns-then-i-v

@@ -6,7 +6,8 @@ use lib.ListN.{length}
 use Rattle.meaning.specs.Lists.{total}
 use Rattle.meaning.specs.Space.{Box, points}
 use Rattle.survey.specs.InRange.{in_range_lem}
-use Rattle.survey.specs.Surveys.{flow_is, charted, spans}
+use Rattle.survey.specs.Surveys.{charted, spans}
+use Rattle.survey.specs.OfBytes.{flow_is}
 use Rattle.elements.specs.Counts.{start_next, start_most}
 use Rattle.elements.proofs.elements_in.Goals as goal
 

@@ -1,7 +1,7 @@
 -- `port_fill::stride_of` meets its contract: after i streams the sum is that of their ports and the one word of firings. Assumes nothing.
 use mathlib.Core.Path.{◌≡◌, refl}
 use native.Mathlib.Omega.{arith}
-use Rattle.survey.specs.Surveys.{flow_is}
+use Rattle.survey.specs.OfBytes.{flow_is}
 use Rattle.figures.specs.Shares.{stream_sharing}
 use Rattle.port_fill.specs.Filled.{six, sums_slack, stride_zero, stride_next, stride_all}
 use Rattle.port_fill.proofs.stride_of.Goals as goal

@@ -11,7 +11,8 @@ use Rattle.lists.specs.Fills.{known_next}
 use Rattle.outlook.specs.declared.Outlook.{Outlook}
 use Rattle.outlook.specs.Outlooks.{OutlookOf, no_outlook}
 use Rattle.survey.specs.InRange.{in_range_lem}
-use Rattle.survey.specs.Surveys.{GroundOf, charted, flow_is}
+use Rattle.survey.specs.Surveys.{GroundOf, charted}
+use Rattle.survey.specs.OfBytes.{flow_is}
 use Rattle.walk.specs.Walked.{Along}
 use Rattle.prospect.specs.Prospects.{FirstOutlooks}
 use borrow.Author.Rules.{rules}

@@ -12,7 +12,8 @@ use Rattle.meaning.specs.Tests.{refusal}
 use Rattle.meaning.specs.Accept.{stream_tests}
 use Rattle.survey.specs.InRange.{in_range_lem}
 use Rattle.survey.specs.Stages.{stream_passed, stream_refused, streams_end}
-use Rattle.survey.specs.Surveys.{GroundOf, FlowOf, charted, flow_is}
+use Rattle.survey.specs.Surveys.{GroundOf, FlowOf, charted}
+use Rattle.survey.specs.OfBytes.{flow_is}
 use Rattle.survey.specs.declared.Flow.{Flow}
 use Rattle.walk.specs.Walked.{Along}
 use borrow.Author.Rules.{rules}

@@ -15,7 +15,8 @@ use Rattle.geometry.specs.Tests.{numbered}
 use Rattle.numbering.specs.Ranges.{Bounded}
 use Rattle.survey.specs.InRange.{nest_bounded}
 use Rattle.survey.specs.Accepted.{early_decoded}
-use Rattle.survey.specs.Surveys.{Surveyed, SurveyOf, may_survey}
+use Rattle.survey.specs.Surveys.{may_survey}
+use Rattle.survey.specs.OfBytes.{Surveyed, SurveyOf}
 use Rattle.survey.specs.declared.Survey.{Survey}
 use Rattle.survey.specs.Stages.{layout_tests, early_tests, walk_tests_lem, goes_on, stops}
 use borrow.Author.Rules.{rules}

@@ -8,7 +8,7 @@ use borrow.Author.Rules.{rules}
 use Rattle.meaning.specs.declared.Nest.{Nest}
 use Rattle.meaning.specs.declared.Stream.{Stream}
 use Rattle.meaning.specs.Description.{streams_of}
-use Rattle.survey.specs.Surveys.{flow_is}
+use Rattle.survey.specs.OfBytes.{flow_is}
 use Rattle.figures.specs.Shares.{stream_is, share_at}
 use Rattle.window.specs.declared.Search.{Search}
 use Rattle.window.specs.Search.{searched as results, stream_lengths, all_lengths, stream_next, stream_end}
