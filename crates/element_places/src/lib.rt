@@ -190,9 +190,9 @@ fn fill_stream(
 // ---- all streams
 
 // The place of each element in the waiting list.
-pub fn fill_places(v: Survey, spans: &[u32], lanes: &[u16], places: &mut [u16])
-    requires { (Placeable v.description) × (Surveyed v) × (Spans v.description.nest spans.now) × (span_words ≤ length spans.now)
-        × (AllLanes v.description lanes.now) × (length places.old ≡ elements_most) }
+pub fn fill_places(v: Survey, spans: &[u32; SPANS], lanes: &[u16], places: &mut [u16])
+    requires { (Placeable v.description) × (Spans v.description.nest spans.now) × (AllLanes v.description lanes.now)
+        × (length places.old ≡ elements_most) }
     ensures { PlacesOf v.description places.new }
 {
     for i in 0..v.description.sizes.streams {

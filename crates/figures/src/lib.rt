@@ -116,9 +116,8 @@ fn joined(t: Totals, s: Share) -> Totals
     }
 }
 
-fn totals_of(v: Survey, spans: &[u32], lanes: &mut [u16]) -> Totals
-    requires { (Described v.description) × (Surveyed v) × (Spans v.description.nest spans.now) × (span_words ≤ length spans.now)
-        × (lanes.old ≡ replicate lane_words 0) }
+fn totals_of(v: Survey, spans: &[u32; SPANS], lanes: &mut [u16]) -> Totals
+    requires { (Described v.description) × (Spans v.description.nest spans.now) × (lanes.old ≡ replicate lane_words 0) }
     ensures { (result ≡ totals_of v.description v.description.sizes.streams) × (Room result)
         × (AllLanes v.description lanes.new) }
 {
@@ -138,9 +137,8 @@ fn totals_of(v: Survey, spans: &[u32], lanes: &mut [u16]) -> Totals
 }
 
 // The six figures, and the lanes of all streams, whose words come as zeros.
-pub fn figures_of(v: Survey, spans: &[u32], lanes: &mut [u16]) -> Figures
-    requires { (Described v.description) × (Surveyed v) × (Spans v.description.nest spans.now) × (span_words ≤ length spans.now)
-        × (lanes.old ≡ replicate lane_words 0) }
+pub fn figures_of(v: Survey, spans: &[u32; SPANS], lanes: &mut [u16]) -> Figures
+    requires { (Described v.description) × (Spans v.description.nest spans.now) × (lanes.old ≡ replicate lane_words 0) }
     ensures { (result ≡ figures v.description) × (AllLanes v.description lanes.new) }
 {
     let processes = v.ground.processes;

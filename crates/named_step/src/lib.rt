@@ -59,7 +59,7 @@ fn named(ports: &[u32], z: Size, kind: u32, number: usize, stream: usize) -> boo
 fn perform(
     v: Survey,
     ports: &[u32],
-    spans: &[u32],
+    spans: &[u32; SPANS],
     z: Size,
     kind: u32,
     number: usize,
@@ -69,7 +69,7 @@ fn perform(
     state: &mut [u32],
 )
     requires { (Steppable v.description ports.now z kind number stream (memory_of waiting.now received.old state.old))
-        × (Surveyed v) × (Spans v.description.nest spans.now) × (length spans.now ≡ span_words) }
+        × (Spans v.description.nest spans.now) }
     ensures { memory_of waiting.now received.new state.new
         ≡ apply (array_of v.description) (memory_of waiting.now received.old state.old)
         (step_named kind number stream) }
@@ -85,7 +85,7 @@ pub fn step_opened(
     s: &[u8],
     v: Survey,
     ports: &[u32],
-    spans: &[u32],
+    spans: &[u32; SPANS],
     z: Size,
     kind: u32,
     number: usize,
@@ -95,7 +95,7 @@ pub fn step_opened(
     state: &mut [u32],
 ) -> Answer
     requires { (Opened s.now (memory_of waiting.now received.old state.old) ports.now z) × (SurveyOf s.now v)
-        × (Spans (description_of s.now).nest spans.now) × (length spans.now ≡ span_words) }
+        × (Spans (description_of s.now).nest spans.now) }
     ensures { Stepped s.now kind number stream
         (memory_of waiting.now received.old state.old) result
         (memory_of waiting.now received.new state.new) }

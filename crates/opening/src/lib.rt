@@ -52,12 +52,11 @@ fn sound_refusal(
     v: Survey,
     z: Size,
     state: &[u32],
-    spans: &[u32],
+    spans: &[u32; SPANS],
     lanes: &[u16],
     ports: &mut [u32],
 ) -> Result<(), Refusal>
-    requires { (Standing v.description z state.now ports.old) × (Surveyed v) × (Spans v.description.nest spans.now)
-        × (span_words ≤ length spans.now) × (AllLanes v.description lanes.now) }
+    requires { (Standing v.description z state.now ports.old) × (Spans v.description.nest spans.now) × (AllLanes v.description lanes.now) }
     ensures { (refusal_number result ≡ refusal ((22 if not (sound (array_of v.description) state.now)) ∷ []))
         × (PortsOf (array_of v.description) ports.new) }
 {
@@ -71,12 +70,11 @@ fn open_accepted(
     waiting: &[u32],
     received: &[u32],
     state: &[u32],
-    spans: &[u32],
+    spans: &[u32; SPANS],
     lanes: &mut [u16],
-    ports: &mut [u32],
+    ports: &mut [u32; PORTS],
 ) -> Result<Opening, Refusal>
-    requires { (Grounds v.description) × (Surveyed v) × (Spans v.description.nest spans.now) × (span_words ≤ length spans.now)
-        × (lanes.old ≡ replicate lane_words 0) × (length ports.old ≡ port_table_words) }
+    requires { (Grounds v.description) × (Spans v.description.nest spans.now) × (lanes.old ≡ replicate lane_words 0) }
     ensures number { refusal_number result ≡ refusal (memory_tests v.description (memory_of waiting.now received.now state.now)) }
     ensures opened { IfOk result (λ o. Opens v (memory_of waiting.now received.now state.now) ports.new lanes.new o) }
 {
@@ -96,9 +94,9 @@ fn open_within(
     state: &[u32],
     spans: &mut [u32; SPANS],
     lanes: &mut [u16],
-    ports: &mut [u32],
+    ports: &mut [u32; PORTS],
 ) -> Result<Opening, Refusal>
-    requires { (UpTo limits gauge_limits) × (lanes.old ≡ replicate lane_words 0) × (length ports.old ≡ port_table_words) }
+    requires { (UpTo limits gauge_limits) × (lanes.old ≡ replicate lane_words 0) }
     ensures number { refusal_number result ≡ refused_by limits s.now (memory_tests (description_of s.now)
         (memory_of waiting.now received.now state.now)) }
     ensures opened { IfOk result (λ o. Answered s.now (memory_of waiting.now received.now state.now) ports.new spans.new o) }
@@ -117,9 +115,9 @@ pub fn open_with_lanes(
     state: &[u32],
     spans: &mut [u32; SPANS],
     lanes: &mut [u16],
-    ports: &mut [u32],
+    ports: &mut [u32; PORTS],
 ) -> Result<Opening, Refusal>
-    requires { (lanes.old ≡ replicate lane_words 0) × (length ports.old ≡ port_table_words) }
+    requires { lanes.old ≡ replicate lane_words 0 }
     ensures number { refusal_number result ≡ refused_by (limits_of board) s.now (memory_tests (description_of s.now)
         (memory_of waiting.now received.now state.now)) }
     ensures opened { IfOk result (λ o. Answered s.now (memory_of waiting.now received.now state.now) ports.new spans.new o) }

@@ -16,7 +16,7 @@ use survey::Survey;
 
 // The call on an accepted description.
 fn run_accepted(v: Survey, values: &[u32], output: &mut [u32]) -> Result<(), Refusal>
-    requires { (Fitting v.description) × (Surveyed v) }
+    requires { Fitting v.description }
     ensures { Called v.description values.now output.old (numbered result) output.new }
 {
     let e = elements::element_count(v);

@@ -91,7 +91,7 @@ pub fn own_survey(d: Description) -> Survey
 
 // Of all streams, by the walk.
 fn outlooks_along(v: Survey, walk: &[i8]) -> [Outlook; STREAMS]
-    requires { (Ranged v.description) × (Surveyed v) × (Along v.description.nest walk.now) }
+    requires { (Ranged v.description) × (Along v.description.nest walk.now) }
     ensures { OutlooksOf v.description result }
 {
     let d = v.description;

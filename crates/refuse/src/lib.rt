@@ -22,7 +22,7 @@ use walk::WALK;
 
 // The first of the refusals 11 to 17 that applies to a stream, lowest first.
 fn streams_refusal(v: Survey, limits: Limits, walk: &[i8]) -> Result<(), Refusal>
-    requires { (Ranged v.description) × (Surveyed v) × (Along v.description.nest walk.now) }
+    requires { (Ranged v.description) × (Along v.description.nest walk.now) }
     ensures { refusal_number result ≡ refusal (tests_from limits v.description 0 (streams_of v.description)) }
 {
     let d = v.description;
@@ -35,9 +35,8 @@ fn streams_refusal(v: Survey, limits: Limits, walk: &[i8]) -> Result<(), Refusal
 }
 
 // The same by the words of the processes.
-fn walked_refusal(v: Survey, limits: Limits, spans: &[u32]) -> Result<(), Refusal>
-    requires { (Ranged v.description) × (Surveyed v) × (Walkable v.description.nest) × (Spans v.description.nest spans.now)
-        × (length spans.now ≡ span_words) }
+fn walked_refusal(v: Survey, limits: Limits, spans: &[u32; SPANS]) -> Result<(), Refusal>
+    requires { (Ranged v.description) × (Walkable v.description.nest) × (Spans v.description.nest spans.now) }
     ensures { refusal_number result ≡ refusal (tests_from limits v.description 0 (streams_of v.description)) }
 {
     let mut walk = [0i8; WALK];

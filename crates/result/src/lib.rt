@@ -58,10 +58,9 @@ fn put_in_order(received: &[u32], places: &[u16], elements: usize, output: &mut 
     }
 }
 
-fn fill_output(v: Survey, spans: &[u32], lanes: &[u16], received: &[u32], output: &mut [u32])
-    requires { (Placeable v.description) × (Surveyed v) × (length received.now ≡ length_of v.description)
-        × (length output.old ≡ length_of v.description) × (Spans v.description.nest spans.now) × (span_words ≤ length spans.now)
-        × (AllLanes v.description lanes.now) }
+fn fill_output(v: Survey, spans: &[u32; SPANS], lanes: &[u16], received: &[u32], output: &mut [u32])
+    requires { (Placeable v.description) × (length received.now ≡ length_of v.description)
+        × (length output.old ≡ length_of v.description) × (Spans v.description.nest spans.now) × (AllLanes v.description lanes.now) }
     ensures { output.new ≡ element_order v.description received.now }
 {
     let mut places = [0u16; ELEMENTS];
@@ -74,15 +73,14 @@ fn result_opened(
     s: &[u8],
     v: Survey,
     ports: &[u32],
-    spans: &[u32],
+    spans: &[u32; SPANS],
     lanes: &[u16],
     z: Size,
     received: &[u32],
     state: &[u32],
     output: &mut [u32],
 ) -> Answer
-    requires { (Drawable s.now ports.now z received.now state.now) × (SurveyOf s.now v)
-        × (Spans (description_of s.now).nest spans.now) × (span_words ≤ length spans.now)
+    requires { (Drawable s.now ports.now z received.now state.now) × (SurveyOf s.now v) × (Spans (description_of s.now).nest spans.now)
         × (AllLanes (description_of s.now) lanes.now) }
     ensures { Called s.now received.now state.now output.old result output.new }
 {

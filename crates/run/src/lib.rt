@@ -23,7 +23,7 @@ fn run_opened(
     s: &[u8],
     v: Survey,
     ports: &[u32],
-    spans: &[u32],
+    spans: &[u32; SPANS],
     z: Size,
     steps: u32,
     waiting: &[u32],
@@ -31,7 +31,7 @@ fn run_opened(
     state: &mut [u32],
 ) -> Ran
     requires { (Opened s.now (memory_of waiting.now received.old state.old) ports.now z) × (SurveyOf s.now v)
-        × (Spans (description_of s.now).nest spans.now) × (length spans.now ≡ span_words) }
+        × (Spans (description_of s.now).nest spans.now) }
     ensures { RanBy s.now steps (memory_of waiting.now received.old state.old) result
         (memory_of waiting.now received.new state.new) }
 {

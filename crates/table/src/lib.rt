@@ -31,9 +31,8 @@ use survey::Survey;
 // ---- the columns
 
 // The words of all streams in use.
-fn fill_streams(v: Survey, spans: &[u32], words: &mut [u32])
-    requires { (Drawable v.description) × (Surveyed v) × (Spans v.description.nest spans.now) × (span_words ≤ length spans.now)
-        × (words.old ≡ replicate column_words 0) }
+fn fill_streams(v: Survey, spans: &[u32; SPANS], words: &mut [u32])
+    requires { (Drawable v.description) × (Spans v.description.nest spans.now) × (words.old ≡ replicate column_words 0) }
     ensures { Streamed v.description.nest (streams_of v.description) (length (streams_of v.description))
         words.new }
 {
@@ -48,8 +47,8 @@ fn fill_streams(v: Survey, spans: &[u32], words: &mut [u32])
 }
 
 // The words of the processes go in front.
-fn copy_spans(spans: &[u32], words: &mut [u32])
-    requires { (span_words ≤ length spans.now) × (span_words ≤ length words.old) }
+fn copy_spans(spans: &[u32; SPANS], words: &mut [u32])
+    requires { span_words ≤ length words.old }
     ensures { words.new ≡ fill_by (λ k. get_or spans.now k 0) span_words words.old }
 {
     for k in 0..SPANS {
@@ -59,7 +58,6 @@ fn copy_spans(spans: &[u32], words: &mut [u32])
 
 // What the rows need of a description.
 fn shape_of(v: Survey) -> Shape
-    requires { Surveyed v }
     ensures { Shaped v.description.nest result }
 {
     Shape {
@@ -70,9 +68,8 @@ fn shape_of(v: Survey) -> Shape
 }
 
 // The columns of a description; their words come as zeros.
-fn draw(v: Survey, spans: &[u32], words: &mut [u32]) -> Shape
-    requires { (Drawable v.description) × (Surveyed v) × (Spans v.description.nest spans.now) × (span_words ≤ length spans.now)
-        × (words.old ≡ replicate column_words 0) }
+fn draw(v: Survey, spans: &[u32; SPANS], words: &mut [u32]) -> Shape
+    requires { (Drawable v.description) × (Spans v.description.nest spans.now) × (words.old ≡ replicate column_words 0) }
     ensures { Drawn v.description result words.new }
 {
     fill_streams(v, spans, words);

@@ -108,9 +108,8 @@ fn stream_searched(f: Flow, processes: u32, spans: &[u32], w: Search) -> Search
 }
 
 // The pipes of all streams.
-fn all_searched(v: Survey, spans: &[u32], pipe: u32) -> Search
-    requires { (Described v.description) × (Surveyed v) × (Spans v.description.nest spans.now)
-        × (span_words ≤ length spans.now) }
+fn all_searched(v: Survey, spans: &[u32; SPANS], pipe: u32) -> Search
+    requires { (Described v.description) × (Spans v.description.nest spans.now) }
     ensures { (result ≡ searched (looking pipe 0) (all_lengths v.description.nest (streams_of v.description)))
         × (result.start ≤ 25165824) }
 {
@@ -144,9 +143,8 @@ fn refused(number: u32) -> Piece
 }
 
 // The part of a pipe, if there is such a pipe.
-fn located(v: Survey, spans: &[u32], pipe: u32) -> Piece
-    requires { (Windowed v.description) × (Surveyed v) × (Spans v.description.nest spans.now)
-        × (span_words ≤ length spans.now) }
+fn located(v: Survey, spans: &[u32; SPANS], pipe: u32) -> Piece
+    requires { (Windowed v.description) × (Spans v.description.nest spans.now) }
     ensures { result ≡ piece_of v.description pipe (cond (ltb pipe (pipe_number (array_of v.description))) 0 19) }
 {
     let w = all_searched(v, spans, pipe);
@@ -164,14 +162,13 @@ fn located(v: Survey, spans: &[u32], pipe: u32) -> Piece
 // The part once the description is accepted, of lists of so many words.
 fn accepted_piece(
     v: Survey,
-    spans: &[u32],
+    spans: &[u32; SPANS],
     pipe: u32,
     side: u32,
     waiting: usize,
     received: usize,
 ) -> Piece
-    requires { (Windowed v.description) × (Surveyed v) × (Spans v.description.nest spans.now)
-        × (span_words ≤ length spans.now) }
+    requires { (Windowed v.description) × (Spans v.description.nest spans.now) }
     ensures { (result ≡ piece_of v.description pipe (refusal (own_tests v.description pipe side waiting received)))
         × (Within result waiting received) }
 {

@@ -22,7 +22,7 @@ elements_in-first-requires c =
     (p.0.described.few, p.1, omega arith)
 
 pub slice_bounds-fill_stream-end : goal.slice_bounds-fill_stream-end
-slice_bounds-fill_stream-end c = omega (arith, c.requires.0.described.few.ranged.sized.most_streams, c.requires.4.words)
+slice_bounds-fill_stream-end c = omega (arith, c.requires.0.described.few.ranged.sized.most_streams, c.requires.2.words)
 
 pub fill_stream-requires : goal.fill_stream-requires
 fill_stream-requires c =

@@ -19,7 +19,7 @@ overflow_mul-result c =
     record {
       fits = omega (
         arith,
-        process_words_lem {p = p} (omega (arith, c.requires.1.ground.processes_is, c.requires.0.processes)) c.totals_of-t.ensures.1.words,
+        process_words_lem {p = p} (omega (arith, c.args.v.surveyed.ground.processes_is, c.requires.0.processes)) c.totals_of-t.ensures.1.words,
       );
     }
 
@@ -30,18 +30,18 @@ overflow_add-result-2 c =
     record {
       fits = omega (
         arith,
-        process_words_lem {p = p} (omega (arith, c.requires.1.ground.processes_is, c.requires.0.processes)) r.words,
+        process_words_lem {p = p} (omega (arith, c.args.v.surveyed.ground.processes_is, c.requires.0.processes)) r.words,
         r.ends,
       );
     }
 
 pub overflow_add-result-3 : goal.overflow_add-result-3
 overflow_add-result-3 c =
-    record { fits = omega (arith, c.totals_of-t.ensures.1.steps, c.requires.1.ground.instances_is, c.requires.0.instances) }
+    record { fits = omega (arith, c.totals_of-t.ensures.1.steps, c.args.v.surveyed.ground.instances_is, c.requires.0.instances) }
 
 pub shape_of-lanes : goal.shape_of-lanes
 shape_of-lanes c =
-    c.totals_of-t.ensures.2.words ∙ sym (zero_words c.requires.4)
+    c.totals_of-t.ensures.2.words ∙ sym (zero_words c.requires.2)
 
 pub returns : goal.returns
 returns c =

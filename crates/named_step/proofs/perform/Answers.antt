@@ -9,7 +9,7 @@ use Rattle.named_step.specs.Stepped.{performed}
 use Rattle.named_step.proofs.perform.Goals as goal
 
 pub program_of-g-requires : goal.program_of-g-requires
-program_of-g-requires c = c.requires.1.ground
+program_of-g-requires c = c.args.v.surveyed.ground
 
 pub act-requires : goal.act-requires
 act-requires c =
@@ -18,7 +18,7 @@ act-requires c =
     let w : Within 200 (increment c.args.v.description.nest) = rw e.0 at e.1 in
     rw e.0 (
       fits h.grounds h.stood,
-      programmed h.grounds h.stood c.requires.2 c.requires.3 w,
+      programmed h.grounds h.stood c.requires.1 @@DROPPED3@@ w,
       h.inside,
       waiting_fits h.grounds h.stood,
       received_fits h.grounds h.stood,

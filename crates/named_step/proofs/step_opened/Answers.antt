@@ -30,7 +30,7 @@ perform-requires c =
           ),
       v.surveyed,
       rw v.description_is c.requires.2,
-      c.requires.3,
+      @@DROPPED3@@,
     )
 
 pub returns-then-can : goal.returns-then-can

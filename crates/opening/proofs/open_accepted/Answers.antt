@@ -23,11 +23,11 @@ sound_refusal-requires c =
         grounds = c.requires.0;
         size = c.size_of-z.ensures ∙ size_is a.v.description f.0;
         long = l.2;
-        words = c.requires.5;
+        words = @@DROPPED5@@;
       },
+      @@DROPPED1@@,
       c.requires.1,
-      c.requires.2,
-      c.requires.3,
+      @@DROPPED3@@,
       f.1,
     )
 

@@ -26,7 +26,7 @@ run_loops-requires c =
     let d = a.v.description in
     let n = own_is d (length a.values.now) (length a.output.now) c.element_count-e.ensures.0 c.in_ok-of_plain.ensures in
     let l = lengths_are d (length a.values.now) (length a.output.now) n refl in
-    (c.requires.0, c.requires.1, c.copy_from_slice.ensures.len ∙ l.1)
+    (c.requires, @@DROPPED1@@, c.copy_from_slice.ensures.len ∙ l.1)
 
 pub returns : goal.returns
 returns c =

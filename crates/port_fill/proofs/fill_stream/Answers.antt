@@ -13,7 +13,7 @@ put_ends-pipes-requires c =
     let f = c.requires.0.flowing in (
       ends_fillable c.requires.0 (seen_of f.flows refl refl f.of_spans f.long c.requires.1),
       length-replicate {A = ℕ} 2048 0,
-      c.requires.2,
+      @@DROPPED2@@,
     )
 
 pub put_ports-requires : goal.put_ports-requires
@@ -22,7 +22,7 @@ put_ports-requires c =
       ports_fillable c.requires.0 (seen_of f.flows refl refl f.of_spans f.long c.requires.1) c.put_ends-pipes.ensures.1,
       omega (
         arith,
-        c.requires.2,
+        @@DROPPED2@@,
         ends_length _ _ c.args.g c.args.first c.args.base _ c.args.ports.now c.put_ends-pipes.ensures.2,
       ),
     )

@@ -10,12 +10,12 @@ use Rattle.port_fill.proofs.put_port.Goals as goal
 
 pub overflow_mul-p : goal.overflow_mul-p
 overflow_mul-p c =
-    let p = c.requires.0 in
+    let p = c.requires in
     record { fits = omega (arith, p.has_port_lem.near.lt, few p.has_port_lem.near) }
 
 pub overflow_add-p : goal.overflow_add-p
 overflow_add-p c =
-    let p = c.requires.0 in
+    let p = c.requires in
     record { fits = omega (arith, p.has_port_lem.near.lt, few p.has_port_lem.near, p.stream) }
 
 pub put_port-requires : goal.put_port-requires

@@ -15,5 +15,5 @@ put_in_order-requires c =
 
 pub returns : goal.returns
 returns c =
-    ordered c.requires.0 c.fill_places.ensures c.args.received.now c.args.output.now c.requires.2 c.requires.3
+    ordered c.requires.0 c.fill_places.ensures c.args.received.now c.args.output.now c.requires.1 c.requires.2
     c.put_in_order.ensures

@@ -13,7 +13,7 @@ fill_output-requires c =
     let v = c.requires.1 in
     let f = fillable c.requires.0 c.args.output.now c.all_out-out.ensures c.of_result-r.ensures c.if-r-eq0.true
     v.description_is in
-    (f.0, v.surveyed, f.1, f.2, rw v.description_is c.requires.2, c.requires.3, rw v.description_is c.requires.4)
+    (f.0, v.surveyed, f.1, f.2, rw v.description_is c.requires.2, @@DROPPED3@@, rw v.description_is c.requires.3)
 
 pub returns-then-r-eq0 : goal.returns-then-r-eq0
 returns-then-r-eq0 c =

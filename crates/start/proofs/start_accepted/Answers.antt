@@ -18,9 +18,9 @@ fill_memory-requires c =
       fitting a.v.description c.figures_of-f.ensures.0 a.values.now
           (memory_of a.waiting.now a.received.now a.state.now)
           c.in_ok-of_start.ensures c.requires.0 refl,
+      @@DROPPED1@@,
       c.requires.1,
-      c.requires.2,
-      c.requires.3,
+      @@DROPPED3@@,
       c.figures_of-f.ensures.1,
     )
 

@@ -12,7 +12,7 @@ use Rattle.table.proofs.draw.Goals as goal
 
 pub copy_spans-requires : goal.copy_spans-requires
 copy_spans-requires c =
-    (c.requires.3, omega (arith, c.fill_streams.auto.words, zeros_length c.requires.4))
+    (@@DROPPED3@@, omega (arith, c.fill_streams.auto.words, zeros_length c.requires.2))
 
 pub returns : goal.returns
 returns c =
@@ -20,14 +20,14 @@ returns c =
     let g = c.requires.0 in
     let es = c.args.spans.now in
     let w = c.fill_streams.new.words in
-    let l : 3072 ≤ length w = omega (arith, c.fill_streams.auto.words, zeros_length c.requires.4) in
+    let l : 3072 ≤ length w = omega (arith, c.fill_streams.auto.words, zeros_length c.requires.2) in
     record {
       shaped = c.shape_of.ensures;
       bounded = g.bounded;
       few = g.processes;
-      most = omega (arith, c.requires.1.in_use, g.most);
+      most = omega (arith, c.args.v.surveyed.in_use, g.most);
       front = es;
-      spans = c.requires.2;
+      spans = c.requires.1;
       copied = subst (λ (v : List ℕ). (j : ℕ) → j < 3072 → get_or v j 0 ≡ get_or es j 0) (sym c.copy_spans.ensures) (front_copied es w l);
       streams = subst (Streamed d.nest (streams_of d) _) (sym c.copy_spans.ensures)
         (streamed_copied es w l c.fill_streams.ensures);

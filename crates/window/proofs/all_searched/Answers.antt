@@ -45,7 +45,7 @@ loop-i-preserved c =
     let d = s.args.v.description in
     let l = c.loop-i in
     let t = c.loop-i-test.true in
-    let k = flow_is s.requires.1 l.i t c.flow_at.ensures in (
+    let k = flow_is c.args.v l.i t c.flow_at.ensures in (
       omega (arith, t),
       omega (arith, l.invariant.1, c.stream_searched-w.ensures.1),
       ap (λ (w : Search). results w (all_lengths d.nest (drop (l.i + 1) (streams_of d))))

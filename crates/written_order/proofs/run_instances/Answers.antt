@@ -37,11 +37,11 @@ loop-k-preserved c =
     let xs = instances d.nest in
     let course = c.course_of-course.result in (
       ap (execute_all d (drop (l.k + 1) xs)) c.run_instance.ensures
-          ∙ run_next d xs l.k l.store (omega (arith, c.requires.1.ground.instances_is)) ∙ l.invariant.0,
+          ∙ run_next d xs l.k l.store (omega (arith, c.args.v.surveyed.ground.instances_is)) ∙ l.invariant.0,
       c.next-x.ensures ∙ ap (next_of course) l.invariant.1 ∙ sym (after_next course l.k),
     )
 
 pub returns : goal.returns
 returns c =
     let d = c.args.v.description in
-    run_end d (instances d.nest) _ c.loop-k.store (omega (arith, c.requires.1.ground.instances_is)) ∙ c.loop-k.invariant.0
+    run_end d (instances d.nest) _ c.loop-k.store (omega (arith, c.args.v.surveyed.ground.instances_is)) ∙ c.loop-k.invariant.0
