@@ -2,7 +2,6 @@
 use native.Mathlib.Omega.{arith}
 use borrow.Author.Tests.{lt-ltb, le-ltb}
 use Rattle.decode.specs.Refusals.{refuses, passes}
-use borrow.Author.Rules.{rules}
 use Rattle.walkable.proofs.early_refusal.Goals as goal
 
 pub returns-then-limits-gt1 : goal.returns-then-limits-gt1
