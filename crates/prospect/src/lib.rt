@@ -17,7 +17,6 @@ ghost use Rattle.meaning.specs.Description.{streams_of};
 ghost use Rattle.vectors.specs.Within.{Within};
 ghost use Rattle.decode.specs.Ranged.{Ranged};
 ghost use Rattle.numbering.specs.Ranges.{Bounded};
-ghost use Rattle.survey.specs.OfBytes.{Surveyed};
 ghost use Rattle.walk.specs.Walked.{Along};
 ghost use Rattle.outlook.specs.Outlooks.{no_outlook};
 ghost use Rattle.prospect.specs.Own.{Own, Moved, Laid};

@@ -10,7 +10,7 @@ ghost use Rattle.meaning.specs.Limits.{limits_of, gauge_limits, UpTo};
 ghost use Rattle.meaning.specs.Description.{streams_of};
 ghost use Rattle.meaning.specs.Accept.{tests_from, refusal_of};
 ghost use Rattle.decode.specs.Ranged.{Ranged};
-ghost use Rattle.survey.specs.OfBytes.{Surveyed, SurveyOf};
+ghost use Rattle.survey.specs.OfBytes.{SurveyOf};
 ghost use Rattle.layout.specs.Spans.{Spans, span_words};
 ghost use Rattle.walk.specs.Walked.{Along, Walkable};
 
