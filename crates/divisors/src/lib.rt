@@ -4,7 +4,6 @@
 
 ghost use Rattle.std.specs.Prelude.{◌≡◌, ◌<◌};
 ghost use Rattle.meaning.specs.Accept.{stream_divisor, divisors};
-ghost use Rattle.survey.specs.OfBytes.{Surveyed};
 
 use meaning::Divisors;
 use survey::Survey;

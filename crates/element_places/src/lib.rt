@@ -18,8 +18,7 @@ ghost use Rattle.integers.specs.Differences.{up};
 ghost use Rattle.meaning.specs.Limits.{gauge_limits, elements_most};
 ghost use Rattle.meaning.specs.Space.{processes};
 ghost use Rattle.geometry.specs.Wiring.{process_at};
-ghost use Rattle.layout.specs.Spans.{process_of, Spans, span_words};
-ghost use Rattle.survey.specs.OfBytes.{Surveyed};
+ghost use Rattle.layout.specs.Spans.{process_of, Spans};
 ghost use Rattle.figures.specs.Shares.{AllLanes};
 ghost use Rattle.pipe_parts.specs.Starts.{entering, entering_length};
 ghost use Rattle.element_places.specs.Spread.{spread};
@@ -31,6 +30,7 @@ ghost use Rattle.element_places.specs.Lines.{Lined, Owning, Walking};
 
 use integers::V2;
 use lanes::LANES;
+use layout::SPANS;
 use survey::{Flow, Survey};
 
 // Elements one after the other: the first one's number, how far on the next one's is, the first one's place, and how many they are.

@@ -12,7 +12,6 @@ ghost use Rattle.meaning.specs.Limits.{elements_most};
 ghost use Rattle.meaning.specs.Description.{streams_of};
 ghost use Rattle.meaning.specs.Body.{stream_start};
 ghost use Rattle.meaning.specs.Calls.{length_of};
-ghost use Rattle.survey.specs.OfBytes.{Surveyed};
 ghost use Rattle.elements.specs.Counts.{Few};
 
 use survey::Survey;

@@ -11,8 +11,7 @@
 ghost use Rattle.std.specs.Prelude.{◌≡◌, true, ℕ, suc, ◌≤◌, ◌<◌, length, get_or, replicate};
 ghost use Rattle.meaning.specs.Pipes.{is_entry, entries};
 ghost use Rattle.meaning.specs.Accept.{figures};
-ghost use Rattle.layout.specs.Spans.{process_of, Spans, span_words};
-ghost use Rattle.survey.specs.OfBytes.{Surveyed};
+ghost use Rattle.layout.specs.Spans.{process_of, Spans};
 ghost use Rattle.lanes.specs.Flow.{LanesIn, Flowing};
 ghost use Rattle.lanes.specs.All.{own_lane_words, lane_words};
 ghost use Rattle.pipes.specs.Elements.{Near};
@@ -20,6 +19,7 @@ ghost use Rattle.figures.specs.Sums.{steps_on, Under, sums_over, sums_at};
 ghost use Rattle.figures.specs.Shares.{Summing, Sharing, Small, share_of, join, Room, totals_of, Described, AllLanes};
 
 use lanes::LANES;
+use layout::SPANS;
 use meaning::Figures;
 use survey::{Flow, Survey};
 

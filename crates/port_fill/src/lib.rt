@@ -15,23 +15,23 @@ ghost use Rattle.meaning.specs.Limits.{gauge_limits, process_words_most};
 ghost use Rattle.meaning.specs.Pipes.{entries};
 ghost use Rattle.meaning.specs.Array.{array_of};
 ghost use Rattle.geometry.specs.Descriptions.{Laid};
-ghost use Rattle.survey.specs.OfBytes.{Surveyed};
 ghost use Rattle.addresses.specs.Indices.{stride_of};
-ghost use Rattle.layout.specs.Spans.{Spans, span_words};
+ghost use Rattle.layout.specs.Spans.{Spans};
 ghost use Rattle.pipe_parts.specs.Starts.{entering_one};
-ghost use Rattle.pipe_parts.specs.Heads.{head_words, Heads};
+ghost use Rattle.pipe_parts.specs.Heads.{Heads};
 ghost use Rattle.lanes.specs.Flow.{LanesIn};
 ghost use Rattle.figures.specs.Shares.{Described, AllLanes};
 ghost use Rattle.port_rows.specs.Strands.{Narrow};
-ghost use Rattle.port_table.specs.PortsOf.{PortsOf, port_table_words};
+ghost use Rattle.port_table.specs.PortsOf.{PortsOf};
 ghost use Rattle.port_fill.specs.Strung.{Slack, strand_from, join, PortFillable, EndFillable, PortsFillable, EndsFillable};
 ghost use Rattle.port_fill.specs.Strung.{StreamFillable, port_row, end_row, port_rows, end_rows, stream_rows};
 ghost use Rattle.port_fill.specs.Filled.{Started};
 
 use lanes::LANES;
+use layout::SPANS;
 use pipe_parts::HEADS;
 use port_rows::Strand;
-use port_table::{PORT, PROCESS};
+use port_table::{PORT, PORTS, PROCESS};
 use survey::{Flow, Survey};
 
 const PIPE_ROWS: u32 = port_table::PIPE_ROWS as u32;
@@ -66,7 +66,7 @@ fn strand_of(hop: u32, processes: u32, stride: u32, t: Sums) -> Strand
 {
     Strand {
         hop,
-        stride: stride,
+        stride,
         offset: 1 + t.words,
         tail: processes * stride + t.ends,
     }
@@ -120,10 +120,10 @@ fn put_ends(
     lanes: &[u16],
     first: u32,
     base: u32,
-    heads: &mut [u16],
+    heads: &mut [u16; HEADS],
     ports: &mut [u32; PORTS],
 ) -> u32
-    requires { (EndsFillable f g processes spans.now lanes.now first base) × (length heads.old ≡ head_words) }
+    requires { EndsFillable f g processes spans.now lanes.now first base }
     ensures { (result ≡ length (entries f.nest f.stream)) × (Heads f.nest f.stream processes heads.new)
         × (ports.new ≡ end_rows f.nest f.stream g first base processes ports.old) }
 {

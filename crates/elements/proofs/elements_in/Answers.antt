@@ -19,7 +19,7 @@ pub size_of-sum-requires : goal.size_of-sum-requires
 size_of-sum-requires c =
     let l = c.loop-i in
     let p = c.requires in
-    let k = flow_is p.1 l.i (omega arith) c.flow_at.ensures in
+    let k = flow_is c.args.v l.i (omega arith) c.flow_at.ensures in
     spans (charted (in_range_lem p.0.ranged.nest (p.0.ranged.streams l.i)) k)
 
 pub overflow_add-sum : goal.overflow_add-sum

@@ -11,7 +11,7 @@ pub totals_of-t-requires : goal.totals_of-t-requires
 totals_of-t-requires c = c.requires
 
 pub element_count-requires : goal.element_count-requires
-element_count-requires c = let p = c.requires in (p.0.few, p.1)
+element_count-requires c = c.requires.0.few
 
 pub overflow_mul-result : goal.overflow_mul-result
 overflow_mul-result c =
@@ -45,8 +45,8 @@ shape_of-lanes c =
 
 pub returns : goal.returns
 returns c =
-    let p = c.requires in (
-      figures_are p.0 c.totals_of-t.ensures.0 p.1.ground.processes_is p.1.ground.instances_is
+    let g = c.args.v.surveyed.ground in (
+      figures_are c.requires.0 c.totals_of-t.ensures.0 g.processes_is g.instances_is
           c.element_count.ensures.0 refl refl refl,
       c.totals_of-t.ensures.2,
     )

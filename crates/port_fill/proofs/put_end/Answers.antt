@@ -27,9 +27,8 @@ overflow_cast-base c = let p = c.requires in record { fits = omega (arith, p.bas
 pub put_end-requires : goal.put_end-requires
 put_end-requires c =
     let a = c.args in
-    let h = c.requires in
-    let p = h.0 in (
-      omega (arith, h.1, p.based, p.pipe),
+    let p = c.requires in (
+      omega (arith, p.based, p.pipe),
       subst EndWide (sym c.end_of-e.ensures)
           (end_wide p.narrow p.flows.laid p.lt p.small a.start a.j p.begins (omega (arith, p.pipe))),
     )

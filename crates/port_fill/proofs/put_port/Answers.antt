@@ -21,9 +21,9 @@ overflow_add-p c =
 pub put_port-requires : goal.put_port-requires
 put_port-requires c =
     let p = c.requires in (
-      omega (arith, p.1, p.0.has_port_lem.near.lt, few p.0.has_port_lem.near, p.0.stream),
+      omega (arith, p.has_port_lem.near.lt, few p.has_port_lem.near, p.stream),
       subst PortWide (sym c.row_of-k.ensures)
-          (row_wide p.0.narrow p.0.has_port_lem.near.seen.flows.laid p.0.has_port_lem.near.lt p.0.small),
+          (row_wide p.narrow p.has_port_lem.near.seen.flows.laid p.has_port_lem.near.lt p.small),
     )
 
 pub returns : goal.returns
