@@ -6,7 +6,6 @@ ghost use Rattle.std.specs.Prelude.{◌≡◌};
 ghost use Rattle.refusals.specs.Numbers.{numbered};
 ghost use Rattle.meaning.specs.Limits.{limits_of};
 ghost use Rattle.meaning.specs.Calls.{plain_run};
-ghost use Rattle.survey.specs.OfBytes.{Surveyed};
 ghost use Rattle.written_order.specs.Places.{Fitting};
 ghost use Rattle.plain.specs.Call.{Called};
 

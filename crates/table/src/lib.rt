@@ -14,7 +14,7 @@ ghost use Rattle.refusals.specs.Numbers.{refusal_number, numbered};
 ghost use Rattle.meaning.specs.Limits.{limits_of, gauge_limits, UpTo};
 ghost use Rattle.meaning.specs.Description.{description_of, streams_of};
 ghost use Rattle.meaning.specs.Calls.{table};
-ghost use Rattle.survey.specs.OfBytes.{Surveyed, SurveyOf};
+ghost use Rattle.survey.specs.OfBytes.{SurveyOf};
 ghost use Rattle.layout.specs.Spans.{Spans, span_words};
 ghost use Rattle.process_row.specs.Rows.{row_from, Readable, column_words};
 ghost use Rattle.table.specs.Blocks.{Streamed};

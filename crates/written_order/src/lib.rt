@@ -14,7 +14,6 @@ ghost use Rattle.meaning.specs.Loops.{instances};
 ghost use Rattle.meaning.specs.Description.{streams_of};
 ghost use Rattle.meaning.specs.Body.{execute, final_values};
 ghost use Rattle.meaning.specs.Calls.{length_of};
-ghost use Rattle.survey.specs.OfBytes.{Surveyed};
 ghost use Rattle.written_order.specs.Columns.{column};
 ghost use Rattle.written_order.specs.Places.{Fitting, Filling, Table, number_from, place, columns};
 

@@ -11,8 +11,7 @@ use borrow.Author.Rules.{rules}
 use Rattle.table.proofs.draw.Goals as goal
 
 pub copy_spans-requires : goal.copy_spans-requires
-copy_spans-requires c =
-    (@@DROPPED3@@, omega (arith, c.fill_streams.auto.words, zeros_length c.requires.2))
+copy_spans-requires c = omega (arith, c.fill_streams.auto.words, zeros_length c.requires.2)
 
 pub returns : goal.returns
 returns c =

@@ -18,9 +18,7 @@ draw-requires c =
     let h = c.in_ok-v.ensures in
     let k = h.surveyed in (
       drawable k.0 (by_gauge c.limits_of.ensures.1 _ (none_refused _ _ _ (sym h.number)).0),
-      k.0.surveyed,
       k.1,
-      omega arith,
       c.requires,
     )
 

@@ -18,7 +18,7 @@ fill_stream-requires c =
     let l = c.loop-i in
     let a = 3072 + 2048 * l.i in
     let long : length l.words ≡ 15360 = l.auto.words ∙ zeros_length c.requires.2 in (
-      flow_drawable c.requires.0 @@DROPPED1@@ l.i (omega arith) c.flow_at-f.ensures c.requires.1 @@DROPPED3@@,
+      flow_drawable c.args.v c.requires.0 l.i (omega arith) c.flow_at-f.ensures c.requires.1 (omega arith),
       omega (arith, mid_len a (a + 2048) l.words (omega (arith, long, c.requires.0.most))),
     )
 
@@ -33,7 +33,7 @@ loop-i-preserved c =
     let long : length l.words ≡ 15360 = l.auto.words ∙ zeros_length c.requires.2 in
     streamed_next a k ys g.processes (omega arith) (omega arith) (omega (arith, long, g.most))
     (n ∙ mid_len a (a + 2048) l.words (omega (arith, long, g.most))) l.invariant
-    (flow_passed g @@DROPPED1@@ l.i (omega arith) c.flow_at-f.ensures c.fill_stream.ensures)
+    (flow_passed c.args.v g l.i (omega arith) c.flow_at-f.ensures c.fill_stream.ensures)
 
 pub returns : goal.returns
 returns c =

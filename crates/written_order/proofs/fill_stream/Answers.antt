@@ -9,9 +9,9 @@ flow_at-f-requires c = omega (arith, c.requires.1, c.requires.0.few.ranged.sized
 
 pub fill_column-requires : goal.fill_column-requires
 fill_column-requires c =
-    filling c.requires.0 @@DROPPED1@@ c.args.i c.requires.1 c.flow_at-f.ensures c.elements_in-start.ensures
+    filling c.args.v c.requires.0 c.args.i c.requires.1 c.flow_at-f.ensures c.elements_in-start.ensures
 
 pub returns : goal.returns
 returns c =
-    column_is c.requires.0 @@DROPPED1@@ c.args.i c.requires.1 c.flow_at-f.ensures c.elements_in-start.ensures
+    column_is c.args.v c.requires.0 c.args.i c.requires.1 c.flow_at-f.ensures c.elements_in-start.ensures
     c.args.table.now c.fill_column.ensures
