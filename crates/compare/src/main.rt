@@ -266,14 +266,16 @@ fn print_visits(rt: &impl Print, walk: &[i8], instances: usize, small: bool) -> 
 fn walk_lines(rt: &impl Print, board: u32, s: &[u8], small: bool) -> io::Result<()> {
     let mut spans = [0u32; SPANS];
     let mut walk = [0i8; WALK];
-    let v = walkable::walk_of(board, s, &mut spans, &mut walk);
-    let refusal = v.refusal;
     print(rt, b"walk")?;
-    print_number(rt, refusal)?;
-    if refusal == 0 {
-        print_visits(rt, &walk, v.ground.instances as usize, small)
-    } else {
-        print(rt, b" 0\n")
+    match walkable::walk_of(board, s, &mut spans, &mut walk) {
+        Ok(v) => {
+            print_number(rt, 0)?;
+            print_visits(rt, &walk, v.ground.instances as usize, small)
+        }
+        Err(e) => {
+            print_number(rt, e.number())?;
+            print(rt, b" 0\n")
+        }
     }
 }
 

@@ -16,7 +16,10 @@ use refusals::Refusal;
 pub fn of_table(processes: usize, room: usize) -> Result<(), Refusal>
     ensures { refusal_number result ≡ refusal (table_lengths processes room) }
 {
-    if room < processes { Err(Refusal::Rows) } else { Ok(()) }
+    if room < processes {
+        return Err(Refusal::Rows);
+    }
+    Ok(())
 }
 
 // Plain run: 20 for the values, 28 for the output.
@@ -27,7 +30,10 @@ pub fn of_plain(elements: u32, values: usize, output: usize) -> Result<(), Refus
     if values != e {
         return Err(Refusal::Values);
     }
-    if output != e { Err(Refusal::Output) } else { Ok(()) }
+    if output != e {
+        return Err(Refusal::Output);
+    }
+    Ok(())
 }
 
 // Step, Run, Ready and Result: 20 for the waiting list, 26 for received, 21 for a state that is short.
@@ -42,7 +48,10 @@ pub fn of_memory(f: Figures, waiting: usize, received: usize, state: usize) -> R
     if received != asked {
         return Err(Refusal::Received);
     }
-    if state < words { Err(Refusal::State) } else { Ok(()) }
+    if state < words {
+        return Err(Refusal::State);
+    }
+    Ok(())
 }
 
 // The same four, then: 22 for a state that is not sound.
@@ -53,7 +62,13 @@ pub fn of_state(sound: bool) -> Result<(), Refusal>
 }
 
 // Start: 20 for the values too, and then as those.
-pub fn of_start(f: Figures, values: usize, waiting: usize, received: usize, state: usize) -> Result<(), Refusal>
+pub fn of_start(
+    f: Figures,
+    values: usize,
+    waiting: usize,
+    received: usize,
+    state: usize,
+) -> Result<(), Refusal>
     ensures { refusal_number result ≡ refusal (start_lengths f.elements f.words values waiting received state) }
 {
     let e = f.elements as usize;
@@ -81,7 +96,10 @@ pub fn of_window(elements: u32, side: u32, waiting: usize, received: usize) -> R
 pub fn of_ready(words: usize) -> Result<(), Refusal>
     ensures { refusal_number result ≡ refusal (ready_lengths words) }
 {
-    if words < 16 { Err(Refusal::Words) } else { Ok(()) }
+    if words < 16 {
+        return Err(Refusal::Words);
+    }
+    Ok(())
 }
 
 // Result: 25 where not all is out, 28 for the output.

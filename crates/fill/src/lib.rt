@@ -22,7 +22,10 @@ fn refusal(seed: u32, n: usize, list: &[u32]) -> Result<(), Refusal>
     if seed == 0 {
         return Err(Refusal::Seed);
     }
-    if list.len() < n { Err(Refusal::Room) } else { Ok(()) }
+    if list.len() < n {
+        return Err(Refusal::Room);
+    }
+    Ok(())
 }
 
 // The states after rounds 1, 2 and so on.

@@ -1,18 +1,18 @@
--- Which names are those of a step, by the port table of an array. Assumes nothing.
-use Rattle.std.specs.Prelude.{◌≡◌, refl, ◌⊎◌, Bool, true, false, cond, ◌&&◌, List, ℕ, ◌≤◌, ◌<◌, eqb, ltb, length}
-use Rattle.std.proofs.Common.{sym, ◌∙◌, ap, inl, inr, true≢false, arith, ltb-true, ne_eqb}
+-- The step of a name, if there is one, by the port table of an array. Assumes nothing.
+use Rattle.std.specs.Prelude.{◌≡◌, refl, Bool, true, false, cond, ◌&&◌, Option, Some, None, List, ℕ, ◌≤◌, ◌<◌, eqb, ltb, length}
+use Rattle.std.proofs.Common.{sym, ◌∙◌, ap, subst, ltb-true}
 use Rattle.meaning.specs.declared.Limits.{Limits}
 use Rattle.meaning.specs.Array.{Array, process_count, stream_count, pipe_number, on_pipe}
-use Rattle.meaning.specs.declared.Step.TheVariants.{Take, Give, Receive}
-use Rattle.meaning.specs.Rules.{at, nothing}
-use Rattle.meaning.specs.Calls.{A, has_port, if_there, step_of}
+use Rattle.meaning.specs.declared.Step.{Step}
+use Rattle.meaning.specs.declared.Step.TheVariants.{Send, Take, Fire, Give, Receive}
+use Rattle.meaning.specs.Rules.{Found, at, nothing}
+use Rattle.meaning.specs.Calls.{A, has_port, step_of}
 use Rattle.lists.specs.Tests.{both_true}
 use Rattle.ports.specs.Rows.{row_of}
 use Rattle.ports.specs.declared.Port.{Port}
 use Rattle.port_table.specs.declared.Size.{Size}
 use Rattle.port_table.specs.PortsOf.{port_table_words, port_at, RowsFit}
 use Rattle.step_rules.specs.Fits.{Inside}
-use Rattle.step_rules.specs.Meaning.{step_named, Kind, Kind.is_send, Kind.is_take, Kind.is_fire, Kind.is_give, Kind.is_receive_lem, kind_of}
 use Rattle.step_rules.specs.Meaning.{Stands}
 
 -- a port table that has rows for so many processes and streams
@@ -27,14 +27,22 @@ rows_of f = record { words = f.words; processes = f.processes; streams = f.strea
 abbrev pub has_port_by : List ℕ → Size → ℕ → ℕ → Bool
 has_port_by b z p i = ltb p z.processes && ltb i z.streams && ltb 0 (port_at b p i).total
 
-abbrev pub named_by : List ℕ → Size → ℕ → ℕ → ℕ → Bool
+abbrev pub some_if : Bool → Step → Option Step
+some_if b a = cond b (Some a) None
+
+abbrev pub named_by : List ℕ → Size → ℕ → ℕ → ℕ → Option Step
 named_by b z kind number stream =
-    cond (eqb kind 0) (ltb number z.pipes)
-    (cond (eqb kind 1) (has_port_by b z number stream)
-    (cond (eqb kind 2) (ltb number z.processes)
-    (cond (eqb kind 3) (has_port_by b z number stream)
-    (cond (eqb kind 4) (ltb number z.pipes)
-    false))))
+    cond (eqb kind 0) (some_if (ltb number z.pipes) (Send number))
+    (cond (eqb kind 1) (some_if (has_port_by b z number stream) (Take number stream))
+    (cond (eqb kind 2) (some_if (ltb number z.processes) (Fire number))
+    (cond (eqb kind 3) (some_if (has_port_by b z number stream) (Give number stream))
+    (cond (eqb kind 4) (some_if (ltb number z.pipes) (Receive number))
+    None))))
+
+-- it as the calls of the documents have it
+abbrev pub found : Option Step → Found
+found (Some a) = at a
+found None = nothing
 
 -- ---- by the port table of an array
 
@@ -55,65 +63,48 @@ module _ (l : Limits) (s : List ℕ) {b : List ℕ} {z : Size} (t : Stands (A l 
           let k = ltb-true i _ f in
           on p i h k ∙ ap (λ (r : Port). ltb 0 r.total) (sym (t.table.ports p i h k))
 
-  pub named_is : (kind number stream : ℕ)
-      → step_of l s kind number stream ≡ cond (named_by b z kind number stream) (at (step_named kind number stream)) nothing
-  named_is kind number stream = go (kind_of kind)
+  pub named_is : (kind number stream : ℕ) → step_of l s kind number stream ≡ found (named_by b z kind number stream)
+  named_is kind number stream =
+      rw (has_port_is number stream, ← t.size.pipes, ← t.size.processes)
+      (sym (either (eqb kind 0) _ _ (one (ltb number z.pipes) (Send number))
+      (either (eqb kind 1) _ _ (one (has_port_by b z number stream) (Take number stream))
+      (either (eqb kind 2) _ _ (one (ltb number z.processes) (Fire number))
+      (either (eqb kind 3) _ _ (one (has_port_by b z number stream) (Give number stream))
+      (either (eqb kind 4) _ None (one (ltb number z.pipes) (Receive number)) refl))))))
     where
-      last : (x : Bool) → cond x (cond (ltb number (pipe_number (A l s))) (at (Receive number)) nothing) nothing
-          ≡ cond (cond x (ltb number (pipe_number (A l s))) false) (at (Receive number)) nothing
-      last true = refl
-      last false = refl
+      one : (x : Bool) (a : Step) → found (some_if x a) ≡ cond x (at a) nothing
+      one true a = refl
+      one false a = refl
 
-      go : {k : ℕ} → Kind k → step_of l s k number stream ≡ cond (named_by b z k number stream) (at (step_named k number stream)) nothing
-      go is_send = rw t.size.pipes refl
-      go is_take = ap (λ (x : Bool). if_there l s x (Take number stream)) (has_port_is number stream)
-      go is_fire = rw t.size.processes refl
-      go is_give = ap (λ (x : Bool). if_there l s x (Give number stream)) (has_port_is number stream)
-      go (is_receive_lem k h) =
-          rw (ne_eqb k 0 (omega arith), ne_eqb k 1 (omega arith), ne_eqb k 2 (omega arith), ne_eqb k 3 (omega arith), t.size.pipes)
-          (last (eqb k 4))
+      either : (x : Bool) (a c : Option Step) {f g : Found} → found a ≡ f → found c ≡ g → found (cond x a c) ≡ cond x f g
+      either true a c e d = e
+      either false a c e d = d
 
--- the number of a step that has a name is in range
+-- the step of a name is in range
 module _ (b : List ℕ) (z : Size) where
   port_inside : (p i : ℕ) → has_port_by b z p i ≡ true → (p < z.processes) × (i < z.streams)
   port_inside p i e = let q = both_true _ _ (both_true _ _ e).0 in (ltb-true p _ q.0, ltb-true i _ q.1)
 
-  pub named_inside : (kind number stream : ℕ) → named_by b z kind number stream ≡ true → Inside z kind number stream
-  named_inside kind number stream = go (kind_of kind)
-    where
-      pipe_only : (k : ℕ) → (k ≡ 0) ⊎ (3 < k) → number < z.pipes → Inside z k number stream
-      pipe_only k (inl e) h = record { pipe = λ o. h; process = λ a c. absurd (omega arith); port = λ o. absurd (odd k e o) }
-        where
-          odd : (k : ℕ) → k ≡ 0 → (k ≡ 1) ⊎ (k ≡ 3) → ⊥
-          odd k e (inl f) = omega arith
-          odd k e (inr f) = omega arith
-      pipe_only k (inr e) h = record { pipe = λ o. h; process = λ a c. absurd (omega arith); port = λ o. absurd (odd k e o) }
-        where
-          odd : (k : ℕ) → 3 < k → (k ≡ 1) ⊎ (k ≡ 3) → ⊥
-          odd k e (inl f) = omega arith
-          odd k e (inr f) = omega arith
+  -- if there is one
+  abbrev Within : Option Step → Type 0
+  Within (Some a) = Inside z a
+  Within None = Unit
 
-      process_only : (k : ℕ) → 0 < k → k < 4 → number < z.processes → ((k ≡ 1) ⊎ (k ≡ 3) → stream < z.streams) → Inside z k number stream
-      process_only k u v h i = record { pipe = λ o. absurd (even o); process = λ a c. h; port = i }
-        where
-          even : (k ≡ 0) ⊎ (3 < k) → ⊥
-          even (inl f) = omega arith
-          even (inr f) = omega arith
+  one_within : (x : Bool) (a : Step) → (x ≡ true → Inside z a) → Within (some_if x a)
+  one_within true a h = h refl
+  one_within false a h = tt
 
-      last : (x : Bool) → cond x (ltb number z.pipes) false ≡ true → number < z.pipes
-      last true e = ltb-true number _ e
-      last false e = absurd (true≢false (sym e))
+  either_within : (x : Bool) (a c : Option Step) → Within a → Within c → Within (cond x a c)
+  either_within true a c h k = h
+  either_within false a c h k = k
 
-      go : {k : ℕ} → Kind k → named_by b z k number stream ≡ true → Inside z k number stream
-      go is_send e = pipe_only 0 (inl refl) (ltb-true number _ e)
-      go is_take e = let h = port_inside number stream e in process_only 1 (omega arith) (omega arith) h.0 (λ o. h.1)
-      go is_fire e = process_only 2 (omega arith) (omega arith) (ltb-true number _ e) (λ o. absurd (neither 2 refl o))
-        where
-          neither : (k : ℕ) → k ≡ 2 → (k ≡ 1) ⊎ (k ≡ 3) → ⊥
-          neither k e (inl f) = omega arith
-          neither k e (inr f) = omega arith
-      go is_give e = let h = port_inside number stream e in process_only 3 (omega arith) (omega arith) h.0 (λ o. h.1)
-      go (is_receive_lem k h) e =
-          pipe_only k (inr h)
-          (last (eqb k 4)
-          (rw (ne_eqb k 0 (omega arith), ne_eqb k 1 (omega arith), ne_eqb k 2 (omega arith), ne_eqb k 3 (omega arith)) at e))
+  named_within : (kind number stream : ℕ) → Within (named_by b z kind number stream)
+  named_within kind number stream =
+      either_within (eqb kind 0) _ _ (one_within _ (Send number) (ltb-true number _))
+      (either_within (eqb kind 1) _ _ (one_within _ (Take number stream) (port_inside number stream))
+      (either_within (eqb kind 2) _ _ (one_within _ (Fire number) (ltb-true number _))
+      (either_within (eqb kind 3) _ _ (one_within _ (Give number stream) (port_inside number stream))
+      (either_within (eqb kind 4) _ None (one_within _ (Receive number) (ltb-true number _)) tt))))
+
+  pub named_inside : (kind number stream : ℕ) {a : Step} → named_by b z kind number stream ≡ Some a → Inside z a
+  named_inside kind number stream e = subst Within e (named_within kind number stream)

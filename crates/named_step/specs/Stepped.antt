@@ -1,36 +1,26 @@
 -- What a step by its name answers and leaves, once the memory is opened. Assumes nothing.
-use Rattle.std.specs.Prelude.{◌≡◌, true, false, not, cond, List, [], ◌∷◌, ℕ, eqb}
-use Rattle.std.proofs.Math.Path.{refl, sym}
-use Rattle.std.proofs.Common.{◌∙◌}
-use Rattle.meaning.specs.declared.Description.{Description}
+use Rattle.std.specs.Prelude.{◌≡◌, refl, true, false, not, cond, Some, None, List, [], ◌∷◌, ℕ, eqb, length}
+use Rattle.std.proofs.Common.{sym, ◌∙◌}
+use Rattle.meaning.specs.declared.Step.{Step}
 use Rattle.meaning.specs.declared.Limits.{Limits}
 use Rattle.meaning.specs.Answers.{Answer, Done, Refused}
+use Rattle.meaning.specs.Loops.{increment}
 use Rattle.meaning.specs.Tests.{Test, ◌if◌, refusal}
 use Rattle.meaning.specs.Description.{description_of}
 use Rattle.meaning.specs.Array.{array_of}
 use Rattle.meaning.specs.Rules.{Memory, Found, at, nothing, ready, apply}
 use Rattle.meaning.specs.Calls.{answer, step_of, is_nothing, ready_at, applied}
+use Rattle.vectors.specs.Within.{Within}
+use Rattle.layout.specs.Spans.{Spans}
 use Rattle.port_table.specs.declared.Size.{Size}
+use Rattle.port_table.specs.PortsOf.{RowsFit, PartsFit}
+use Rattle.step_rules.specs.declared.Program.{Program}
 use Rattle.step_rules.specs.Steps.{program_of, can_by, act_by}
-use Rattle.step_rules.specs.Fits.{Inside}
-use Rattle.step_rules.specs.Meaning.{step_named, can_is, act_is}
-use Rattle.opening.specs.Opening.{Grounds, Stood, Opened, grounds}
-use Rattle.opening.specs.Opened.{stands, performs}
-use Rattle.named_step.specs.Named.{named_by, named_is, named_inside}
-
--- a step that is named and ready
-pub record Steppable (d : Description) (b : List ℕ) (z : Size) (kind number stream : ℕ) (M : Memory) : Type 0 where
-  pub grounds : Grounds d
-  pub stood : Stood d M b z
-  pub inside : Inside z kind number stream
-  pub can : can_by b M.state z.streams kind number stream ≡ true
-
-module _ {d : Description} {b : List ℕ} {z : Size} {kind number stream : ℕ} {M : Memory} (h : Steppable d b z kind number stream M) where
-  pub performed : act_by (program_of d) z.streams b M kind number stream ≡ apply (array_of d) M (step_named kind number stream)
-  performed =
-      let t = stands h.grounds h.stood in
-      act_is t M h.stood.sound (program_of d) (performs h.grounds) kind number stream h.inside
-      (sym (can_is t M h.stood.sound kind number stream h.inside) ∙ h.can)
+use Rattle.step_rules.specs.Fits.{Programmed, Inside}
+use Rattle.step_rules.specs.Meaning.{Stands, can_is, act_is}
+use Rattle.opening.specs.Opening.{Grounds, Opened, grounds}
+use Rattle.opening.specs.Opened.{fits, waiting_fits, received_fits, programmed, stands, performs}
+use Rattle.named_step.specs.Named.{named_by, found, named_is, named_inside}
 
 -- the call's own tests of what was found
 abbrev pub own_tests : Limits → List ℕ → Memory → Found → List Test
@@ -46,39 +36,54 @@ module _ {s : List ℕ} {M : Memory} {b : List ℕ} {z : Size} (o : Opened s M b
   ground : Grounds (description_of s)
   ground = grounds s o.accepted
 
-  found : (l : Limits) → step_of l s kind number stream
-      ≡ cond (named_by b z kind number stream) (at (step_named kind number stream)) nothing
-  found l = named_is l s (stands ground o.stood) ground.on kind number stream
+  stand : Stands (array_of (description_of s)) b z
+  stand = stands ground o.stood
+
+  -- what the calls find is what the code finds
+  found_is : (l : Limits) → step_of l s kind number stream ≡ found (named_by b z kind number stream)
+  found_is l = named_is l s stand ground.on kind number stream
 
   -- no step has that name
-  pub unnamed : named_by b z kind number stream ≡ false → Stepped s kind number stream M (Refused 23) M
+  pub unnamed : named_by b z kind number stream ≡ None → Stepped s kind number stream M (Refused 23) M
   unfolding refusal
   unnamed e = record { answers = λ l. rw (none l) refl; leaves = λ l. rw (none l) refl }
     where
       none : (l : Limits) → step_of l s kind number stream ≡ nothing
-      none l = found l ∙ rw e refl
+      none l = found_is l ∙ rw e refl
 
-  module _ (e : named_by b z kind number stream ≡ true) where
-    inside : Inside z kind number stream
+  module _ {a : Step} (e : named_by b z kind number stream ≡ Some a) where
+    inside : Inside z a
     inside = named_inside b z kind number stream e
 
-    named : (l : Limits) → step_of l s kind number stream ≡ at (step_named kind number stream)
-    named l = found l ∙ rw e refl
+    named : (l : Limits) → step_of l s kind number stream ≡ at a
+    named l = found_is l ∙ rw e refl
 
-    tested : can_by b M.state z.streams kind number stream
-        ≡ ready (array_of (description_of s)) M.state (step_named kind number stream)
-    tested = can_is (stands ground o.stood) M o.stood.sound kind number stream inside
+    tested : can_by b M.state z.streams a ≡ ready (array_of (description_of s)) M.state a
+    tested = can_is stand M o.stood.sound a inside
 
-    pub steppable : can_by b M.state z.streams kind number stream ≡ true → Steppable (description_of s) b z kind number stream M
-    steppable c = record { grounds = ground; stood = o.stood; inside = inside; can = c }
+    -- what testing it asks, and doing it
+    pub tests : (RowsFit (length M.state) b z) × (Inside z a)
+    tests = (fits ground o.stood, inside)
 
     -- it has, but the step is not ready
-    pub unready : can_by b M.state z.streams kind number stream ≡ false → Stepped s kind number stream M (Refused 24) M
+    pub unready : can_by b M.state z.streams a ≡ false → Stepped s kind number stream M (Refused 24) M
     unfolding refusal
     unready c = let r = sym tested ∙ c in record { answers = λ l. rw (named l, r) refl; leaves = λ l. rw (named l, r) refl }
 
     -- the step is done
-    pub done : can_by b M.state z.streams kind number stream ≡ true → {M' : Memory}
-        → M' ≡ apply (array_of (description_of s)) M (step_named kind number stream) → Stepped s kind number stream M Done M'
-    unfolding refusal
-    done c g = let r = sym tested ∙ c in record { answers = λ l. rw (named l, r) refl; leaves = λ l. rw (named l, r) g }
+    module _ (c : can_by b M.state z.streams a ≡ true) where
+      pub asks : {spans : List ℕ} {g : Program} → g ≡ program_of (description_of s) → Within 200 g.increment
+          → Spans (description_of s).nest spans → length spans ≡ 3072
+          → (RowsFit (length M.state) b z) × (Programmed g spans b z) × (Inside z a) × (PartsFit (length M.waiting) b z)
+          × (PartsFit (length M.received) b z) × (can_by b M.state z.streams a ≡ true)
+      asks d w h l =
+          let i : Within 200 (increment (description_of s).nest) = rw d at w in
+          (tests.0, rw d (programmed ground o.stood h l i), inside, waiting_fits ground o.stood, received_fits ground o.stood, c)
+
+      pub done : {g : Program} {M' : Memory} → g ≡ program_of (description_of s) → M' ≡ act_by g z.streams b M a
+          → Stepped s kind number stream M Done M'
+      unfolding refusal
+      done d m =
+          let r = sym tested ∙ c in
+          let n = m ∙ rw d (act_is stand M o.stood.sound (program_of (description_of s)) (performs ground) a inside r) in
+          record { answers = λ l. rw (named l, r) refl; leaves = λ l. rw (named l, r) n }

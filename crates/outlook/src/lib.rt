@@ -75,7 +75,11 @@ fn move_answer(rank: bool, wide: bool, later: Result<(), Refusal>) -> Result<(),
 fn still_answer(rank: bool) -> Result<(), Refusal>
     ensures { refusal_number result ≡ cond rank 11 12 }
 {
-    if rank { Err(Refusal::MapRank) } else { Err(Refusal::StillLine) }
+    if rank {
+        Err(Refusal::MapRank)
+    } else {
+        Err(Refusal::StillLine)
+    }
 }
 
 // The answers of a stream.

@@ -27,7 +27,7 @@ use Rattle.ready_words.specs.Meaning.{moves_is}
 -- ---- by a port table
 
 -- how many bits are set in the first sixteen words, and the lowest, n if there is none
-abbrev pub answer_of : ℕ → List ℕ → Readiness
+abbrev pub answer_of : ℕ → List ℕ → ReadyAnswer
 answer_of n words = Ready (ones_of (take 16 words)) (lowest_from n 0 (take 16 words))
 
 -- nothing is refused: there are sixteen words
@@ -40,7 +40,7 @@ module _ (b st : List ℕ) (z : Size) (words : List ℕ) where
   marked_by = marked_to (moves_by b st z.streams) z.processes (cleared words)
 
   -- 27, or what they say; and what the words are then
-  unfoldable pub answer_by : Readiness
+  unfoldable pub answer_by : ReadyAnswer
   answer_by = cond (ltb (length words) 16) (Refused 27) (answer_of z.processes marked_by)
 
   unfoldable pub left_by : List ℕ
@@ -70,7 +70,7 @@ marked_same f g (suc n) words h =
     ap₂ (λ (b : Bool) (w : List ℕ). cond b (marked w n) w) (h n (omega arith)) (marked_same f g n words λ p l. h p (omega arith))
 
 -- r and w are what the call answers and leaves
-abbrev pub Readies : Limits → List ℕ → List ℕ → Memory → Readiness → List ℕ → Type 0
+abbrev pub Readies : Limits → List ℕ → List ℕ → Memory → ReadyAnswer → List ℕ → Type 0
 Readies l s words M r w = (r ≡ (ready_call l s words M).answer) × (w ≡ (ready_call l s words M).words)
 
 -- the rows of the port table fit the state
@@ -106,7 +106,7 @@ module _ (l : Limits) (s words : List ℕ) (M : Memory) where
           ∙ ap (λ (n : ℕ). marked_to (can_move l s M.state) n (cleared words)) t.size.processes
 
       -- nothing of the memory is refused
-      pub readies : {r : Readiness} {w : List ℕ} → (r ≡ answer_by b M.state z words) × (w ≡ left_by b M.state z words)
+      pub readies : {r : ReadyAnswer} {w : List ℕ} → (r ≡ answer_by b M.state z words) × (w ≡ left_by b M.state z words)
           → Readies l s words M r w
       unfolding answer_by left_by refusal
       readies {r} {w} k = go (ltb (length words) 16) refl

@@ -1,5 +1,5 @@
-// Whether a description is accepted, and why it is refused: 33 of request 2.9 and document 01's refusals 1 to 17, the first
-// that applies. The survey, made after 5, and the words of the processes, filled after 10, are handed on.
+// Whether a description is accepted, and why it is refused: 33 of request 2.9 and document 01's refusals 1 to 17, the first that applies.
+// The survey, made after 5, and the words of the processes, filled after 10, are handed on.
 
 #![tactic(auto)]
 

@@ -1,6 +1,6 @@
 -- A memory stays in order from step to step. Assumes nothing.
 use Rattle.std.specs.Prelude.{◌≡◌, refl, true, List, ℕ, ◌≤◌, ◌<◌, length}
-use Rattle.std.proofs.Common.{sym, ◌∙◌, ap, subst, inl, inr, arith}
+use Rattle.std.proofs.Common.{◌∙◌, ap, arith}
 use Rattle.meaning.specs.declared.Description.{Description}
 use Rattle.meaning.specs.Limits.{gauge_limits}
 use Rattle.meaning.specs.Description.{description_of}
@@ -19,24 +19,16 @@ use Rattle.addresses.specs.Indices.{word_count_lem}
 use Rattle.lists.specs.Tests.{both_true}
 use Rattle.port_table.specs.declared.Size.{Size}
 use Rattle.port_table.specs.PortsOf.{SizeOf}
-use Rattle.step_rules.specs.Steps.{by_last}
 use Rattle.step_rules.specs.Fits.{Inside}
-use Rattle.step_rules.specs.Meaning.{step_named, Kind, Kind.is_send, Kind.is_take, Kind.is_fire, Kind.is_give, Kind.is_receive_lem, kind_of}
 use Rattle.opening.specs.Opening.{Opened}
 
 -- a ready step that is in range is one of the array's
-pub there_named : (A : Array) {z : Size} → SizeOf A z → (st : List ℕ) (kind number stream : ℕ) → Inside z kind number stream
-    → ready A st (step_named kind number stream) ≡ true → There A (step_named kind number stream)
-there_named A {z} size st kind number stream = go (kind_of kind)
-  where
-    go : {k : ℕ} → Kind k → Inside z k number stream → ready A st (step_named k number stream) ≡ true → There A (step_named k number stream)
-    go is_send i r = omega (arith, i.pipe (inl refl), size.pipes)
-    go is_take i r = (both_true _ _ r).0
-    go is_fire i r = omega (arith, i.process (omega arith) (omega arith), size.processes)
-    go is_give i r = (both_true _ _ r).0
-    go (is_receive_lem k l) i r =
-        let h : number < pipe_number A = omega (arith, i.pipe (inr l), size.pipes) in
-        subst (There A) (sym (by_last k l (Send number) (Take number stream) (Fire number) (Give number stream) (Receive number))) h
+pub there_inside : (A : Array) {z : Size} → SizeOf A z → (st : List ℕ) (a : Step) → Inside z a → ready A st a ≡ true → There A a
+there_inside A size st (Send q) h r = omega (arith, size.pipes)
+there_inside A size st (Take p i) h r = (both_true _ _ r).0
+there_inside A size st (Fire p) h r = omega (arith, size.processes)
+there_inside A size st (Give p i) h r = (both_true _ _ r).0
+there_inside A size st (Receive q) h r = omega (arith, size.pipes)
 
 module _ {s : List ℕ} {M : Memory} {b : List ℕ} {z : Size} (o : Opened s M b z) where
   abbrev d : Description

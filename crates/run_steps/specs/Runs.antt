@@ -18,14 +18,14 @@ use Rattle.step_rules.specs.declared.Program.{Program}
 use Rattle.step_rules.specs.Steps.{program_of}
 use Rattle.step_rules.specs.Fits.{Programmed, Inside}
 use Rattle.step_rules.specs.Meaning.{Stands, can_is}
-use Rattle.step_order.specs.Ranks.{Sized, rank_count, name_at, step_at, steps_most}
-use Rattle.step_order.proofs.Names.{name_inside}
+use Rattle.step_order.specs.Ranks.{Sized, rank_count, step_at, steps_most}
+use Rattle.step_order.proofs.Steps.{step_inside}
 use Rattle.step_order.proofs.Order.{lowest_some, lowest_none, any_ready_lem}
 use Rattle.wakeups.specs.Wakeups.{can_at, flag_at, WakeupsOf}
 use Rattle.opening.specs.Opening.{Grounds, grounds, Opened}
 use Rattle.opening.specs.Opened.{stands, fits}
 use Rattle.run_steps.specs.Positions.{bounded_some, bounded_none}
-use Rattle.run_steps.specs.Going.{there_named, state_length_lem, opened_step}
+use Rattle.run_steps.specs.Going.{there_inside, state_length_lem, opened_step}
 
 -- what the loop starts with
 pub record Started (s : List ℕ) (g : Program) (b spans wakeups : List ℕ) (z : Size) (M : Memory) (flags : List ℕ) : Type 0 where
@@ -97,11 +97,11 @@ module _ {s : List ℕ} {b : List ℕ} {z : Size} {M : Memory} {flags : List ℕ
   ranks_few : rank_count z ≤ 32768
   ranks_few = omega (arith, steps_most sized, sized.pipes)
 
-  pub inside : (r : ℕ) → r < rank_count z → Inside z (name_at z r).kind (name_at z r).number (name_at z r).stream
-  inside = name_inside z
+  pub inside : (r : ℕ) → r < rank_count z → Inside z (step_at z r)
+  inside = step_inside z
 
   can_ready : (r : ℕ) → r < rank_count z → can_at b M.state z r ≡ ready A M.state (step_at z r)
-  can_ready r l = can_is stand M h.opened.stood.sound (name_at z r).kind (name_at z r).number (name_at z r).stream (inside r l)
+  can_ready r l = can_is stand M h.opened.stood.sound (step_at z r) (inside r l)
 
   abbrev flagged : ℕ → Bool
   flagged = flag_at b M.state z
@@ -145,8 +145,7 @@ module _ {s : List ℕ} {b : List ℕ} {z : Size} {M : Memory} {flags : List ℕ
     rank_ready = sym (can_ready r l) ∙ c
 
     pub rank_there : There A (step_at z r)
-    rank_there =
-        there_named A stand.size M.state (name_at z r).kind (name_at z r).number (name_at z r).stream (inside r l) rank_ready
+    rank_there = there_inside A stand.size M.state (step_at z r) (inside r l) rank_ready
 
     pub opened_next : Opened s (apply A M (step_at z r)) b z
     opened_next = opened_step h.opened (step_at z r) rank_there rank_ready

@@ -19,8 +19,7 @@ use Rattle.step_rules.specs.declared.Program.{Program}
 use Rattle.step_rules.specs.Steps.{program_of, can_by, act_by}
 use Rattle.step_rules.specs.Fits.{Programmed, Inside}
 use Rattle.step_rules.specs.Meaning.{act_is}
-use Rattle.step_order.specs.Ranks.{Sized, rank_count, name_at, step_at}
-use Rattle.step_order.specs.declared.Name.{Name}
+use Rattle.step_order.specs.Ranks.{Sized, rank_count, step_at}
 use Rattle.wakeups.specs.Wakeups.{can_at, flag_at, Apart, WakeupsOf, Local}
 use Rattle.wakeups.specs.Meaning.{apart, local}
 use Rattle.port_fits.specs.Sizes.{words_few}
@@ -83,29 +82,25 @@ module _ {s : List ℕ} {g : Program} {b spans wakeups : List ℕ} {z : Size} {M
   pub rank_in : (Sized z) × (r < rank_count z)
   rank_in = (sized h.ready, some_rank h.ready e l)
 
-  abbrev name : Name
-  name = name_at z r
-
   can : can_at b M.state z r ≡ true
   can = can_rank h.ready e l
 
   -- what the step asks
-  pub asks : (RowsFit (length M.state) b z) × (Programmed g spans b z) × (Inside z name.kind name.number name.stream)
+  pub asks : (RowsFit (length M.state) b z) × (Programmed g spans b z) × (Inside z (step_at z r))
       × (PartsFit (length M.waiting) b z) × (PartsFit (length M.received) b z)
-      × (can_by b M.state z.streams name.kind name.number name.stream ≡ true)
+      × (can_by b M.state z.streams (step_at z r) ≡ true)
   asks =
       let o = h.ready.opened.stood in
       (fits ground o, st.programmed, inside h.ready r rank_in.1, waiting_fits ground o, received_fits ground o, can)
 
   -- and does
-  acted : act_by g z.streams b M name.kind name.number name.stream ≡ apply A M (step_at z r)
+  acted : act_by g z.streams b M (step_at z r) ≡ apply A M (step_at z r)
   acted =
       rw st.program
       (act_is (stands ground h.ready.opened.stood) M h.ready.opened.stood.sound (program_of (description_of s))
-      (performs ground) name.kind
-      name.number name.stream (inside h.ready r rank_in.1) (rank_ready h.ready r rank_in.1 can))
+      (performs ground) (step_at z r) (inside h.ready r rank_in.1) (rank_ready h.ready r rank_in.1 can))
 
-  module _ {M' : Memory} (m : M' ≡ act_by g z.streams b M name.kind name.number name.stream) where
+  module _ {M' : Memory} (m : M' ≡ act_by g z.streams b M (step_at z r)) where
     next : Opened s M' b z
     next = subst (λ (N : Memory). Opened s N b z) (sym (m ∙ acted)) (opened_next h.ready r rank_in.1 can)
 

@@ -37,22 +37,14 @@ pub fn run_steps(
         (memory_of waiting.now received.old state.old) result
         (memory_of waiting.now received.new state.new) flags.new }
 {
-    let mut done: u32 = 0;
-    while done < steps {
+    for done in 0..steps {
         let r = ready_set::lowest(flags);
-        if r < MEMBERS {
-            let n = step_order::name_of(z, r);
-            let kind = n.kind;
-            let number = n.number;
-            let stream = n.stream;
-            step_rules::act(
-                g, ports, spans, z, kind, number, stream, waiting, received, state,
-            );
-            wakeups::refresh(ports, wakeups, state, z, r, n, flags);
-            done += 1;
-        } else {
+        if r >= MEMBERS {
             return done;
         }
+        let step = step_order::step_of(z, r);
+        step_rules::act(g, ports, spans, z, step, waiting, received, state);
+        wakeups::refresh(ports, wakeups, state, z, r, step, flags);
     }
-    done
+    steps
 }

@@ -1,3 +1,3 @@
 -- Theorems on which no definition rests.
-pub mod Names
+pub mod Steps
 pub mod Order

@@ -18,9 +18,9 @@ use Rattle.lists.specs.Sums.{total_same}
 use Rattle.port_table.specs.declared.Size.{Size}
 use Rattle.port_table.specs.PortsOf.{SizeOf}
 use Rattle.step_order.specs.Ranks.{width, rank_count, step_at, take_rank, fire_rank, give_rank, receive_rank, steps_inside}
-use Rattle.step_order.specs.Names.{Ranked, send, take, fire, give, receive, send_name, take_name, fire_name, give_name}
-use Rattle.step_order.specs.Names.{receive_name}
-use Rattle.step_order.proofs.Names.{ranked}
+use Rattle.step_order.specs.Steps.{Ranked, send, take, fire, give, receive, send_step, take_step, fire_step, give_step}
+use Rattle.step_order.specs.Steps.{receive_step}
+use Rattle.step_order.proofs.Steps.{ranked}
 
 -- ---- the order by the numbers of pipes, processes and streams
 
@@ -74,24 +74,24 @@ module _ (z : Size) where
 
   order_at : (r : ℕ) → Ranked z r → get_or order r (Send 0) ≡ step_at z r
   order_at r (send q h e) =
-      rw (e, send_name z q h)
+      rw (e, send_step z q h)
       (get_or-append (map Send (numbers z.pipes)) _ (Send 0) q (omega (arith, many Send z.pipes)) ∙ numbered Send z.pipes q h)
   order_at r (take p i h l e) =
-      rw (e, take_name z p i h l)
+      rw (e, take_step z p i h l)
       (process_at_lem p i (take_rank z p i) h (omega arith) (omega arith)
       ∙ get_or-append (map (Take p) (numbers z.streams)) _ (Send 0) i (omega (arith, many (Take p) z.streams))
       ∙ numbered (Take p) z.streams i l)
   order_at r (fire p h e) =
-      rw (e, fire_name z p h)
+      rw (e, fire_step z p h)
       (process_at_lem p z.streams (fire_rank z p) h (omega arith) (omega arith)
       ∙ past (map (Take p) (numbers z.streams)) _ z.streams 0 z.streams (many (Take p) z.streams) (omega arith))
   order_at r (give p i h l e) =
-      rw (e, give_name z p i h l)
+      rw (e, give_step z p i h l)
       (process_at_lem p (z.streams + 1 + i) (give_rank z p i) h (omega arith) (omega arith)
       ∙ past (map (Take p) (numbers z.streams)) _ z.streams (suc i) (z.streams + 1 + i) (many (Take p) z.streams) (omega arith)
       ∙ numbered (Give p) z.streams i l)
   order_at r (receive q h e) =
-      rw (e, receive_name z q)
+      rw (e, receive_step z q)
       (past (map Send (numbers z.pipes)) _ z.pipes (z.processes * width z + q) (receive_rank z q) (many Send z.pipes) (omega arith)
       ∙ past (each (steps_by z.streams) (numbers z.processes)) _ (z.processes * width z) q (z.processes * width z + q) all_many refl
       ∙ numbered Receive z.pipes q h)

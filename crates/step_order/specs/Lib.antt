@@ -1,3 +1,3 @@
 -- Run's order by ranks; src/lib.rt has the list.
 pub mod Ranks
-pub mod Names
+pub mod Steps

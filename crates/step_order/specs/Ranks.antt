@@ -2,9 +2,8 @@
 use Rattle.std.specs.Prelude.{cond, ℕ, suc, ◌+◌, ◌*◌, ◌-◌, ◌/◌, ◌%◌, ◌≤◌, ◌<◌, eqb, ltb}
 use Rattle.std.proofs.Common.{mul-le-mul, mul-le-mul_right, arith}
 use Rattle.meaning.specs.declared.Step.{Step}
+use Rattle.meaning.specs.declared.Step.TheVariants.{Send, Take, Fire, Give, Receive}
 use Rattle.port_table.specs.declared.Size.{Size}
-use Rattle.step_rules.specs.Meaning.{step_named}
-use Rattle.step_order.specs.declared.Name.{Name}
 
 -- sizes within those of an accepted description
 pub record Sized (z : Size) : Type 0 where
@@ -19,23 +18,16 @@ width z = 2 * z.streams + 1
 abbrev pub rank_count : Size → ℕ
 rank_count z = 2 * z.pipes + z.processes * width z
 
-abbrev pub named : ℕ → ℕ → ℕ → Name
-named kind number stream = record { kind = kind; number = number; stream = stream }
-
 -- the o-th step of process p: takes by stream, fire, gives by stream
-abbrev pub process_name : Size → ℕ → ℕ → Name
-process_name z p o =
-    cond (ltb o z.streams) (named 1 p o) (cond (eqb o z.streams) (named 2 p 0) (named 3 p (o - z.streams - 1)))
+abbrev pub process_step : Size → ℕ → ℕ → Step
+process_step z p o = cond (ltb o z.streams) (Take p o) (cond (eqb o z.streams) (Fire p) (Give p (o - z.streams - 1)))
 
 -- sends by pipe, then the steps of the processes, then receives
-abbrev pub name_at : Size → ℕ → Name
-name_at z r =
-    cond (ltb r z.pipes) (named 0 r 0)
-    (cond (ltb (r - z.pipes) (z.processes * width z)) (process_name z ((r - z.pipes) / width z) ((r - z.pipes) % width z))
-    (named 4 (r - z.pipes - z.processes * width z) 0))
-
 abbrev pub step_at : Size → ℕ → Step
-step_at z r = step_named (name_at z r).kind (name_at z r).number (name_at z r).stream
+step_at z r =
+    cond (ltb r z.pipes) (Send r)
+    (cond (ltb (r - z.pipes) (z.processes * width z)) (process_step z ((r - z.pipes) / width z) ((r - z.pipes) % width z))
+    (Receive (r - z.pipes - z.processes * width z)))
 
 -- ranks of steps
 abbrev pub take_rank : Size → ℕ → ℕ → ℕ

@@ -4,28 +4,21 @@
 // specs/, by file:
 //
 //   Ranks     the step of a rank, and the rank of a step
-//   Names     the name of a step's rank, as `take-name`
+//   Steps     the step of each step's rank, as `take_step`; there are no other ranks
 //
 // proofs/, by file:
 //
-//   Names     a rank's step is inside the array: `name-inside`, and has no other rank: `rank-apart`
-//   Order     the steps of the ranks are Run's order: `in_order`, and the lowest ready step is that of the lowest rank: `lowest-some`,
-//             `lowest-none`
+//   Steps     a rank's step is inside the array: `step_inside`, and has no other rank: `rank_apart`
+//   Order     the steps of the ranks are Run's order: `in_order_lem`, and the lowest ready step is that of the lowest rank: `lowest_some`,
+//             `lowest_none`
 
 #![tactic(auto)]
 
 ghost use Rattle.std.specs.Prelude.{◌≡◌, ◌≤◌, ◌<◌};
-ghost use Rattle.step_order.specs.Ranks.{Sized, rank_count, name_at, process_name, take_rank, fire_rank, give_rank};
+ghost use Rattle.step_order.specs.Ranks.{Sized, rank_count, step_at, process_step, take_rank, fire_rank, give_rank};
 
+use meaning::Step;
 use port_table::Size;
-
-// A step by its kind, its process or pipe, and its stream (0 where it has none).
-#[derive(Clone, Copy)]
-pub struct Name {
-    pub kind: u32,
-    pub number: usize,
-    pub stream: usize,
-}
 
 // How many steps have a rank.
 pub fn count(z: Size) -> usize
@@ -36,54 +29,33 @@ pub fn count(z: Size) -> usize
 }
 
 // The step of process p that stands at place o of its steps.
-fn process_name(z: Size, p: usize, o: usize) -> Name
+fn process_step(z: Size, p: usize, o: usize) -> Step
     requires { Sized z }
-    ensures { result ≡ process_name z p o }
+    ensures { result ≡ process_step z p o }
 {
     if o < z.streams {
-        return Name {
-            kind: 1,
-            number: p,
-            stream: o,
-        };
-    }
-    if o == z.streams {
-        Name {
-            kind: 2,
-            number: p,
-            stream: 0,
-        }
+        Step::Take(p, o)
+    } else if o == z.streams {
+        Step::Fire(p)
     } else {
-        Name {
-            kind: 3,
-            number: p,
-            stream: o - z.streams - 1,
-        }
+        Step::Give(p, o - z.streams - 1)
     }
 }
 
 // The step of rank r.
-pub fn name_of(z: Size, r: usize) -> Name
+pub fn step_of(z: Size, r: usize) -> Step
     requires { (Sized z) × (r < rank_count z) }
-    ensures { result ≡ name_at z r }
+    ensures { result ≡ step_at z r }
 {
     if r < z.pipes {
-        return Name {
-            kind: 0,
-            number: r,
-            stream: 0,
-        };
+        return Step::Send(r);
     }
     let width = 2 * z.streams + 1;
     let k = r - z.pipes;
     if k < z.processes * width {
-        process_name(z, k / width, k % width)
+        process_step(z, k / width, k % width)
     } else {
-        Name {
-            kind: 4,
-            number: k - z.processes * width,
-            stream: 0,
-        }
+        Step::Receive(k - z.processes * width)
     }
 }
 

@@ -1,6 +1,8 @@
 -- Port tables, programs and steps that fit. Assumes nothing.
-use Rattle.std.specs.Prelude.{◌≡◌, refl, ◌⊎◌, true, List, ℕ, zero, suc, ◌≤◌, ◌<◌, length, get_or}
+use Rattle.std.specs.Prelude.{◌≡◌, refl, true, List, ℕ, zero, suc, ◌≤◌, ◌<◌, length, get_or}
 use Rattle.std.proofs.Common.{arith}
+use Rattle.meaning.specs.declared.Step.{Step}
+use Rattle.meaning.specs.declared.Step.TheVariants.{Send, Take, Fire, Give, Receive}
 use Rattle.meaning.specs.Loops.{increment}
 use Rattle.meaning.specs.Space.{processes, count}
 use Rattle.numbering.specs.Ranges.{Bounded}
@@ -14,11 +16,13 @@ use Rattle.port_table.specs.PortsOf.{port_at, ports_at, RowsFit}
 use Rattle.instances.specs.Runs.{Runs}
 use Rattle.step_rules.specs.declared.Program.{Program}
 
--- the number of a step is that of a pipe or of a process, and a take or a give has a stream
-pub record Inside (z : Size) (kind number stream : ℕ) : Type 0 where
-  pub pipe : (kind ≡ 0) ⊎ (3 < kind) → number < z.pipes
-  pub process : 0 < kind → kind < 4 → number < z.processes
-  pub port : (kind ≡ 1) ⊎ (kind ≡ 3) → stream < z.streams
+-- a send and a receive are of a pipe, a fire is of a process, a take and a give are of a process and a stream
+abbrev pub Inside : Size → Step → Type 0
+Inside z (Send q) = q < z.pipes
+Inside z (Take p i) = (p < z.processes) × (i < z.streams)
+Inside z (Fire p) = p < z.processes
+Inside z (Give p i) = (p < z.processes) × (i < z.streams)
+Inside z (Receive q) = q < z.pipes
 
 -- what the processes of a port table run
 pub record Programmed (g : Program) (spans b : List ℕ) (z : Size) : Type 0 where

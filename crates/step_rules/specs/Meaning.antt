@@ -1,7 +1,7 @@
 -- By the port table of an array, a step is ready where the code says so, and does what the code does. Assumes nothing.
-use Rattle.std.specs.Prelude.{◌≡◌, refl, List, ℕ, zero, suc, ◌≤◌, ◌<◌, take}
-use Rattle.std.proofs.Math.Path.{sym, ap}
-use Rattle.std.proofs.Common.{◌∙◌, inl, inr, arith, ltb-true}
+use Rattle.std.specs.Prelude.{◌≡◌, refl, List, ℕ, ◌≤◌, ◌<◌, take}
+use Rattle.std.proofs.Math.Path.{ap}
+use Rattle.std.proofs.Common.{◌∙◌, arith, ltb-true}
 use Rattle.std.proofs.Math.Bool.{true}
 use Rattle.meaning.specs.Array.{Array, process_count, pipe_number, count_at, instance_at, on_pipe}
 use Rattle.meaning.specs.State.{Firings, index, read}
@@ -22,27 +22,8 @@ use Rattle.sound_rows.specs.Rows.{take_row, give_row, process_rows}
 use Rattle.port_table.specs.declared.Size.{Size}
 use Rattle.port_table.specs.PortsOf.{port_at, ports_at, end_at, SizeOf, PortsOf}
 use Rattle.step_rules.specs.declared.Program.{Program}
-use Rattle.step_rules.specs.Steps.{by_kind, by_last, can_by, act_by}
+use Rattle.step_rules.specs.Steps.{can_by, act_by}
 use Rattle.step_rules.specs.Fits.{Inside, ports_at_lem}
-
--- the step of a name
-abbrev pub step_named : ℕ → ℕ → ℕ → Step
-step_named kind number stream = by_kind kind (Send number) (Take number stream) (Fire number) (Give number stream) (Receive number)
-
--- what is known of a kind
-pub data Kind : ℕ → Type 0 where
-  is_send : Kind 0
-  is_take : Kind 1
-  is_fire : Kind 2
-  is_give : Kind 3
-  is_receive_lem : (k : ℕ) → 3 < k → Kind k
-
-pub kind_of : (k : ℕ) → Kind k
-kind_of zero = is_send
-kind_of (suc zero) = is_take
-kind_of (suc (suc zero)) = is_fire
-kind_of (suc (suc (suc zero))) = is_give
-kind_of (suc (suc (suc (suc k)))) = is_receive_lem (suc (suc (suc (suc k)))) (omega arith)
 
 -- the port table of an array
 pub record Stands (A : Array) (b : List ℕ) (z : Size) : Type 0 where
@@ -69,26 +50,14 @@ module _ {A : Array} {b : List ℕ} {z : Size} (s : Stands A b z) where
     abbrev st : List ℕ
     st = M.state
 
-    pub can_is : (kind number stream : ℕ) → Inside z kind number stream
-        → can_by b st z.streams kind number stream ≡ ready A st (step_named kind number stream)
+    pub can_is : (a : Step) → Inside z a → can_by b st z.streams a ≡ ready A st a
     unfolding can_by
-    can_is kind number stream i = go (kind_of kind) i
-      where
-        go : {k : ℕ} → Kind k → Inside z k number stream → can_by b st z.streams k number stream ≡ ready A st (step_named k number stream)
-        go is_send i =
-            let h : number < pipe_number A = omega (arith, i.pipe (inl refl), s.size.pipes) in
-            send_tested A M t number h (end_at b number) (s.table.ends number h)
-        go is_take i =
-            ap (can_take st) (port_row_lem number stream (i.process (omega arith) (omega arith)) (i.port (inl refl)))
-            ∙ take_row A number stream M t
-        go is_fire i = fire_tested A M number (ports_at b number) z.streams (process_is number (i.process (omega arith) (omega arith)))
-        go is_give i =
-            ap (can_give st) (port_row_lem number stream (i.process (omega arith) (omega arith)) (i.port (inr refl)))
-            ∙ give_row A number stream M t
-        go (is_receive_lem k l) i =
-            let h : number < pipe_number A = omega (arith, i.pipe (inr l), s.size.pipes) in
-            by_last k l _ _ _ _ _ ∙ receive_tested A M t number h (end_at b number) (s.table.ends number h)
-            ∙ sym (ap (ready A st) (by_last k l (Send number) (Take number stream) (Fire number) (Give number stream) (Receive number)))
+    can_is (Send q) h = let l : q < pipe_number A = omega (arith, s.size.pipes) in send_tested A M t q l (end_at b q) (s.table.ends q l)
+    can_is (Take p i) h = ap (can_take st) (port_row_lem p i h.0 h.1) ∙ take_row A p i M t
+    can_is (Fire p) h = fire_tested A M p (ports_at b p) z.streams (process_is p h)
+    can_is (Give p i) h = ap (can_give st) (port_row_lem p i h.0 h.1) ∙ give_row A p i M t
+    can_is (Receive q) h =
+        let l : q < pipe_number A = omega (arith, s.size.pipes) in receive_tested A M t q l (end_at b q) (s.table.ends q l)
 
     -- the instance that process p runs next
     next_is : (g : Program) → Performs A g → (p : ℕ) → p < z.processes → ready A st (Fire p) ≡ true
@@ -98,30 +67,17 @@ module _ {A : Array} {b : List ℕ} {z : Size} (s : Stands A b z) where
         ap (λ (i : ℕ). run_at g.nest (process_of g.nest p) (word st i)) e
         ∙ o.instances p (read A st (Firings p)) (omega (arith, h, s.size.processes)) (ltb-true _ _ (both_true _ _ r).0)
 
-    pub act_is : (g : Program) → Performs A g → (kind number stream : ℕ) → Inside z kind number stream
-        → ready A st (step_named kind number stream) ≡ true
-        → act_by g z.streams b M kind number stream ≡ apply A M (step_named kind number stream)
+    pub act_is : (g : Program) → Performs A g → (a : Step) → Inside z a → ready A st a ≡ true → act_by g z.streams b M a ≡ apply A M a
     unfolding act_by
-    act_is g o kind number stream i r = go (kind_of kind) i r
-      where
-        go : {k : ℕ} → Kind k → Inside z k number stream → ready A st (step_named k number stream) ≡ true
-            → act_by g z.streams b M k number stream ≡ apply A M (step_named k number stream)
-        go is_send i r =
-            let h : number < pipe_number A = omega (arith, i.pipe (inl refl), s.size.pipes) in
-            send_applied A M t number h (end_at b number) (s.table.ends number h) s.regular r
-        go is_take i r =
-            let on : on_pipe A number stream ≡ true = (both_true _ _ r).0 in
-            take_applied A M t number stream on (port_at b number stream)
-            (port_row_lem number stream (i.process (omega arith) (omega arith)) (i.port (inl refl)) ∙ row_on A number stream on)
-        go is_fire i r =
-            let h = i.process (omega arith) (omega arith) in
-            fire_applied A M number (ports_at b number) z.streams (process_is number h) _ _ o.lines (next_is g o number h r)
-        go is_give i r =
-            let on : on_pipe A number stream ≡ true = (both_true _ _ r).0 in
-            give_applied A M t number stream on (port_at b number stream)
-            (port_row_lem number stream (i.process (omega arith) (omega arith)) (i.port (inr refl))
-            ∙ row_on A number stream on) s.regular r
-        go (is_receive_lem k l) i r =
-            let h : number < pipe_number A = omega (arith, i.pipe (inr l), s.size.pipes) in
-            by_last k l _ _ _ _ _ ∙ receive_applied A M t number h (end_at b number) (s.table.ends number h)
-            ∙ sym (ap (apply A M) (by_last k l (Send number) (Take number stream) (Fire number) (Give number stream) (Receive number)))
+    act_is g o (Send q) h r =
+        let l : q < pipe_number A = omega (arith, s.size.pipes) in
+        send_applied A M t q l (end_at b q) (s.table.ends q l) s.regular r
+    act_is g o (Take p i) h r =
+        let on : on_pipe A p i ≡ true = (both_true _ _ r).0 in
+        take_applied A M t p i on (port_at b p i) (port_row_lem p i h.0 h.1 ∙ row_on A p i on)
+    act_is g o (Fire p) h r = fire_applied A M p (ports_at b p) z.streams (process_is p h) _ _ o.lines (next_is g o p h r)
+    act_is g o (Give p i) h r =
+        let on : on_pipe A p i ≡ true = (both_true _ _ r).0 in
+        give_applied A M t p i on (port_at b p i) (port_row_lem p i h.0 h.1 ∙ row_on A p i on) s.regular r
+    act_is g o (Receive q) h r =
+        let l : q < pipe_number A = omega (arith, s.size.pipes) in receive_applied A M t q l (end_at b q) (s.table.ends q l)

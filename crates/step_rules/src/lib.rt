@@ -1,5 +1,4 @@
-// A step by the port table of its array: whether it is ready, and what it does. A step is named as in document 01's call Step: by its kind
-// (0 send, 1 take, 2 fire, 3 give, 4 receive), a process or pipe number, and a stream.
+// A step by the port table of its array: whether it is ready, and what it does.
 //
 // specs/, by file:
 //
@@ -21,7 +20,7 @@ ghost use Rattle.step_rules.specs.Fits.{Inside, Programmed};
 
 use fire::can_use;
 use integers::V3;
-use meaning::{Line, Nest};
+use meaning::{Line, Nest, Step};
 use port_table::Size;
 use send_receive::{can_receive, can_send, receive, send};
 use survey::Survey;
@@ -41,13 +40,11 @@ pub fn program_of(v: Survey) -> Program
     requires { GroundOf v.description.nest v.ground }
     ensures { (result ≡ program_of v.description) × (Within 200 result.increment) }
 {
-    let n = v.description.nest;
-    let increment = v.ground.increment;
     let lines = v.description.lines;
     Program {
-        nest: n,
-        increment: increment,
-        lines: lines,
+        nest: v.description.nest,
+        increment: v.ground.increment,
+        lines,
         count: v.description.sizes.lines,
     }
 }
@@ -57,11 +54,8 @@ fn can_use_all(ports: &[u32], state: &[u32], z: Size, p: usize) -> bool
     requires { (RowsFit (length state.now) ports.now z) × (p < z.processes) }
     ensures { result ≡ every (can_use state.now) (take z.streams (ports_at ports.now p)) }
 {
-    let mut i = 0;
-    while i < z.streams {
-        if can_use(state, port_table::port(ports, p, i)) {
-            i += 1;
-        } else {
+    for i in 0..z.streams {
+        if !can_use(state, port_table::port(ports, p, i)) {
             return false;
         }
     }
@@ -74,24 +68,21 @@ pub fn can_fire(ports: &[u32], state: &[u32], z: Size, p: usize) -> bool
     ensures { result ≡ can_fire state.now (ports_at ports.now p) z.streams }
 {
     let k = port_table::port(ports, p, 0);
-    if ports::word(state, k.fired) < k.count {
-        can_use_all(ports, state, z, p)
-    } else {
-        false
-    }
+    ports::word(state, k.fired) < k.count && can_use_all(ports, state, z, p)
 }
 
 // Whether the step is ready.
-pub fn can(ports: &[u32], state: &[u32], z: Size, kind: u32, number: usize, stream: usize) -> bool
-    requires { (RowsFit (length state.now) ports.now z) × (Inside z kind number stream) }
-    ensures { result ≡ can_by ports.now state.now z.streams kind number stream }
+#[tactic(auto, unfolding(crate::specs::Steps::can_by))]
+pub fn can(ports: &[u32], state: &[u32], z: Size, step: Step) -> bool
+    requires { (RowsFit (length state.now) ports.now z) × (Inside z step) }
+    ensures { result ≡ can_by ports.now state.now z.streams step }
 {
-    match kind {
-        0 => can_send(state, port_table::end(ports, number)),
-        1 => can_take(state, port_table::port(ports, number, stream)),
-        2 => can_fire(ports, state, z, number),
-        3 => can_give(state, port_table::port(ports, number, stream)),
-        _ => can_receive(state, port_table::end(ports, number)),
+    match step {
+        Step::Send(q) => can_send(state, port_table::end(ports, q)),
+        Step::Take(p, i) => can_take(state, port_table::port(ports, p, i)),
+        Step::Fire(p) => can_fire(ports, state, z, p),
+        Step::Give(p, i) => can_give(state, port_table::port(ports, p, i)),
+        Step::Receive(q) => can_receive(state, port_table::end(ports, q)),
     }
 }
 
@@ -105,35 +96,32 @@ fn fire(g: Program, ports: &[u32], spans: &[u32], z: Size, p: usize, state: &mut
     let k = own[0];
     let f = ports::word(state, k.fired);
     let x = instances::instance_of(g.nest, g.increment, spans, p, f);
-    let lines = g.lines;
-    fire::fire(state, own, z.streams, x, lines, g.count);
+    fire::fire(state, own, z.streams, x, g.lines, g.count);
 }
 
 // A ready step is done.
+#[tactic(auto, unfolding(crate::specs::Steps::can_by, crate::specs::Steps::act_by))]
 pub fn act(
     g: Program,
     ports: &[u32],
     spans: &[u32],
     z: Size,
-    kind: u32,
-    number: usize,
-    stream: usize,
+    step: Step,
     waiting: &[u32],
     received: &mut [u32],
     state: &mut [u32],
 )
-    requires { (RowsFit (length state.old) ports.now z) × (Programmed g spans.now ports.now z) × (Inside z kind number stream)
+    requires { (RowsFit (length state.old) ports.now z) × (Programmed g spans.now ports.now z) × (Inside z step)
         × (PartsFit (length waiting.now) ports.now z) × (PartsFit (length received.old) ports.now z)
-        × (can_by ports.now state.old z.streams kind number stream ≡ true) }
+        × (can_by ports.now state.old z.streams step ≡ true) }
     ensures { memory_of waiting.now received.new state.new
-        ≡ act_by g z.streams ports.now
-        (memory_of waiting.now received.old state.old) kind number stream }
+        ≡ act_by g z.streams ports.now (memory_of waiting.now received.old state.old) step }
 {
-    match kind {
-        0 => send(state, waiting, port_table::end(ports, number)),
-        1 => take(state, port_table::port(ports, number, stream)),
-        2 => fire(g, ports, spans, z, number, state),
-        3 => give(state, port_table::port(ports, number, stream)),
-        _ => receive(state, received, port_table::end(ports, number)),
+    match step {
+        Step::Send(q) => send(state, waiting, port_table::end(ports, q)),
+        Step::Take(p, i) => take(state, port_table::port(ports, p, i)),
+        Step::Fire(p) => fire(g, ports, spans, z, p, state),
+        Step::Give(p, i) => give(state, port_table::port(ports, p, i)),
+        Step::Receive(q) => receive(state, received, port_table::end(ports, q)),
     }
 }

@@ -1,8 +1,7 @@
 -- What Table leaves in lent words. It is lent as many rows as fit into them. Assumes nothing.
-use Rattle.std.specs.Prelude.{◌≡◌, refl, Bool, true, false, cond, List, [], map, ℕ, zero, suc, ◌*◌, ◌/◌, ◌≤◌, eqb, length, replicate}
-use Rattle.std.proofs.Common.{sym, ◌∙◌, ap, arith, eqb-true, ne_eqb}
+use Rattle.std.specs.Prelude.{◌≡◌, refl, Bool, cond, List, [], map, ℕ, zero, suc, ◌*◌, ◌/◌, ◌≤◌, eqb, length, replicate}
+use Rattle.std.proofs.Common.{sym, ◌∙◌, ap, arith, eq-eqb, ne_eqb}
 use Rattle.std.proofs.lemmas.List.{length-map, length-replicate}
-use Rattle.std.proofs.lemmas.Bool.{eqb-false}
 use Rattle.integers.specs.Vectors.{zero2}
 use Rattle.integers.specs.declared.V2.{V2}
 use Rattle.meaning.specs.declared.Row.{Row}
@@ -40,33 +39,36 @@ unfolding table
 table_number_lem l s k =
     number_is (refused_for l s (length (replicate k marked))) ∙ ap (refused_for l s) (length-replicate {A = Row} k marked)
 
--- what the columns for as many rows as fit leave
-module _ {l : Limits} {s : List ℕ} (n : ℕ) {h : Shape} {w : List ℕ} (g : Columns l s (n / 21) h w) where
-  pub columns_number : h.refusal ≡ table_number l s n
-  columns_number = g.refused ∙ sym (table_number_lem l s (n / 21))
+module _ (l : Limits) (s : List ℕ) (n : ℕ) where
+  pub number_for : refused_for l s (n / 21) ≡ table_number l s n
+  number_for = sym (table_number_lem l s (n / 21))
 
-  pub columns_fit : 21 * h.rows ≤ n
-  columns_fit = omega (arith, g.enough)
+  -- a declined call leaves the words as they were
+  pub none_left : (refused_for l s (n / 21) ≡ 0 → ⊥) → (words : List ℕ) → words ≡ laid (table_words l s n) words
+  none_left f words =
+      let e : table_words l s n ≡ [] =
+      ap (λ (b : Bool). cond b (rows_words (rows_for l s)) []) (ne_eqb (table_number l s n) 0 (λ z. f (number_for ∙ z))) in
+      ap (λ (ws : List ℕ). laid ws words) (sym e)
 
-  -- a row for each process, or none
-  words_are : words_of (row_from h w) h.rows ≡ table_words l s n
-  words_are = go (eqb (table_number l s n) 0) refl
-    where
-      ps : List V2
-      ps = processes (description_of s).nest
+  -- the columns for as many rows as fit, where it is not declined
+  module _ {h : Shape} {w : List ℕ} (g : Columns (description_of s) (n / 21) h w) where
+    pub columns_fit : 21 * h.rows ≤ n
+    columns_fit = omega (arith, g.enough)
 
-      go : (b : Bool) → eqb (table_number l s n) 0 ≡ b → words_of (row_from h w) h.rows ≡ cond b (rows_words (rows_for l s)) []
-      go true e =
-          let z = columns_number ∙ eqb-true _ 0 e in
-          let many : h.rows ≡ length (rows_for l s) = (g.drawn z).shaped.rows ∙ sym (length-map ps (row_of l s)) in
-          ap (words_of (row_from h w)) many
-          ∙ words_rows (row_from h w) (rows_for l s) (row_of l s zero2)
-          (λ p k. columns_row g z p (omega (arith, many))
-          ∙ sym (map_at (row_of l s) ps p zero2 (row_of l s zero2) (omega (arith, length-map ps (row_of l s)))))
-      go false e =
-          ap (words_of (row_from h w)) (g.none (λ z. eqb-false _ 0 e (sym columns_number ∙ z))) ∙ words_none (row_from h w)
+    -- a row for each process
+    words_are : refused_for l s (n / 21) ≡ 0 → words_of (row_from h w) h.rows ≡ table_words l s n
+    words_are z =
+        let many : h.rows ≡ length (rows_for l s) = g.drawn.shaped.rows ∙ sym (length-map ps (row_of l s)) in
+        ap (words_of (row_from h w)) many
+        ∙ words_rows (row_from h w) (rows_for l s) (row_of l s zero2)
+        (λ p k. columns_row s g l p (omega (arith, many))
+        ∙ sym (map_at (row_of l s) ps p zero2 (row_of l s zero2) (omega (arith, length-map ps (row_of l s)))))
+        ∙ sym (ap (λ (b : Bool). cond b (rows_words (rows_for l s)) []) (eq-eqb (table_number l s n) 0 (sym number_for ∙ z)))
+      where
+        ps : List V2
+        ps = processes (description_of s).nest
 
-  -- the words afterwards, as the code comes by them
-  pub columns_left : {out : List ℕ} (words : List ℕ) → out ≡ laid (words_of (row_from h w) h.rows) words
-      → out ≡ laid (table_words l s n) words
-  columns_left words e = e ∙ ap (λ (ws : List ℕ). laid ws words) words_are
+    -- the words afterwards, as the code comes by them
+    pub columns_left : refused_for l s (n / 21) ≡ 0 → {out : List ℕ} (words : List ℕ)
+        → out ≡ laid (words_of (row_from h w) h.rows) words → out ≡ laid (table_words l s n) words
+    columns_left z words e = e ∙ ap (λ (ws : List ℕ). laid ws words) (words_are z)

@@ -8,6 +8,7 @@
 #![tactic(auto)]
 
 ghost use Rattle.std.specs.Prelude.{◌≡◌, ℕ, ◌*◌, ◌≤◌, ◌<◌, length};
+ghost use Rattle.refusals.specs.Numbers.{refusal_number};
 ghost use Rattle.meaning.specs.Limits.{limits_of};
 ghost use Rattle.process_row.specs.Rows.{row_from, Readable};
 ghost use Rattle.table_words.specs.Words.{laid, bits3, row_words, words_of};
@@ -16,6 +17,7 @@ ghost use Rattle.table_words.specs.Lent.{table_number, table_words};
 use integers::{V3, bits_of};
 use meaning::Row;
 use process_row::{COLUMNS, Shape};
+use refusals::Refusal;
 
 // The words of a row.
 const ROW_WORDS: usize = 21;
@@ -67,23 +69,20 @@ fn put_rows(shape: Shape, columns: &[u32; COLUMNS], words: &mut [u32])
     requires { (21 * shape.rows ≤ length words.old) × ((p : ℕ) → p < shape.rows → Readable shape columns.now p) }
     ensures { words.new ≡ laid (words_of (row_from shape columns.now) shape.rows) words.old }
 {
-    let count = shape.rows;
-    let mut p: usize = 0;
-    while p < count {
+    for p in 0..shape.rows {
         let row = row_words(process_row::row_at(shape, columns, p));
         words::store(words, ROW_WORDS * p, &row);
-        p += 1;
     }
 }
 
 // The rows, 21 words each; 18 if fewer fit than there are processes.
-pub fn table_words(board: u32, bytes: &[u8], words: &mut [u32]) -> u32
-    ensures { (result ≡ table_number (limits_of board) bytes.now (length words.old))
+pub fn table_words(board: u32, bytes: &[u8], words: &mut [u32]) -> Result<(), Refusal>
+    ensures { (refusal_number result ≡ table_number (limits_of board) bytes.now (length words.old))
         × (words.new
         ≡ laid (table_words (limits_of board) bytes.now (length words.old)) words.old) }
 {
     let mut columns = [0u32; COLUMNS];
-    let shape = table::fill_columns(bytes, board, words.len() / ROW_WORDS, &mut columns);
+    let shape = table::fill_columns(bytes, board, words.len() / ROW_WORDS, &mut columns)?;
     put_rows(shape, &columns, words);
-    shape.refusal
+    Ok(())
 }

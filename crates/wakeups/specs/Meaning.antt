@@ -19,11 +19,11 @@ use Rattle.network.specs.Ready.{There}
 use Rattle.network.proofs.States.{sound_kept}
 use Rattle.nearby.specs.Nearby.{counter, foreign, Moves, sends, takes, gives, receives, counter_below, stays}
 use Rattle.nearby.specs.Apart.{foreign_below, foreign_apart}
-use Rattle.step_order.specs.Ranks.{rank_count, named, name_at, step_at}
-use Rattle.step_order.specs.Names.{send_name, take_name, fire_name, give_name, receive_name}
-use Rattle.step_order.proofs.Names.{name_inside, rank_apart}
-use Rattle.step_order.specs.Names.{Ranked, send, take, fire, give, receive}
-use Rattle.step_order.proofs.Names.{ranked}
+use Rattle.step_order.specs.Ranks.{rank_count, step_at}
+use Rattle.step_order.specs.Steps.{send_step, take_step, fire_step, give_step, receive_step}
+use Rattle.step_order.proofs.Steps.{step_inside, rank_apart}
+use Rattle.step_order.specs.Steps.{Ranked, send, take, fire, give, receive}
+use Rattle.step_order.proofs.Steps.{ranked}
 use Rattle.wakeups.specs.Wakeups.{none, foreign_by, counter_by, can_at, Apart, WakeupsOf, Local}
 
 -- ---- the rows of a wired array
@@ -59,17 +59,17 @@ module _ {A : Array} (W : Wired A) {b : List ℕ} {z : Size} (s : Stands A b z) 
     where
       go : Ranked z r → Looking A b z r
       go (send q l e) =
-          let d : name_at z r ≡ named 0 q 0 = rw e (send_name z q l) in
+          let d : step_at z r ≡ Send q = rw e (send_step z q l) in
           let t = end_row q l in
-          moves {a = Send q} (rw d refl) t.0 sends (rw d (ap (λ (k : End). k.after) t.1)) (rw d (ap (λ (k : End). k.sent) t.1))
+          moves {a = Send q} d t.0 sends (rw d (ap (λ (k : End). k.after) t.1)) (rw d (ap (λ (k : End). k.sent) t.1))
       go (receive q l e) =
-          let d : name_at z r ≡ named 4 q 0 = rw e (receive_name z q) in
+          let d : step_at z r ≡ Receive q = rw e (receive_step z q) in
           let t = end_row q l in
-          moves {a = Receive q} (rw d refl) t.0 receives (rw d (ap (λ (k : End). k.before) t.1))
+          moves {a = Receive q} d t.0 receives (rw d (ap (λ (k : End). k.before) t.1))
           (rw d (ap (λ (k : End). k.received) t.1))
       go (fire p l e) =
-          let d : name_at z r ≡ named 2 p 0 = rw e (fire_name z p l) in
-          fires p (rw d refl) (omega (arith, s.size.processes)) (rw d refl)
+          let d : step_at z r ≡ Fire p = rw e (fire_step z p l) in
+          fires p d (omega (arith, s.size.processes)) (rw d refl)
           (rw d (ap (λ (k : Port). k.fired) (port_row_lem p 0 l s.size.some) ∙ fired_at (on_pipe A p 0) refl))
         where
           fired_at : (t : Bool) → on_pipe A p 0 ≡ t → (row_of A p 0).fired ≡ index A (Firings p)
@@ -77,32 +77,32 @@ module _ {A : Array} (W : Wired A) {b : List ℕ} {z : Size} (s : Stands A b z) 
           fired_at false e = rw (row_off A p 0 e) refl
       go (take p i l m e) = on (on_pipe A p i) refl
         where
-          d : name_at z r ≡ named 1 p i
-          d = rw e (take_name z p i l m)
+          d : step_at z r ≡ Take p i
+          d = rw e (take_step z p i l m)
 
           on : (t : Bool) → on_pipe A p i ≡ t → Looking A b z r
           on true e =
               let t = port_row_lem p i l m ∙ row_on A p i e in
-              moves {a = Take p i} (rw d refl) e takes
+              moves {a = Take p i} d e takes
               (rw d (ap (λ (k : Port). cond (ltb 0 k.hop) k.before none) t ∙ rw (some_on W p i e) refl))
               (rw d (ap (λ (k : Port). k.at) t ∙ ap₂ (λ (p i : ℕ). index A (Taken p i)) (process_is A p i e) (stream_is A p i e)))
           on false e =
               let t = port_row_lem p i l m ∙ row_off A p i e in
-              never {a = Take p i} (rw d refl) (λ st. rw e refl) (rw d (ap (λ (k : Port). cond (ltb 0 k.hop) k.before none) t))
+              never {a = Take p i} d (λ st. rw e refl) (rw d (ap (λ (k : Port). cond (ltb 0 k.hop) k.before none) t))
       go (give p i l m e) = on (on_pipe A p i) refl
         where
-          d : name_at z r ≡ named 3 p i
-          d = rw e (give_name z p i l m)
+          d : step_at z r ≡ Give p i
+          d = rw e (give_step z p i l m)
 
           on : (t : Bool) → on_pipe A p i ≡ t → Looking A b z r
           on true e =
               let t = port_row_lem p i l m ∙ row_on A p i e in
-              moves {a = Give p i} (rw d refl) e gives
+              moves {a = Give p i} d e gives
               (rw d (ap (λ (k : Port). cond (ltb 0 k.hop) k.after none) t ∙ rw (some_on W p i e) refl))
               (rw d (ap (λ (k : Port). k.at + 1) t ∙ ap₂ (λ (p i : ℕ). index A (Taken p i) + 1) (process_is A p i e) (stream_is A p i e)))
           on false e =
               let t = port_row_lem p i l m ∙ row_off A p i e in
-              never {a = Give p i} (rw d refl) (λ st. rw e refl) (rw d (ap (λ (k : Port). cond (ltb 0 k.hop) k.after none) t))
+              never {a = Give p i} d (λ st. rw e refl) (rw d (ap (λ (k : Port). cond (ltb 0 k.hop) k.after none) t))
 
   module _ (few : word_count A ≤ none) where
     pub apart : Apart b z
@@ -120,7 +120,7 @@ module _ {A : Array} (W : Wired A) {b : List ℕ} {z : Size} (s : Stands A b z) 
         (r : ℕ) (h : r < rank_count z) (can : can_at b M.state z r ≡ true) where
       can_ready : (M : Memory) → sound A M.state ≡ true → (x : ℕ) → x < rank_count z
           → can_at b M.state z x ≡ ready A M.state (step_at z x)
-      can_ready M t x l = can_is s M t _ _ _ (name_inside z x l)
+      can_ready M t x l = can_is s M t (step_at z x) (step_inside z x l)
 
       -- the step that is done
       abbrev done : Step
@@ -137,8 +137,8 @@ module _ {A : Array} (W : Wired A) {b : List ℕ} {z : Size} (s : Stands A b z) 
       counting = go (looking r h)
         where
           go : Looking A b z r → Counting
-          go (moves i t m f c) = record { there = rw i t; counts = rw i c }
-          go (fires p i t f c) = record { there = rw i t; counts = rw i c }
+          go (moves i t m f c) = record { there = rw i t; counts = c ∙ ap (counter A) (sym i) }
+          go (fires p i t f c) = record { there = rw i t; counts = c ∙ ap (counter A) (sym i) }
           go (never i n f) = absurd (true≢false (sym is_ready ∙ ap (ready A M.state) i ∙ n M.state))
 
       next_sound : sound A (apply A M done).state ≡ true
@@ -154,7 +154,7 @@ module _ {A : Array} (W : Wired A) {b : List ℕ} {z : Size} (s : Stands A b z) 
 
           go : Looking A b z x → ready A (apply A M done).state (step_at z x) ≡ ready A M.state (step_at z x)
           go (moves {a} i h m f c) =
-              let e : foreign_by b z x ≡ foreign A (step_at z x) = rw i f in
+              let e : foreign_by b z x ≡ foreign A (step_at z x) = f ∙ ap (foreign A) (sym i) in
               let below : foreign_by b z x < none = omega (arith, f, foreign_below W m h) in
               one (rw i h) (λ d. far (ap (λ (j : ℕ). get_or w j 0) (counting.counts ∙ sym d ∙ sym e) ∙ table.wakes x l below))
           go (fires p i h f c) =

@@ -1,40 +1,44 @@
 -- The word that a step counts up, and the neighbour's word that it looks at, by the rows of a port table. Assumes nothing.
 use Rattle.std.specs.Prelude.{◌≡◌, refl, Bool, true, false, cond, ◌&&◌, List, ℕ, suc, ◌+◌, ◌≤◌, ◌<◌, ltb, length, get_or}
 use Rattle.std.proofs.Common.{arith, lt-ltb, le-ltb, ltb-true}
+use Rattle.meaning.specs.declared.Step.{Step}
+use Rattle.meaning.specs.declared.Step.TheVariants.{Send, Take, Fire, Give, Receive}
 use Rattle.meaning.specs.Limits.{state_words_most}
 use Rattle.port_table.specs.declared.Size.{Size}
 use Rattle.port_table.specs.PortsOf.{port_at, end_at}
-use Rattle.step_rules.specs.Steps.{by_kind, can_by}
+use Rattle.step_rules.specs.Steps.{can_by}
 use Rattle.nearby.specs.Nearby.{Own}
-use Rattle.step_order.specs.Ranks.{rank_count, name_at, step_at}
+use Rattle.step_order.specs.Ranks.{rank_count, step_at}
 
 -- no word
 abbrev pub none : ℕ
 none = state_words_most
 
 -- the neighbour's word of a step; a port off every pipe has no neighbour
-abbrev pub foreign_named : List ℕ → ℕ → ℕ → ℕ → ℕ
-foreign_named b kind number stream =
-    let k = port_at b number stream in
-    let e = end_at b number in
-    by_kind kind e.after (cond (ltb 0 k.hop) k.before none) none (cond (ltb 0 k.hop) k.after none) e.before
+abbrev pub foreign_word : List ℕ → Step → ℕ
+foreign_word b (Send q) = (end_at b q).after
+foreign_word b (Take p i) = let k = port_at b p i in cond (ltb 0 k.hop) k.before none
+foreign_word b (Fire p) = none
+foreign_word b (Give p i) = let k = port_at b p i in cond (ltb 0 k.hop) k.after none
+foreign_word b (Receive q) = (end_at b q).before
 
 abbrev pub foreign_by : List ℕ → Size → ℕ → ℕ
-foreign_by b z r = foreign_named b (name_at z r).kind (name_at z r).number (name_at z r).stream
+foreign_by b z r = foreign_word b (step_at z r)
 
 -- the word that it counts up
-abbrev pub counter_named : List ℕ → ℕ → ℕ → ℕ → ℕ
-counter_named b kind number stream =
-    let k = port_at b number stream in
-    let e = end_at b number in
-    by_kind kind e.sent k.at (port_at b number 0).fired (k.at + 1) e.received
+abbrev pub counter_word : List ℕ → Step → ℕ
+counter_word b (Send q) = (end_at b q).sent
+counter_word b (Take p i) = (port_at b p i).at
+counter_word b (Fire p) = (port_at b p 0).fired
+counter_word b (Give p i) = (port_at b p i).at + 1
+counter_word b (Receive q) = (end_at b q).received
 
 abbrev pub counter_by : List ℕ → Size → ℕ → ℕ
-counter_by b z r = counter_named b (name_at z r).kind (name_at z r).number (name_at z r).stream
+counter_by b z r = counter_word b (step_at z r)
 
 -- whether the step of a rank is ready; the flag of a number
 abbrev pub can_at : List ℕ → List ℕ → Size → ℕ → Bool
-can_at b st z r = can_by b st z.streams (name_at z r).kind (name_at z r).number (name_at z r).stream
+can_at b st z r = can_by b st z.streams (step_at z r)
 
 abbrev pub flag_at : List ℕ → List ℕ → Size → ℕ → Bool
 flag_at b st z r = ltb r (rank_count z) && can_at b st z r

@@ -53,7 +53,12 @@ pub fn survey_within(s: &[u8], limits: Limits, spans: &mut [u32; SPANS]) -> Resu
 }
 
 // The same on a board, and so of the words of the walk.
-pub fn walk_of(board: u32, s: &[u8], spans: &mut [u32; SPANS], walk: &mut [i8; WALK]) -> Result<Survey, Refusal>
+pub fn walk_of(
+    board: u32,
+    s: &[u8],
+    spans: &mut [u32; SPANS],
+    walk: &mut [i8; WALK],
+) -> Result<Survey, Refusal>
     ensures number { refusal_number result ≡ walk_refusal (limits_of board) s.now }
     ensures surveyed { IfOk result (λ v. (SurveyOf s.now v) × (Spans v.description.nest spans.new) × (Along v.description.nest walk.new)) }
     ensures kept { OnErr result ((spans.new ≡ spans.old) × (walk.new ≡ walk.old)) }

@@ -1,11 +1,14 @@
 -- Where a pipe's part of the lists lies, the call's own refusals, and what the call answers. Assumes nothing.
-use Rattle.std.specs.Prelude.{◌≡◌, Bool, not, cond, ◌||◌, ℕ, zero, suc, ◌+◌, ◌-◌, ◌≤◌, ◌<◌, T, eqb, ltb, length, get_or, drop}
+use Rattle.std.specs.Prelude.{◌≡◌, Bool, not, cond, ◌||◌, ℕ, zero, suc, ◌+◌, ◌-◌, ◌≤◌, ◌<◌, eqb, ltb, length, get_or, drop}
+use Rattle.std.specs.Prelude.{Some, None, Result, Ok, Err, IfOk}
 use Rattle.std.proofs.Math.Path.{refl, ap}
 use Rattle.std.proofs.Common.{sym, ◌∙◌, subst, arith, length-append, ne_eqb, eq-eqb, lt-ltb, le-ltb}
 use Rattle.std.proofs.Math.Bool.{true, false}
 use mathlib.Core.List.{List, [], ◌∷◌, map}
 use Rattle.std.proofs.Math.Decide.{dec_le}
 use Rattle.std.proofs.Math.ListN.{take}
+use Rattle.refusals.specs.declared.Refusal.{Refusal}
+use Rattle.refusals.specs.Numbers.{refusal_number}
 use Rattle.meaning.specs.declared.Description.{Description}
 use Rattle.meaning.specs.declared.Limits.{Limits}
 use Rattle.meaning.specs.Lists.{total, each}
@@ -42,31 +45,17 @@ part_below f [] q z h = absurd (omega arith)
 part_below f (x ∷ l) zero z h = omega (arith, length-append (f x) (each f l))
 part_below f (x ∷ l) (suc q) z h = omega (arith, length-append (f x) (each f l), part_below f l q z (omega arith))
 
--- no part, and the part of a pipe unless the call is refused by n
-abbrev pub nothing : ℕ → Piece
-nothing n = record { refusal = n; from = 0; length = 0 }
-
-abbrev pub piece_of : Description → ℕ → ℕ → Piece
-piece_of d pipe n =
-    record {
-      refusal = n;
-      from = cond (eqb n 0) (part_start (array_of d) pipe) 0;
-      length = cond (eqb n 0) (elements_on (array_of d) pipe) 0;
-    }
-
-pub no_piece : (d : Description) (pipe n : ℕ) → (n ≡ 0 → ⊥) → nothing n ≡ piece_of d pipe n
-no_piece d pipe n f = rw (ne_eqb n 0 f) refl
+-- the part of a pipe
+abbrev pub piece_of : Description → ℕ → Piece
+piece_of d pipe = record { from = part_start (array_of d) pipe; length = elements_on (array_of d) pipe }
 
 -- it lies within lists of so many words
 pub record Within (r : Piece) (waiting received : ℕ) : Type 0 where
   pub in_waiting : r.from + r.length ≤ waiting
   pub in_received : r.from + r.length ≤ received
 
-pub nothing_within : (n waiting received : ℕ) → Within (nothing n) waiting received
-nothing_within n waiting received = record { in_waiting = omega arith; in_received = omega arith }
-
-same_piece : {a b : Piece} → a.refusal ≡ b.refusal → a.from ≡ b.from → a.length ≡ b.length → a ≡ b
-same_piece e f g = λ i. record { refusal = e i; from = f i; length = g i }
+pub same_piece : {a b : Piece} → a.from ≡ b.from → a.length ≡ b.length → a ≡ b
+same_piece f g = λ i. record { from = f i; length = g i }
 
 module _ (d : Description) (pipe : ℕ) {w : Search} (e : w ≡ searched (looking pipe 0) (all_lengths d.nest (streams_of d))) where
   abbrev A : Array
@@ -80,26 +69,30 @@ module _ (d : Description) (pipe : ℕ) {w : Search} (e : w ≡ searched (lookin
   by_array = e ∙ ap (searched (looking pipe 0)) (sym (pipe_lengths d.nest 0 0 (streams_of d)))
 
   -- the search that found has the part
-  pub found_piece : w.found ≡ true → {r : Piece} → r.refusal ≡ 0 → r.from ≡ w.start → r.length ≡ w.length
-      → r ≡ piece_of d pipe (cond (ltb pipe (pipe_number A)) 0 19)
-  found_piece t {r} u v x = go (dec_le (pipe_number A) pipe)
+  pub found_piece : {k : ℕ} → w.length ≡ Some k
+      → (ltb pipe (pipe_number A) ≡ true) × (w.start ≡ part_start A pipe) × (k ≡ elements_on A pipe)
+  found_piece {k} t = go (dec_le (pipe_number A) pipe)
     where
-      go : Dec (pipe_number A ≤ pipe) → r ≡ piece_of d pipe (cond (ltb pipe (pipe_number A)) 0 19)
-      go (yes k) = absurd (subst T (sym t ∙ ap (λ (w : Search). w.found) by_array ∙ misses length_in A.pipes pipe 0 k) tt)
-      go (no k) =
+      go : Dec (pipe_number A ≤ pipe) → (ltb pipe (pipe_number A) ≡ true) × (w.start ≡ part_start A pipe) × (k ≡ elements_on A pipe)
+      go (yes l) =
+          let e : Some k ≡ None = sym t ∙ ap (λ (w : Search). w.length) by_array ∙ misses length_in A.pipes pipe 0 l in
+          let b : ⊥ = cc in absurd b
+      go (no l) =
           let m : pipe < pipe_number A = omega arith in
           let f = by_array ∙ finds length_in A.pipes pipe 0 no_pipe m in
-          rw (lt-ltb pipe (pipe_number A) m)
-          (same_piece u (v ∙ ap (λ (w : Search). w.start) f ∙ omega arith)
-          (x ∙ ap (λ (w : Search). w.length) f))
+          let e : Some k ≡ Some (length_in (get_or A.pipes pipe no_pipe)) = sym t ∙ ap (λ (w : Search). w.length) f in
+          let s : k ≡ length_in (get_or A.pipes pipe no_pipe) = cc in
+          (lt-ltb pipe (pipe_number A) m, ap (λ (w : Search). w.start) f ∙ omega arith, s)
 
-  pub lost_piece : w.found ≡ false → {r : Piece} → r ≡ nothing 19 → r ≡ piece_of d pipe (cond (ltb pipe (pipe_number A)) 0 19)
-  lost_piece t {r} u = go (dec_le (pipe_number A) pipe)
+  pub lost_piece : w.length ≡ None → ltb pipe (pipe_number A) ≡ false
+  lost_piece t = go (dec_le (pipe_number A) pipe)
     where
-      go : Dec (pipe_number A ≤ pipe) → r ≡ piece_of d pipe (cond (ltb pipe (pipe_number A)) 0 19)
-      go (yes k) = rw (le-ltb pipe (pipe_number A) k) u
-      go (no k) =
-          absurd (subst T (sym (ap (λ (w : Search). w.found) (by_array ∙ finds length_in A.pipes pipe 0 no_pipe (omega arith))) ∙ t) tt)
+      go : Dec (pipe_number A ≤ pipe) → ltb pipe (pipe_number A) ≡ false
+      go (yes l) = le-ltb pipe (pipe_number A) l
+      go (no l) =
+          let f = by_array ∙ finds length_in A.pipes pipe 0 no_pipe (omega arith) in
+          let e : Some (length_in (get_or A.pipes pipe no_pipe)) ≡ None = sym (ap (λ (w : Search). w.length) f) ∙ t in
+          let b : ⊥ = cc in absurd b
 
 -- ---- the call's own tests, of lists of so many words
 
@@ -107,14 +100,6 @@ abbrev pub own_tests : Description → ℕ → ℕ → ℕ → ℕ → List Test
 own_tests d pipe side waiting received =
     (20 if not (eqb waiting (length_of d))) ∷ (26 if not (eqb received (length_of d)))
     ∷ (19 if (not (ltb pipe (pipe_number (array_of d))) || not (ltb side 2))) ∷ []
-
--- a refusal leaves no part
-pub refused_piece : (d : Description) (pipe : ℕ) {waiting received k m : ℕ} {r : Piece} → r ≡ nothing k → (k ≡ 0 → ⊥) → k ≡ m
-    → (r ≡ piece_of d pipe m) × (Within r waiting received)
-refused_piece d pipe {waiting} {received} {k} h f e = (
-  h ∙ no_piece d pipe k f ∙ ap (piece_of d pipe) e,
-  subst (λ (r : Piece). Within r waiting received) (sym h) (nothing_within k waiting received),
-)
 
 module _ (d : Description) (pipe side waiting received : ℕ) where
   abbrev pipes : ℕ
@@ -151,55 +136,51 @@ module _ (d : Description) (pipe side waiting received : ℕ) where
         go true c e = passes 19 _ (ap not e) accepts
         go false c e = refuses 19 _ refl
 
-    pub located_within : Laid d → Within (piece_of d pipe (cond (ltb pipe pipes) 0 19)) waiting received
-    located_within laid = go (dec_le pipes pipe)
+    located_within : Laid d → pipe < pipes → Within (piece_of d pipe) waiting received
+    located_within laid m =
+        let b = part_below (λ r. r.elements) (array_of d).pipes pipe no_pipe m in
+        record { in_waiting = omega (arith, b, list_length_lem laid, ew); in_received = omega (arith, b, list_length_lem laid, er) }
+
+    -- a pipe that was found
+    pub located_part : Laid d → (r : Result Piece Refusal) → refusal_number r ≡ cond (ltb pipe pipes) 0 19
+        → IfOk r (λ p. p ≡ piece_of d pipe) → IfOk r (λ p. (p ≡ piece_of d pipe) × (Within p waiting received))
+    located_part g (Ok p) n h = (h, subst (λ (p : Piece). Within p waiting received) (sym h) (go (dec_le pipes pipe)))
       where
-        go : Dec (pipes ≤ pipe) → Within (piece_of d pipe (cond (ltb pipe pipes) 0 19)) waiting received
-        go (yes k) = rw (le-ltb pipe pipes k) (nothing_within 19 waiting received)
-        go (no k) =
-            let m : pipe < pipes = omega arith in
-            let b = part_below (λ r. r.elements) (array_of d).pipes pipe no_pipe m in
-            rw (lt-ltb pipe pipes m)
-            (record { in_waiting = omega (arith, b, list_length_lem laid, ew); in_received = omega (arith, b, list_length_lem laid, er) })
+        go : Dec (pipes ≤ pipe) → Within (piece_of d pipe) waiting received
+        go (yes k) = let e : ◌≡◌ {A = ℕ} 0 19 = n ∙ ap (λ (b : Bool). cond b 0 19) (le-ltb pipe pipes k) in absurd (omega arith)
+        go (no k) = located_within g (omega arith)
+    located_part g (Err e) n h = h
 
 -- ---- the call
 
 module _ (l : Limits) (s : List ℕ) (pipe side waiting received : ℕ) where
   -- by the description, and by the bytes
-  pub accepted_call : {r : Piece} {d : Description} → refusal_of l s ≡ 0 → d ≡ description_of s
-      → r ≡ piece_of d pipe (refusal (own_tests d pipe side waiting received))
-      → r ≡ piece_of (description_of s) pipe (refused_by l s (own_tests (description_of s) pipe side waiting received))
-  accepted_call z e h = rw z (h ∙ ap (λ (d : Description). piece_of d pipe (refusal (own_tests d pipe side waiting received))) e)
+  pub accepted_number : {n : ℕ} {d : Description} → refusal_of l s ≡ 0 → d ≡ description_of s
+      → n ≡ refusal (own_tests d pipe side waiting received)
+      → n ≡ refused_by l s (own_tests (description_of s) pipe side waiting received)
+  accepted_number z e h = rw z (h ∙ ap (λ (d : Description). refusal (own_tests d pipe side waiting received)) e)
 
-  pub refused_call : {r : Piece} {n : ℕ} → n ≡ refusal_of l s → (n ≡ 0 → ⊥) → r ≡ nothing n
-      → (r ≡ piece_of (description_of s) pipe (refused_by l s (own_tests (description_of s) pipe side waiting received)))
-      × (Within r waiting received)
-  refused_call {n} e f h = refused_piece (description_of s) pipe h f (go (ne_eqb n 0 f))
-    where
-      go : eqb n 0 ≡ false → n ≡ refused_by l s (own_tests (description_of s) pipe side waiting received)
-      go q = rw (← e, q) refl
+  pub refused_number : {n : ℕ} → n ≡ refusal_of l s → (n ≡ 0 → ⊥)
+      → n ≡ refused_by l s (own_tests (description_of s) pipe side waiting received)
+  refused_number {n} e f = rw (← e, ne_eqb n 0 f) refl
 
 -- and what the caller gets
-module _ (l : Limits) (s : List ℕ) (pipe side : ℕ) (waiting received : List ℕ) {r : Piece}
-    (e : r ≡ piece_of (description_of s) pipe
-    (refused_by l s (own_tests (description_of s) pipe side (length waiting) (length received)))) where
-  pub number_is : r.refusal ≡ (window l s pipe side waiting received).refusal
-  unfolding window
-  number_is = ap (λ (r : Piece). r.refusal) e
+module _ (l : Limits) (s : List ℕ) (pipe side : ℕ) (waiting received : List ℕ) where
+  abbrev tests : List Test
+  tests = own_tests (description_of s) pipe side (length waiting) (length received)
 
-  pub part_is : {w : List ℕ} → w ≡ take (r.from + r.length - r.from) (drop r.from (cond (eqb side 0) waiting received))
+  pub number_is : {n : ℕ} → n ≡ refused_by l s tests → n ≡ (window l s pipe side waiting received).refusal
+  unfolding window
+  number_is e = e
+
+  pub part_is : {p : Piece} {w : List ℕ} → refused_by l s tests ≡ 0 → p ≡ piece_of (description_of s) pipe
+      → w ≡ take (p.from + p.length - p.from) (drop p.from (cond (eqb side 0) waiting received))
       → w ≡ (window l s pipe side waiting received).part
   unfolding window
-  part_is h =
-      h ∙ ap (λ (r : Piece). take (r.from + r.length - r.from) (drop r.from (cond (eqb side 0) waiting received))) e
-      ∙ go (eqb (refused_by l s (own_tests (description_of s) pipe side (length waiting) (length received))) 0)
-      (part_start (array_of (description_of s)) pipe) (elements_on (array_of (description_of s)) pipe) (cond (eqb side 0) waiting received)
+  part_is {p} z e h =
+      rw z (h ∙ ap (λ (p : Piece). take (p.from + p.length - p.from) (drop p.from (cond (eqb side 0) waiting received))) e
+      ∙ same (part_start (array_of (description_of s)) pipe) (elements_on (array_of (description_of s)) pipe)
+      (cond (eqb side 0) waiting received))
     where
-      none : (l : List ℕ) → take (0 + 0 - 0) (drop 0 l) ≡ []
-      none [] = refl
-      none (x ∷ l) = refl
-
-      go : (b : Bool) (k n : ℕ) (l : List ℕ)
-          → take (cond b k 0 + cond b n 0 - cond b k 0) (drop (cond b k 0) l) ≡ cond b (take n (drop k l)) []
-      go true k n l = let q : k + n - k ≡ n = omega arith in ap (λ (i : ℕ). take i (drop k l)) q
-      go false k n l = none l
+      same : (k n : ℕ) (l : List ℕ) → take (k + n - k) (drop k l) ≡ take n (drop k l)
+      same k n l = let q : k + n - k ≡ n = omega arith in ap (λ (i : ℕ). take i (drop k l)) q

@@ -1,5 +1,5 @@
 -- A pipe looked for by its number: the pipes one by one, by their numbers of elements. Assumes nothing.
-use Rattle.std.specs.Prelude.{◌≡◌, Bool, cond, eqb, get_or, take, drop}
+use Rattle.std.specs.Prelude.{◌≡◌, Bool, cond, eqb, get_or, take, drop, Option, Some, None}
 use Rattle.std.proofs.Math.Path.{refl, sym, ap}
 use Rattle.std.proofs.Common.{◌∙◌, ap₂, add-one, drop_of_length-le, drop-cons, eq-eqb, ne_eqb}
 use Rattle.std.proofs.Math.Bool.{true, false}
@@ -23,19 +23,22 @@ use Rattle.window.specs.declared.Search.{Search}
 
 -- ---- by numbers alone
 
--- a further pipe of k elements
+-- a further pipe of k elements, where one of that length is found or none
+abbrev pub counted_on : Search → ℕ → Option ℕ → Search
+counted_on w k (Some n) = w
+counted_on w k None =
+    cond (eqb w.left 0) (record { left = w.left; start = w.start; length = Some k })
+    (record { left = w.left - 1; start = w.start + k; length = None })
+
 abbrev pub counted : Search → ℕ → Search
-counted w k =
-    cond w.found w
-    (cond (eqb w.left 0) (record { left = w.left; start = w.start; length = k; found = true })
-    (record { left = w.left - 1; start = w.start + k; length = w.length; found = false }))
+counted w k = counted_on w k w.length
 
 unfoldable pub searched : Search → List ℕ → Search
 searched w [] = w
 searched w (k ∷ l) = searched (counted w k) l
 
 abbrev pub looking : ℕ → ℕ → Search
-looking left start = record { left = left; start = start; length = 0; found = false }
+looking left start = record { left = left; start = start; length = None }
 
 pub searched_append : (w : Search) (l l' : List ℕ) → searched w (l ++ l') ≡ searched (searched w l) l'
 unfolding searched
@@ -43,20 +46,26 @@ searched_append w [] l' = refl
 searched_append w (k ∷ l) l' = searched_append (counted w k) l l'
 
 -- the three cases of a further pipe
-pub count_found : (w : Search) (k : ℕ) → w.found ≡ true → w ≡ counted w k
-count_found w k e = rw e refl
+pub count_found : (w : Search) (k : ℕ) {n : ℕ} → w.length ≡ Some n → w ≡ counted w k
+count_found w k e = ap (counted_on w k) (sym e)
 
-pub count_here : (w : Search) (k : ℕ) → w.found ≡ false → w.left ≡ 0
-    → record { left = w.left; start = w.start; length = k; found = true } ≡ counted w k
-count_here w k e z = rw (e, eq-eqb w.left 0 z) refl
+pub count_here : (w : Search) (k : ℕ) → w.length ≡ None → w.left ≡ 0
+    → record { left = w.left; start = w.start; length = Some k } ≡ counted w k
+count_here w k e z =
+    sym (ap (λ (b : Bool). cond b (record { left = w.left; start = w.start; length = Some k })
+    (record { left = w.left - 1; start = w.start + k; length = None })) (eq-eqb w.left 0 z))
+    ∙ ap (counted_on w k) (sym e)
 
-pub count_on : (w : Search) (k : ℕ) → w.found ≡ false → (w.left ≡ 0 → ⊥)
-    → record { left = w.left - 1; start = w.start + k; length = w.length; found = false } ≡ counted w k
-count_on w k e z = rw (e, ne_eqb w.left 0 z) refl
+pub count_on : (w : Search) (k : ℕ) → w.length ≡ None → (w.left ≡ 0 → ⊥)
+    → record { left = w.left - 1; start = w.start + k; length = None } ≡ counted w k
+count_on w k e z =
+    sym (ap (λ (b : Bool). cond b (record { left = w.left; start = w.start; length = Some k })
+    (record { left = w.left - 1; start = w.start + k; length = None })) (ne_eqb w.left 0 z))
+    ∙ ap (counted_on w k) (sym e)
 
 -- a search that has found stays
-stays_found : (a b c : ℕ) (l : List ℕ) → searched (record { left = a; start = b; length = c; found = true }) l
-    ≡ record { left = a; start = b; length = c; found = true }
+stays_found : (a b c : ℕ) (l : List ℕ) → searched (record { left = a; start = b; length = Some c }) l
+    ≡ record { left = a; start = b; length = Some c }
 unfolding searched
 stays_found a b c [] = refl
 stays_found a b c (k ∷ l) = stays_found a b c l
@@ -70,30 +79,30 @@ passes_over q a k =
 module _ {X : Type 0} (g : X → ℕ) where
   -- what it finds
   pub finds : (l : List X) (q a : ℕ) (z : X) → q < length l
-      → searched (looking q a) (map g l) ≡ record { left = 0; start = a + total g (take q l); length = g (get_or l q z); found = true }
+      → searched (looking q a) (map g l) ≡ record { left = 0; start = a + total g (take q l); length = Some (g (get_or l q z)) }
   unfolding searched total
   finds [] q a z h = absurd (omega arith)
   finds (x ∷ l) zero a z h =
       stays_found 0 a (g x) (map g l)
-      ∙ ap (λ (b : ℕ). record { left = 0; start = b; length = g x; found = true }) (none a)
+      ∙ ap (λ (b : ℕ). record { left = 0; start = b; length = Some (g x) }) (none a)
     where
       none : (a : ℕ) → a ≡ a + 0
       none a = omega arith
   finds (x ∷ l) (suc q) a z h =
       ap (λ (w : Search). searched w (map g l)) (passes_over q a (g x))
       ∙ finds l q (a + g x) z (omega arith)
-      ∙ ap (λ (b : ℕ). record { left = 0; start = b; length = g (get_or l q z); found = true }) (sum a (g x) (total g (take q l)))
+      ∙ ap (λ (b : ℕ). record { left = 0; start = b; length = Some (g (get_or l q z)) }) (sum a (g x) (total g (take q l)))
     where
       sum : (a b c : ℕ) → a + b + c ≡ a + (b + c)
       sum a b c = omega arith
 
   -- and where there is none
-  pub misses : (l : List X) (q a : ℕ) → length l ≤ q → (searched (looking q a) (map g l)).found ≡ false
+  pub misses : (l : List X) (q a : ℕ) → length l ≤ q → (searched (looking q a) (map g l)).length ≡ None
   unfolding searched
   misses [] q a h = refl
   misses (x ∷ l) zero a h = absurd (omega arith)
   misses (x ∷ l) (suc q) a h =
-      ap (λ (w : Search). (searched w (map g l)).found) (passes_over q a (g x)) ∙ misses l q (a + g x) (omega arith)
+      ap (λ (w : Search). (searched w (map g l)).length) (passes_over q a (g x)) ∙ misses l q (a + g x) (omega arith)
 
 -- ---- the processes of a stream
 

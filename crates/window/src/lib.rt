@@ -7,7 +7,8 @@
 
 #![tactic(auto)]
 
-ghost use Rattle.std.specs.Prelude.{◌≡◌, cond, ◌+◌, ◌-◌, ◌≤◌, eqb, ltb, length, take, drop};
+ghost use Rattle.std.specs.Prelude.{◌≡◌, cond, ◌+◌, ◌-◌, ◌≤◌, eqb, ltb, length, take, drop, IfOk};
+ghost use Rattle.refusals.specs.Numbers.{refusal_number};
 ghost use Rattle.meaning.specs.Limits.{limits_of, gauge_limits, UpTo};
 ghost use Rattle.meaning.specs.Tests.{refusal};
 ghost use Rattle.meaning.specs.Description.{streams_of, description_of};
@@ -20,26 +21,25 @@ ghost use Rattle.pipes.specs.Elements.{Near};
 ghost use Rattle.pipe_parts.specs.Starts.{Counting};
 ghost use Rattle.figures.specs.Shares.{Described};
 ghost use Rattle.window.specs.Search.{counted, searched, looking, visited, stream_lengths, all_lengths};
-ghost use Rattle.window.specs.Pieces.{Windowed, own_tests, piece_of, nothing, Within};
+ghost use Rattle.window.specs.Pieces.{Windowed, own_tests, piece_of, Within};
 
 use lanes::LANES;
 use layout::SPANS;
 use meaning::Limits;
+use refusals::Refusal;
 use survey::{Flow, Survey};
 
-// A pipe looked for: how many are still to be passed over, the elements of those that were, and once it is found its own.
+// A pipe looked for: how many are still to be passed over, the elements of those that were, and its own once it is found.
 #[derive(Clone, Copy)]
 struct Search {
     left: u32,
     start: u32,
-    length: u32,
-    found: bool,
+    length: Option<u32>,
 }
 
-// The number by which the call is refused, 0 if it is not, and where the part begins and how long it is.
+// Where the part begins and how long it is.
 #[derive(Clone, Copy)]
 pub struct Piece {
-    pub refusal: u32,
     pub from: u32,
     pub length: u32,
 }
@@ -51,22 +51,22 @@ fn counted(w: Search, length: u32) -> Search
     requires { (w.start ≤ 30000000) × (length ≤ gauge_limits.instances) }
     ensures { (result ≡ counted w length) × (result.start ≤ w.start + length) }
 {
-    if w.found {
-        return w;
-    }
-    if w.left == 0 {
-        Search {
-            left: w.left,
-            start: w.start,
-            length: length,
-            found: true,
-        }
-    } else {
-        Search {
-            left: w.left - 1,
-            start: w.start + length,
-            length: w.length,
-            found: false,
+    match w.length {
+        Some(_) => w,
+        None => {
+            if w.left == 0 {
+                Search {
+                    left: w.left,
+                    start: w.start,
+                    length: Some(length),
+                }
+            } else {
+                Search {
+                    left: w.left - 1,
+                    start: w.start + length,
+                    length: None,
+                }
+            }
         }
     }
 }
@@ -89,10 +89,8 @@ fn searched(f: Flow, processes: u32, spans: &[u32], lanes: &[u16], first: Search
     ensures { (result ≡ searched first (stream_lengths f.nest f.stream)) × (result.start ≤ first.start + 4194304) }
 {
     let mut w = first;
-    let mut p: u32 = 0;
-    while p < processes {
+    for p in 0..processes {
         w = visited(f, spans, lanes, p as usize, w);
-        p += 1;
     }
     w
 }
@@ -118,44 +116,29 @@ fn all_searched(v: Survey, spans: &[u32; SPANS], pipe: u32) -> Search
     let mut w = Search {
         left: pipe,
         start: 0,
-        length: 0,
-        found: false,
+        length: None,
     };
-    let mut i: u32 = 0;
-    while i < m {
+    for i in 0..m {
         w = stream_searched(survey::flow_at(v, i as usize), processes, spans, w);
-        i += 1;
     }
     w
 }
 
 // ---- the call
 
-// No part, and why.
-fn refused(number: u32) -> Piece
-    ensures { result ≡ nothing number }
-{
-    Piece {
-        refusal: number,
-        from: 0,
-        length: 0,
-    }
-}
-
 // The part of a pipe, if there is such a pipe.
-fn located(v: Survey, spans: &[u32; SPANS], pipe: u32) -> Piece
+fn located(v: Survey, spans: &[u32; SPANS], pipe: u32) -> Result<Piece, Refusal>
     requires { (Windowed v.description) × (Spans v.description.nest spans.now) }
-    ensures { result ≡ piece_of v.description pipe (cond (ltb pipe (pipe_number (array_of v.description))) 0 19) }
+    ensures number { refusal_number result ≡ cond (ltb pipe (pipe_number (array_of v.description))) 0 19 }
+    ensures part { IfOk result (λ p. p ≡ piece_of v.description pipe) }
 {
     let w = all_searched(v, spans, pipe);
-    if w.found {
-        Piece {
-            refusal: 0,
+    match w.length {
+        Some(length) => Ok(Piece {
             from: w.start,
-            length: w.length,
-        }
-    } else {
-        refused(19)
+            length,
+        }),
+        None => Err(Refusal::Pipe),
     }
 }
 
@@ -167,18 +150,14 @@ fn accepted_piece(
     side: u32,
     waiting: usize,
     received: usize,
-) -> Piece
+) -> Result<Piece, Refusal>
     requires { (Windowed v.description) × (Spans v.description.nest spans.now) }
-    ensures { (result ≡ piece_of v.description pipe (refusal (own_tests v.description pipe side waiting received)))
-        × (Within result waiting received) }
+    ensures number { refusal_number result ≡ refusal (own_tests v.description pipe side waiting received) }
+    ensures part { IfOk result (λ p. (p ≡ piece_of v.description pipe) × (Within p waiting received)) }
 {
     let e = elements::element_count(v);
-    let r = declines::of_window(e, side, waiting, received);
-    if r == 0 {
-        located(v, spans, pipe)
-    } else {
-        refused(r)
-    }
+    declines::of_window(e, side, waiting, received)?;
+    located(v, spans, pipe)
 }
 
 // Where the part lies, by the bytes of the description, of lists of so many words.
@@ -189,20 +168,15 @@ fn piece_within(
     side: u32,
     waiting: usize,
     received: usize,
-) -> Piece
+) -> Result<Piece, Refusal>
     requires { UpTo limits gauge_limits }
-    ensures { (result ≡ piece_of (description_of s.now) pipe
-        (refused_by limits s.now (own_tests (description_of s.now) pipe side waiting received)))
-        × (Within result waiting received) }
+    ensures number { refusal_number result
+        ≡ refused_by limits s.now (own_tests (description_of s.now) pipe side waiting received) }
+    ensures part { IfOk result (λ p. (p ≡ piece_of (description_of s.now) pipe) × (Within p waiting received)) }
 {
     let mut spans = [0u32; SPANS];
-    let v = refuse::survey_within(s, limits, &mut spans);
-    if v.refusal == 0 {
-        let spans = &spans;
-        accepted_piece(v, spans, pipe, side, waiting, received)
-    } else {
-        refused(v.refusal)
-    }
+    let v = refuse::survey_within(s, limits, &mut spans)?;
+    accepted_piece(v, &spans, pipe, side, waiting, received)
 }
 
 // The same on a board.
@@ -213,10 +187,10 @@ pub fn piece_of(
     side: u32,
     waiting: usize,
     received: usize,
-) -> Piece
-    ensures { (result ≡ piece_of (description_of s.now) pipe
-        (refused_by (limits_of board) s.now (own_tests (description_of s.now) pipe side waiting received)))
-        × (Within result waiting received) }
+) -> Result<Piece, Refusal>
+    ensures number { refusal_number result
+        ≡ refused_by (limits_of board) s.now (own_tests (description_of s.now) pipe side waiting received) }
+    ensures part { IfOk result (λ p. (p ≡ piece_of (description_of s.now) pipe) × (Within p waiting received)) }
 {
     piece_within(s, boards::limits_of(board), pipe, side, waiting, received)
 }
@@ -239,7 +213,7 @@ fn part_of<'a>(
     }
 }
 
-// WINDOW: the part, and in `number` the number of the refusal, 0 for none.
+// WINDOW
 pub fn window<'a>(
     board: u32,
     s: &[u8],
@@ -247,15 +221,14 @@ pub fn window<'a>(
     side: u32,
     waiting: &'a [u32],
     received: &'a [u32],
-    number: &mut u32,
-) -> &'a [u32]
-    ensures { (number.new
-        ≡ (window (limits_of board) s.now pipe side waiting.now received.now).refusal)
-        × (result.now ≡ (window (limits_of board) s.now pipe side waiting.now received.now).part) }
+) -> Result<&'a [u32], Refusal>
+    ensures number { refusal_number result
+        ≡ (window (limits_of board) s.now pipe side waiting.now received.now).refusal }
+    ensures part { IfOk result (λ part. part.now
+        ≡ (window (limits_of board) s.now pipe side waiting.now received.now).part) }
 {
-    let piece = piece_of(board, s, pipe, side, waiting.len(), received.len());
-    *number = piece.refusal;
+    let piece = piece_of(board, s, pipe, side, waiting.len(), received.len())?;
     let from = piece.from as usize;
     let to = from + piece.length as usize;
-    part_of(waiting, received, side, from, to)
+    Ok(part_of(waiting, received, side, from, to))
 }

@@ -2,7 +2,7 @@
 
 #![tactic(auto)]
 
-ghost use Rattle.std.specs.Prelude.{◌≡◌, [], min};
+ghost use Rattle.std.specs.Prelude.{◌≡◌, []};
 ghost use Rattle.meaning.specs.Limits.{limits_of};
 ghost use Rattle.meaning.specs.Calls.{window};
 ghost use Rattle.answer_words.specs.Words.{words_of};
@@ -10,22 +10,12 @@ ghost use Rattle.window_copy.specs.Copied.{copied};
 
 use answer_words::Words;
 
-fn least(a: usize, b: usize) -> usize
-    ensures { result ≡ min a b }
-{
-    if a < b { a } else { b }
-}
-
 // The values go over the first places of a list, as far as there is room.
 fn copy(values: &[u32], to: &mut [u32])
     ensures { to.new ≡ copied values.now to.old }
 {
-    let n = least(values.len(), to.len());
-    let mut i = 0;
-    while i < n {
-        to[i] = values[i];
-        i += 1;
-    }
+    let n = values.len().min(to.len());
+    to[..n].copy_from_slice(&values[..n]);
 }
 
 // The part that Window hands back is copied; its answer in words.
@@ -42,12 +32,19 @@ pub fn see<'a>(
         (window (limits_of board) s.now pipe side waiting.now received.now).part part.old)
         × (result ≡ words_of (window (limits_of board) s.now pipe side waiting.now received.now).refusal []) }
 {
-    let mut number: u32 = 0;
-    let seen = window::window(board, s, pipe, side, waiting, received, &mut number);
-    copy(seen, part);
-    Words {
-        number: number,
-        first: 0,
-        second: 0,
+    match window::window(board, s, pipe, side, waiting, received) {
+        Ok(seen) => {
+            copy(seen, part);
+            Words {
+                number: 0,
+                first: 0,
+                second: 0,
+            }
+        }
+        Err(refusal) => Words {
+            number: refusal.number(),
+            first: 0,
+            second: 0,
+        },
     }
 }

@@ -1,7 +1,6 @@
 -- `fill::fill_places` meets its contract: the state is that after i rounds, and the first i places have those before it. Assumes nothing.
 use mathlib.Core.Path.{sym, ◌∙◌, ap}
 use native.Mathlib.Numerals.{add-one}
-use borrow.Author.Rules.{rules}
 use Rattle.integers.specs.Fill.{fill_zero, fill_step}
 use Rattle.meaning.specs.Generator.{round}
 use Rattle.generated.specs.Rounds.{after_none, after_more}

@@ -4,7 +4,6 @@ use lib.IntN.{ℤ}
 use Rattle.integers.specs.Differences.{Abs}
 use Rattle.integers.specs.Words.{held}
 use Rattle.outlook.specs.Outlooks.{answer_at}
-use borrow.Author.Rules.{rules}
 use Rattle.outlook.proofs.answer_to.Goals as goal
 
 pub answer_at-requires : goal.answer_at-requires

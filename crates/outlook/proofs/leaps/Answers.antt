@@ -4,7 +4,6 @@ use lib.Dec.{ltb}
 use lib.IntN.{nat_abs}
 use Rattle.integers.specs.Words.{at}
 use Rattle.survey.specs.Small.{and_goes, and_stops}
-use borrow.Author.Rules.{rules}
 use Rattle.outlook.proofs.leaps.Goals as goal
 
 pub returns-then-moving : goal.returns-then-moving

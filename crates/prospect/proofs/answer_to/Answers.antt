@@ -1,10 +1,8 @@
 -- `prospect::answer_to` meets its contract. Assumes nothing.
-use mathlib.Core.Path.{◌≡◌, refl, sym, ◌∙◌, ap}
-use mathlib.Core.Bool.{false}
+use mathlib.Core.Path.{refl, sym, ◌∙◌, ap}
 use lib.IntN.{ℤ, pos}
 use borrow.Author.Tests.{eq-eqb, ne_eqb}
 use Rattle.integers.specs.Words.{eq_z}
-use Rattle.integers.specs.Vectors.{dot}
 use Rattle.vectors.specs.Within.{zero_bits}
 use Rattle.prospect.proofs.answer_to.Goals as goal
 

@@ -1,9 +1,9 @@
 -- `prospect::outlooks_along` meets its contract: the outlooks are those of the first i streams. Assumes nothing.
-use mathlib.Core.Path.{◌≡◌, refl, sym, subst, subst₂}
+use mathlib.Core.Path.{refl, sym, subst, subst₂}
 use mathlib.Core.Bool.{Bool}
-use Prim.Native.Nat.{ℕ, ◌-◌, ◌≤◌, ◌<◌}
+use Prim.Native.Nat.{ℕ, ◌<◌}
 use native.Mathlib.Omega.{arith}
-use lib.ListN.{length, get_or, length-set}
+use lib.ListN.{get_or, length-set}
 use Rattle.meaning.specs.declared.Nest.{Nest}
 use Rattle.meaning.specs.declared.Stream.{Stream}
 use Rattle.meaning.specs.Description.{no_stream, written}
@@ -14,8 +14,6 @@ use Rattle.survey.specs.InRange.{in_range_lem}
 use Rattle.survey.specs.Surveys.{GroundOf, charted}
 use Rattle.survey.specs.OfBytes.{flow_is}
 use Rattle.walk.specs.Walked.{Along}
-use Rattle.prospect.specs.Prospects.{FirstOutlooks}
-use borrow.Author.Rules.{rules}
 use Rattle.prospect.proofs.outlooks_along.Goals as goal
 
 pub loop-i-init : goal.loop-i-init

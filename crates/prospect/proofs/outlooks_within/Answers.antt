@@ -1,7 +1,6 @@
 -- `prospect::outlooks_within` meets its contract. Assumes nothing.
 use mathlib.Core.Path.{sym, ◌∙◌, subst}
 use lib.Dec.{T}
-use borrow.Author.Rules.{rules}
 use Rattle.prospect.proofs.outlooks_within.Goals as goal
 
 pub outlooks_of-requires : goal.outlooks_of-requires

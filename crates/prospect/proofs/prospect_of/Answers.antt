@@ -3,7 +3,6 @@ use mathlib.Core.Path.{refl, sym, ◌∙◌}
 use native.Mathlib.Omega.{arith}
 use borrow.Author.Tests.{ltb-false}
 use Rattle.survey.specs.Grounds.{ten}
-use borrow.Author.Rules.{rules}
 use Rattle.prospect.proofs.prospect_of.Goals as goal
 
 pub outlooks_within-requires : goal.outlooks_within-requires

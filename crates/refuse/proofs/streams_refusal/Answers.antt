@@ -50,7 +50,7 @@ returns-in_err-stream_refusal c =
     let f = c.flow_at-f.result in
     let k = flow_is c.args.v l.i c.loop-i-test.true c.flow_at-f.ensures in
     let r : refusal_number c.from_residual.result ≡ refusal (stream_tests c.args.limits f.nest c.written.result f.stream)
-        = search rules in
+    = search rules in
     stream_refused c.args.limits c.args.v.description c.args.v.surveyed.in_use l.i
     c.loop-i-test.true refl (answered c.args.limits k c.written.ensures r)
     (some c.in_err-stream_refusal.field-0.0 c.in_err-stream_refusal.ensures r)

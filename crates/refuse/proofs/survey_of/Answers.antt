@@ -2,7 +2,6 @@
 use mathlib.Core.Path.{ap, ◌∙◌}
 use Rattle.meaning.specs.declared.Limits.{Limits}
 use Rattle.meaning.specs.Accept.{refusal_of}
-use borrow.Author.Rules.{rules}
 use Rattle.refuse.proofs.survey_of.Goals as goal
 
 pub survey_within-requires : goal.survey_within-requires

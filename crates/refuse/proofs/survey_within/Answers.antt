@@ -1,5 +1,5 @@
--- `refuse::survey_within` meets its contract: where none of 33 and 1 to 10 applies the streams' tests decide, and the words are in range and the
--- processes' filled; else that refusal stands. Assumes nothing.
+-- `refuse::survey_within` meets its contract: where none of 33 and 1 to 10 applies the streams' tests decide, and the words are in range and
+-- the processes' filled; else that refusal stands. Assumes nothing.
 use mathlib.Core.Path.{◌≡◌, refl, sym, ◌∙◌, ap, subst}
 use native.Mathlib.Omega.{arith}
 use Rattle.refusals.specs.Numbers.{number_of, refusal_number, number-positive}
@@ -49,6 +49,6 @@ returns-in_err-walked_refusal-clause-number c =
     let h = c.in_ok-v.ensures in
     let d = c.in_ok-v.v.description in
     let k : refusal_number c.from_residual-in_err-walked_refusal.result ≡ refusal (tests_from c.args.limits d 0 (streams_of d))
-        = search rules in
+    = search rules in
     walk_goes_on c.args.limits c.args.s.now h.number refl
     (k ∙ ap (λ (d : Description). refusal (tests_from c.args.limits d 0 (streams_of d))) h.surveyed.0.description_is)

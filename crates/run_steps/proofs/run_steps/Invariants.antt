@@ -1,16 +1,9 @@
 -- `run_steps::run_steps` meets its contract: after so many turns so many of Run's steps are done. Assumes nothing.
-use Prim.Native.Nat.{◌-◌}
-use native.Mathlib.Omega.{arith}
-use borrow.Author.Rules.{rules}
 use Rattle.meaning.specs.Rules.{memory_of}
-use Rattle.run_steps.specs.Runs.{Partly, partly_start, lowest_nothing, ended_full, ended_none}
-use Rattle.run_steps.specs.Turn.{rank_in, asks, renews, turned}
+use Rattle.run_steps.specs.Runs.{Partly}
 use Rattle.run_steps.proofs.run_steps.Given as goal
 
 abbrev pub invariant-loop-done : goal.invariant-loop-done
 invariant-loop-done l =
     Partly l.s l.ports l.z l.steps (memory_of l.waiting l.initial.received l.initial.state) l.done
     (memory_of l.waiting l.received l.state) l.flags
-
-abbrev pub decreases-loop-done : goal.decreases-loop-done
-decreases-loop-done l = l.steps - l.done

@@ -20,11 +20,3 @@ pub fire-requires : goal.fire-requires
 fire-requires c =
     let p = c.requires in
     rw c.ports_of-own.ensures (process_fits p.0 _ p.2, p.1.lines, p.3)
-
-pub returns : goal.returns
-returns c =
-    c.fire.ensures ∙ rw (
-      c.instance_of-x.ensures,
-      c.word-f.ensures.0,
-      c.ports_of-own.ensures,
-    ) refl

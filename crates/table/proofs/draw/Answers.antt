@@ -29,5 +29,5 @@ returns c =
       spans = c.requires.1;
       copied = subst (λ (v : List ℕ). (j : ℕ) → j < 3072 → get_or v j 0 ≡ get_or es j 0) (sym c.copy_spans.ensures) (front_copied es w l);
       streams = subst (Streamed d.nest (streams_of d) _) (sym c.copy_spans.ensures)
-        (streamed_copied es w l c.fill_streams.ensures);
+          (streamed_copied es w l c.fill_streams.ensures);
     }

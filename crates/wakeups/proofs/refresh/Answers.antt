@@ -1,26 +1,33 @@
 -- `wakeups::refresh` meets its contract: own steps are tested, and the one that looks at the counted word. Assumes nothing.
-use native.Mathlib.Omega.{arith}
-use borrow.Author.Rules.{rules}
+use Rattle.std.proofs.Common.{arith}
 use Rattle.step_order.specs.Ranks.{steps_most}
+use Rattle.step_order.proofs.Steps.{step_inside}
 use Rattle.wakeups.specs.Refreshed.{refreshed_some, refreshed_none}
 use Rattle.wakeups.proofs.refresh.Goals as goal
 
+pub counter-requires : goal.counter-requires
+counter-requires c =
+    let p = c.requires in rw p.5 (p.1, step_inside c.args.z c.args.r p.4)
+
 pub overflow_cast-w : goal.overflow_cast-w
 overflow_cast-w c =
-    let p = c.requires in
-    omega (arith, p.3.ranks c.counter_of-at.result, steps_most p.2, p.2.pipes)
+    let p = c.requires in omega (arith, p.3.ranks c.counter.result, steps_most p.2, p.2.pipes)
+
+pub step_of-requires : goal.step_of-requires
+step_of-requires c =
+    let p = c.requires in (p.2, omega (arith, p.3.ranks c.counter.result, c.if-w-ne0.true))
 
 pub retest-requires : goal.retest-requires
 retest-requires c =
     let p = c.requires in
-    (p.0, p.2, omega (arith, p.3.ranks c.counter_of-at.result, c.if-w-ne0.true), c.retest_own.ensures.words)
+    (p.0, p.2, omega (arith, p.3.ranks c.counter.result, c.if-w-ne0.true), c.step_of.ensures, c.retest_own.ensures.words)
 
 pub returns-then-w-ne0 : goal.returns-then-w-ne0
 returns-then-w-ne0 c =
     let a = c.args in
     let f = c.retest.ensures in (
       f.words,
-      refreshed_some a.ports.now a.state.now a.wakeups.now a.z a.r c.counter_of-at.result c.counter_of-at.ensures.0
+      refreshed_some a.ports.now a.state.now a.wakeups.now a.z a.r c.counter.result (rw c.requires.5 at c.counter.ensures.0)
           c.retest_own.ensures f,
     )
 
@@ -29,6 +36,6 @@ returns-else-w-ne0 c =
     let a = c.args in
     let f = c.retest_own.ensures in (
       f.words,
-      refreshed_none a.ports.now a.state.now a.wakeups.now a.z a.r c.counter_of-at.result c.counter_of-at.ensures.0
+      refreshed_none a.ports.now a.state.now a.wakeups.now a.z a.r c.counter.result (rw c.requires.5 at c.counter.ensures.0)
           (omega (arith, c.if-w-ne0.false)) f,
     )

@@ -1,11 +1,21 @@
--- `wakeups::retest` meets its contract: by the name of the step. Assumes nothing.
-use mathlib.Core.Path.{sym}
-use borrow.Author.Rules.{rules}
+-- `wakeups::retest` meets its contract: the flag becomes what the test says. Assumes nothing.
+use Rattle.std.proofs.Common.{◌≡◌, sym, ◌∙◌, arith}
+use Rattle.step_order.specs.Ranks.{steps_most}
+use Rattle.step_order.proofs.Steps.{step_inside}
+use Rattle.wakeups.specs.Wakeups.{can_at, flag_in}
+use Rattle.wakeups.specs.Renewed.{renewed_one}
 use Rattle.wakeups.proofs.retest.Goals as goal
 
-pub retest_named-requires : goal.retest_named-requires
-retest_named-requires c =
-    let p = c.requires in (p.0, p.1, p.2, sym c.name_of-n.ensures, p.3)
+pub can-requires : goal.can-requires
+can-requires c =
+    let p = c.requires in rw p.3 (p.0, step_inside c.args.z c.args.r p.2)
+
+pub put-requires : goal.put-requires
+put-requires c =
+    let p = c.requires in (p.4, omega (arith, steps_most p.1, p.1.pipes, p.2))
 
 pub returns : goal.returns
-returns c = c.retest_named.ensures
+returns c =
+    let a = c.args in
+    let e : c.can.result ≡ can_at a.ports.now a.state.now a.z a.r = rw c.requires.3 at c.can.ensures in
+    renewed_one a.r c.can.result (e ∙ sym (flag_in _ _ a.z a.r c.requires.2)) c.put.ensures

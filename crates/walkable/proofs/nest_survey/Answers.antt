@@ -64,6 +64,6 @@ returns-in_err-early_refusal-clause-number c =
 
 pub returns-in_err-nest_refusal-clause-number : goal.returns-in_err-nest_refusal-clause-number
 returns-in_err-nest_refusal-clause-number c =
-    let e : refusal_number c.from_residual-in_err-nest_refusal.result ≡ refusal (layout_tests c.args.limits c.survey_of-v.result.description.nest)
-        = search rules in
+    let n = c.survey_of-v.result.description.nest in
+    let e : refusal_number c.from_residual-in_err-nest_refusal.result ≡ refusal (layout_tests c.args.limits n) = search rules in
     loops c.args.limits c.args.s.now c.in_ok-early_refusal.ensures (c.survey_of-v.ensures ∙ c.description.ensures) e

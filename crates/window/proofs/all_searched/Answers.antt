@@ -1,7 +1,7 @@
 -- `window::all_searched` meets its contract: the search in what is left of the streams has the answer of the whole; a stream adds at most
 -- 4,194,304 to the start. Assumes nothing.
 use mathlib.Core.Path.{◌≡◌, refl, ◌∙◌, ap, ap₂}
-use Prim.Native.Nat.{◌+◌, ◌*◌, ◌-◌, ◌≤◌}
+use Prim.Native.Nat.{◌+◌}
 use native.Mathlib.Omega.{arith}
 use lib.ListN.{drop}
 use borrow.Author.Rules.{rules}
@@ -15,50 +15,37 @@ use Rattle.window.specs.Search.{searched as results, stream_lengths, all_lengths
 use Rattle.window.proofs.all_searched.Goals as goal
 
 pub loop-i-init : goal.loop-i-init
-loop-i-init c = (omega arith, omega arith, refl)
+loop-i-init c = (omega arith, refl)
 
 pub flow_at-requires : goal.flow_at-requires
-flow_at-requires c = omega (arith, c.loop-i-test.true, c.requires.0.few.ranged.sized.most_streams)
+flow_at-requires c = omega (arith, c.requires.0.few.ranged.sized.most_streams)
 
 pub stream_searched-w-requires : goal.stream_searched-w-requires
 stream_searched-w-requires c =
     let p = c.requires in
-    let l = c.loop-i in
-    let t = c.loop-i-test.true in (
-      share_at p.0 p.1 l.i t c.flow_at.ensures p.2 p.3,
-      omega (arith, t, l.invariant.1, p.0.few.ranged.sized.most_streams),
+    let l = c.loop-i in (
+      share_at p.0 p.1 l.i (omega arith) c.flow_at.ensures p.2 p.3,
+      omega (arith, l.invariant.0, p.0.few.ranged.sized.most_streams),
     )
-
-pub overflow_add-i : goal.overflow_add-i
-overflow_add-i c =
-    record {
-      fits = omega (
-        arith,
-        c.loop-i-test.true,
-        c.requires.0.few.ranged.sized.most_streams,
-      );
-    }
 
 pub loop-i-preserved : goal.loop-i-preserved
 loop-i-preserved c =
-    let s = c in
-    let d = s.args.v.description in
+    let p = c.requires in
+    let d = c.args.v.description in
     let l = c.loop-i in
-    let t = c.loop-i-test.true in
-    let k = flow_is c.args.v l.i t c.flow_at.ensures in (
-      omega (arith, t),
-      omega (arith, l.invariant.1, c.stream_searched-w.ensures.1),
+    let k = flow_is c.args.v l.i (omega arith) c.flow_at.ensures in (
+      omega (arith, l.invariant.0, c.stream_searched-w.ensures.1),
       ap (λ (w : Search). results w (all_lengths d.nest (drop (l.i + 1) (streams_of d))))
           (c.stream_searched-w.ensures.0
           ∙ ap₂ (λ (n : Nest) (s : Stream). results l.w (stream_lengths n s)) k.nest_is
-          (k.stream_is ∙ stream_is d s.requires.0 l.i t refl))
-          ∙ stream_next d.nest l.w (streams_of d) l.i (omega (arith, t, s.requires.0.in_use)) ∙ l.invariant.2,
+          (k.stream_is ∙ stream_is d p.0 l.i (omega arith) refl))
+          ∙ stream_next d.nest l.w (streams_of d) l.i (omega (arith, p.0.in_use)) ∙ l.invariant.1,
     )
 
 pub returns : goal.returns
 returns c =
     let d = c.args.v.description in
     let l = c.loop-i in (
-      stream_end d.nest l.w (streams_of d) l.i (omega (arith, c.loop-i-test.false, c.requires.0.in_use)) ∙ l.invariant.2,
-      omega (arith, l.invariant.1, l.invariant.0, c.requires.0.few.ranged.sized.most_streams),
+      stream_end d.nest l.w (streams_of d) l.i (omega (arith, c.requires.0.in_use)) ∙ l.invariant.1,
+      omega (arith, l.invariant.0, c.requires.0.few.ranged.sized.most_streams),
     )

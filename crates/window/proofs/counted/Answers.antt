@@ -5,14 +5,11 @@ use native.Mathlib.Omega.{arith}
 use Rattle.window.specs.Search.{count_found, count_here, count_on}
 use Rattle.window.proofs.counted.Goals as goal
 
-pub returns-then-w : goal.returns-then-w
-returns-then-w c = let a = c.args in (count_found a.w a.length c.if-w.true, omega arith)
+pub returns-in-Some : goal.returns-in-Some
+returns-in-Some c = let a = c.args in (count_found a.w a.length c.in-Some.is, omega arith)
 
 pub returns-then-w-eq0 : goal.returns-then-w-eq0
-returns-then-w-eq0 c = let a = c.args in
-    (count_here a.w a.length c.if-w.false c.if-w-eq0.true, omega arith)
+returns-then-w-eq0 c = let a = c.args in (count_here a.w a.length c.in-None.is c.if-w-eq0.true, omega arith)
 
 pub returns-else-w-eq0 : goal.returns-else-w-eq0
-returns-else-w-eq0 c =
-    let a = c.args in
-    (count_on a.w a.length c.if-w.false c.if-w-eq0.false, omega arith)
+returns-else-w-eq0 c = let a = c.args in (count_on a.w a.length c.in-None.is c.if-w-eq0.false, omega arith)

@@ -4,7 +4,7 @@ use borrow.Author.Rules.{rules}
 use Rattle.meaning.specs.declared.Limits.{Limits}
 use Rattle.meaning.specs.Description.{description_of}
 use Rattle.meaning.specs.Calls.{refused_by}
-use Rattle.window.specs.Pieces.{piece_of, own_tests}
+use Rattle.window.specs.Pieces.{own_tests}
 use Rattle.window.proofs.piece_of.Goals as goal
 
 pub piece_within-requires : goal.piece_within-requires
@@ -14,8 +14,8 @@ pub returns : goal.returns
 returns c =
     let a = c.args in
     let d = description_of a.s.now in
-    let e = c.piece_within.ensures in (
-      e.0 ∙ ap (λ (l : Limits). piece_of d a.pipe (refused_by l a.s.now (own_tests d a.pipe a.side a.waiting a.received)))
-          c.limits_of.ensures.0,
-      e.1,
-    )
+    let e = c.piece_within.ensures in
+    record {
+      number = e.number ∙ ap (λ (l : Limits). refused_by l a.s.now (own_tests d a.pipe a.side a.waiting a.received)) c.limits_of.ensures.0;
+      part = e.part;
+    }

@@ -1,39 +1,33 @@
 -- `window::searched` meets its contract: the search in what is left of the processes has the answer of the whole; no start passes 32 bits,
 -- since every pipe has at most 4,096 elements. Assumes nothing.
 use mathlib.Core.Path.{◌≡◌, refl, ◌∙◌, ap}
-use Prim.Native.Nat.{◌+◌, ◌*◌, ◌-◌, ◌≤◌}
+use Prim.Native.Nat.{◌+◌}
 use native.Mathlib.Omega.{arith}
 use lib.ListN.{drop}
 use borrow.Author.Rules.{rules}
 use Rattle.meaning.specs.Space.{processes}
 use Rattle.window.specs.declared.Search.{Search}
-use Rattle.window.specs.Search.{searched as results, lengths_of, stream_lengths, visit_next, visit_end}
+use Rattle.window.specs.Search.{searched as results, lengths_of, visit_next, visit_end}
 use Rattle.window.proofs.searched.Goals as goal
 
 pub loop-p-init : goal.loop-p-init
-loop-p-init c = (omega arith, omega arith, refl)
+loop-p-init c = (omega arith, refl)
 
 pub visited-w-requires : goal.visited-w-requires
 visited-w-requires c =
     let l = c.loop-p in
-    let p = c.requires.0 in
-    let few = p.seen.flows.laid.processes in (
-      record { seen = p.seen; lt = omega (arith, p.counted, c.loop-p-test.true) },
-      omega (arith, l.invariant.1, c.requires.1, p.counted, few, c.loop-p-test.true),
+    let p = c.requires.0 in (
+      record { seen = p.seen; lt = omega (arith, p.counted) },
+      omega (arith, l.invariant.0, c.requires.1, p.counted, p.seen.flows.laid.processes),
     )
-
-pub overflow_add-p : goal.overflow_add-p
-overflow_add-p c = omega (arith, c.loop-p-test.true)
 
 pub loop-p-preserved : goal.loop-p-preserved
 loop-p-preserved c =
     let f = c.args.f in
-    let l = c.loop-p in
-    let t = c.loop-p-test.true in (
-      omega (arith, t),
-      omega (arith, l.invariant.1, c.visited-w.ensures.1),
+    let l = c.loop-p in (
+      omega (arith, l.invariant.0, c.visited-w.ensures.1),
       ap (λ (w : Search). results w (lengths_of f.nest f.stream (drop (l.p + 1) (processes f.nest)))) c.visited-w.ensures.0
-          ∙ visit_next f.nest f.stream l.w (processes f.nest) l.p (omega (arith, t, c.requires.0.counted)) ∙ l.invariant.2,
+          ∙ visit_next f.nest f.stream l.w (processes f.nest) l.p (omega (arith, c.requires.0.counted)) ∙ l.invariant.1,
     )
 
 pub returns : goal.returns
@@ -41,7 +35,6 @@ returns c =
     let f = c.args.f in
     let l = c.loop-p in
     let p = c.requires.0 in (
-      visit_end f.nest f.stream l.w (processes f.nest) l.p (omega (arith, c.loop-p-test.false, l.invariant.0, p.counted))
-          ∙ l.invariant.2,
-      omega (arith, l.invariant.1, l.invariant.0, p.counted, p.seen.flows.laid.processes),
+      visit_end f.nest f.stream l.w (processes f.nest) l.p (omega (arith, p.counted)) ∙ l.invariant.1,
+      omega (arith, l.invariant.0, p.counted, p.seen.flows.laid.processes),
     )

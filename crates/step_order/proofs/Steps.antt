@@ -5,8 +5,8 @@ use Rattle.meaning.specs.declared.Step.{Step}
 use Rattle.meaning.specs.declared.Step.TheVariants.{Send, Take, Fire, Give, Receive}
 use Rattle.port_table.specs.declared.Size.{Size}
 use Rattle.step_rules.specs.Fits.{Inside}
-use Rattle.step_order.specs.Ranks.{width, rank_count, name_at, step_at, take_rank, fire_rank, give_rank, receive_rank}
-use Rattle.step_order.specs.Names.{Ranked, send, take, fire, give, receive, send_name, take_name, fire_name, give_name, receive_name}
+use Rattle.step_order.specs.Ranks.{width, rank_count, step_at, take_rank, fire_rank, give_rank, receive_rank}
+use Rattle.step_order.specs.Steps.{Ranked, send, take, fire, give, receive, send_step, take_step, fire_step, give_step, receive_step}
 
 module _ (z : Size) (r : ℕ) where
   placed : (p o : ℕ) → p < z.processes → o < width z → r ≡ z.pipes + (p * width z + o) → Ranked z r
@@ -37,32 +37,15 @@ module _ (z : Size) (r : ℕ) where
 -- ---- the step of a rank
 
 module _ (z : Size) where
-  -- it has the number of a pipe or of a process, and the stream of a take or of a give
-  of_pipe : (kind q : ℕ) → kind % 4 ≡ 0 → q < z.pipes → Inside z kind q 0
-  of_pipe kind q e h =
-      record {
-        pipe = λ k. h;
-        process = λ a b. absurd (omega arith);
-        port = ⊎_elim (λ (k : kind ≡ 1). absurd (omega arith)) (λ (k : kind ≡ 3). absurd (omega arith));
-      }
-
-  of_process_lem : (kind p i : ℕ) → 0 < kind → kind < 4 → p < z.processes → ((kind ≡ 2 → ⊥) → i < z.streams) → Inside z kind p i
-  of_process_lem kind p i a b h l =
-      record {
-        pipe = ⊎_elim (λ (k : kind ≡ 0). absurd (omega arith)) (λ (k : 3 < kind). absurd (omega arith));
-        process = λ a b. h;
-        port = ⊎_elim (λ (k : kind ≡ 1). l (λ (e : kind ≡ 2). omega arith)) (λ (k : kind ≡ 3). l (λ (e : kind ≡ 2). omega arith));
-      }
-
-  pub name_inside : (r : ℕ) → r < rank_count z → Inside z (name_at z r).kind (name_at z r).number (name_at z r).stream
-  name_inside r h = go (ranked z r h)
+  pub step_inside : (r : ℕ) → r < rank_count z → Inside z (step_at z r)
+  step_inside r h = go (ranked z r h)
     where
-      go : Ranked z r → Inside z (name_at z r).kind (name_at z r).number (name_at z r).stream
-      go (send q h e) = rw (e, send_name z q h) (of_pipe 0 q refl h)
-      go (take p i h l e) = rw (e, take_name z p i h l) (of_process_lem 1 p i (omega arith) (omega arith) h (λ k. l))
-      go (fire p h e) = rw (e, fire_name z p h) (of_process_lem 2 p 0 (omega arith) (omega arith) h (λ k. absurd (k refl)))
-      go (give p i h l e) = rw (e, give_name z p i h l) (of_process_lem 3 p i (omega arith) (omega arith) h (λ k. l))
-      go (receive q h e) = rw (e, receive_name z q) (of_pipe 4 q refl h)
+      go : Ranked z r → Inside z (step_at z r)
+      go (send q h e) = rw (e, send_step z q h) h
+      go (take p i h l e) = rw (e, take_step z p i h l) (h, l)
+      go (fire p h e) = rw (e, fire_step z p h) h
+      go (give p i h l e) = rw (e, give_step z p i h l) (h, l)
+      go (receive q h e) = rw (e, receive_step z q) h
 
   -- different ranks are different steps: a step has one rank
   abbrev rank_of : Step → ℕ
@@ -76,11 +59,11 @@ module _ (z : Size) where
   rank_step r h = go (ranked z r h)
     where
       go : Ranked z r → rank_of (step_at z r) ≡ r
-      go (send q h e) = rw (e, send_name z q h) refl
-      go (take p i h l e) = rw (e, take_name z p i h l) refl
-      go (fire p h e) = rw (e, fire_name z p h) refl
-      go (give p i h l e) = rw (e, give_name z p i h l) refl
-      go (receive q h e) = rw (e, receive_name z q) refl
+      go (send q h e) = rw (e, send_step z q h) refl
+      go (take p i h l e) = rw (e, take_step z p i h l) refl
+      go (fire p h e) = rw (e, fire_step z p h) refl
+      go (give p i h l e) = rw (e, give_step z p i h l) refl
+      go (receive q h e) = rw (e, receive_step z q) refl
 
   pub rank_apart : (r r' : ℕ) → r < rank_count z → r' < rank_count z → step_at z r ≡ step_at z r' → r ≡ r'
   rank_apart r r' h h' e = sym (rank_step r h) ∙ ap rank_of e ∙ rank_step r' h'

@@ -1,20 +1,21 @@
--- Each kind of step has its ranks: the name of a step's rank, and the steps of the ranks. Assumes nothing.
+-- Each kind of step has its ranks: the step of a step's rank, and there are no other ranks. Assumes nothing.
 use Rattle.std.specs.Prelude.{◌≡◌, refl, ℕ, ◌+◌, ◌*◌, ◌-◌, ◌/◌, ◌%◌, ◌<◌}
 use Rattle.std.proofs.Common.{◌∙◌, ap, add-zero, mod-eq_of_lt, arith, lt-ltb, le-ltb, eq-eqb, ne_eqb}
 use Rattle.std.proofs.Math.Nat.{mul-add-div_right, mul-add-mod_self_right, div-eq_of_lt}
+use Rattle.meaning.specs.declared.Step.TheVariants.{Send, Take, Fire, Give, Receive}
 use Rattle.port_table.specs.declared.Size.{Size}
-use Rattle.step_order.specs.Ranks.{width, rank_count, named, process_name, name_at, take_rank, fire_rank, give_rank, receive_rank}
+use Rattle.step_order.specs.Ranks.{width, rank_count, process_step, step_at, take_rank, fire_rank, give_rank, receive_rank}
 use Rattle.step_order.specs.Ranks.{steps_inside}
 
--- ---- the name of a step's rank
+-- ---- the step of a step's rank
 
 module _ (z : Size) where
-  pub send_name : (q : ℕ) → q < z.pipes → name_at z q ≡ named 0 q 0
-  send_name q h = rw (lt-ltb q z.pipes h) refl
+  pub send_step : (q : ℕ) → q < z.pipes → step_at z q ≡ Send q
+  send_step q h = rw (lt-ltb q z.pipes h) refl
 
   -- place o of process p
-  place_name : (p o r : ℕ) → p < z.processes → o < width z → r ≡ z.pipes + (p * width z + o) → name_at z r ≡ process_name z p o
-  place_name p o r h l e =
+  place_step : (p o r : ℕ) → p < z.processes → o < width z → r ≡ z.pipes + (p * width z + o) → step_at z r ≡ process_step z p o
+  place_step p o r h l e =
       let k : r - z.pipes ≡ p * width z + o = omega arith in
       let i : p * width z + o < z.processes * width z = omega (arith, steps_inside z h) in
       let d : (p * width z + o) / width z ≡ p =
@@ -22,23 +23,23 @@ module _ (z : Size) where
       let m : (p * width z + o) % width z ≡ o = mul-add-mod_self_right p (width z) o ∙ mod-eq_of_lt l in
       rw (le-ltb r z.pipes (omega arith), k, lt-ltb _ _ i, d, m) refl
 
-  pub take_name : (p i : ℕ) → p < z.processes → i < z.streams → name_at z (take_rank z p i) ≡ named 1 p i
-  take_name p i h l = place_name p i (take_rank z p i) h (omega arith) (omega arith) ∙ rw (lt-ltb i z.streams l) refl
+  pub take_step : (p i : ℕ) → p < z.processes → i < z.streams → step_at z (take_rank z p i) ≡ Take p i
+  take_step p i h l = place_step p i (take_rank z p i) h (omega arith) (omega arith) ∙ rw (lt-ltb i z.streams l) refl
 
-  pub fire_name : (p : ℕ) → p < z.processes → name_at z (fire_rank z p) ≡ named 2 p 0
-  fire_name p h =
-      place_name p z.streams (fire_rank z p) h (omega arith) (omega arith)
+  pub fire_step : (p : ℕ) → p < z.processes → step_at z (fire_rank z p) ≡ Fire p
+  fire_step p h =
+      place_step p z.streams (fire_rank z p) h (omega arith) (omega arith)
       ∙ rw (le-ltb z.streams z.streams (omega arith), eq-eqb z.streams z.streams refl) refl
 
-  pub give_name : (p i : ℕ) → p < z.processes → i < z.streams → name_at z (give_rank z p i) ≡ named 3 p i
-  give_name p i h l =
+  pub give_step : (p i : ℕ) → p < z.processes → i < z.streams → step_at z (give_rank z p i) ≡ Give p i
+  give_step p i h l =
       let o = z.streams + 1 + i in
       let s : z.streams + 1 + i - z.streams - 1 ≡ i = omega arith in
-      place_name p o (give_rank z p i) h (omega arith) (omega arith)
+      place_step p o (give_rank z p i) h (omega arith) (omega arith)
       ∙ rw (le-ltb o z.streams (omega arith), ne_eqb o z.streams (λ (e : o ≡ z.streams). omega arith), s) refl
 
-  pub receive_name : (q : ℕ) → name_at z (receive_rank z q) ≡ named 4 q 0
-  receive_name q =
+  pub receive_step : (q : ℕ) → step_at z (receive_rank z q) ≡ Receive q
+  receive_step q =
       let r = receive_rank z q in
       let k : z.pipes + z.processes * width z + q - z.pipes ≡ z.processes * width z + q = omega arith in
       let s : z.processes * width z + q - z.processes * width z ≡ q = omega arith in
