@@ -24,7 +24,7 @@ pub stream_searched-w-requires : goal.stream_searched-w-requires
 stream_searched-w-requires c =
     let p = c.requires in
     let l = c.loop-i in (
-      share_at p.0 p.1 l.i (omega arith) c.flow_at.ensures p.2 p.3,
+      share_at c.args.v p.0 l.i (omega arith) c.flow_at.ensures p.1 (omega arith),
       omega (arith, l.invariant.0, p.0.few.ranged.sized.most_streams),
     )
 

@@ -7,7 +7,7 @@ use Rattle.window.specs.Pieces.{same_piece, found_piece, lost_piece}
 use Rattle.window.proofs.located.Goals as goal
 
 pub all_searched-w-requires : goal.all_searched-w-requires
-all_searched-w-requires c = let p = c.requires in (p.0.described, p.1, p.2, p.3)
+all_searched-w-requires c = let p = c.requires in (p.0.described, p.1)
 
 pub returns-in-Some : goal.returns-in-Some
 returns-in-Some c =
