@@ -8,7 +8,7 @@
 
 #![tactic(auto)]
 
-ghost use Rattle.std.specs.Prelude.{◌≡◌, true, ℕ, suc, ◌≤◌, ◌<◌, length, get_or, replicate};
+ghost use Rattle.std.specs.Prelude.{◌≡◌, true, ℕ, suc, ◌<◌, length, get_or, replicate};
 ghost use Rattle.meaning.specs.Pipes.{is_entry, entries};
 ghost use Rattle.meaning.specs.Accept.{figures};
 ghost use Rattle.layout.specs.Spans.{process_of, Spans};
