@@ -8,7 +8,7 @@
 
 #![tactic(auto)]
 
-ghost use Rattle.std.specs.Prelude.{◌≡◌, true, ℕ, suc, ◌≤◌, ◌<◌, length, get_or, replicate};
+ghost use Rattle.std.specs.Prelude.{◌≡◌, true, ℕ, suc, ◌<◌, length, get_or, replicate};
 ghost use Rattle.meaning.specs.Pipes.{is_entry, entries};
 ghost use Rattle.meaning.specs.Accept.{figures};
 ghost use Rattle.layout.specs.Spans.{process_of, Spans};
@@ -131,7 +131,10 @@ fn totals_of(v: Survey, spans: &[u32; SPANS], lanes: &mut [u16]) -> Totals
     for i in 0..v.description.sizes.streams {
         let a = LANES * i as usize;
         let f = survey::flow_at(v, i as usize);
-        totals = joined(totals, share_of(f, processes, spans, &mut lanes[a..a + LANES]));
+        totals = joined(
+            totals,
+            share_of(f, processes, spans, &mut lanes[a..a + LANES]),
+        );
     }
     totals
 }

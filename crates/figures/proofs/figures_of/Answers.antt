@@ -1,6 +1,7 @@
 -- `figures::figures_of` meets its contract: the limits on the processes and on the words of each keep their product within 32 bits. Assumes
 -- nothing.
 use mathlib.Core.Path.{refl, sym, ◌∙◌}
+use Prim.Native.Nat.{◌≤◌}
 use native.Mathlib.Omega.{arith}
 use Rattle.lanes.specs.All.{zero_words}
 use Rattle.figures.specs.Shares.{figures_are}
@@ -16,24 +17,15 @@ element_count-requires c = c.requires.0.few
 pub overflow_mul-result : goal.overflow_mul-result
 overflow_mul-result c =
     let p = c.args.v.ground.processes in
-    record {
-      fits = omega (
-        arith,
-        process_words_lem {p = p} (omega (arith, c.args.v.surveyed.ground.processes_is, c.requires.0.processes)) c.totals_of-t.ensures.1.words,
-      );
-    }
+    let few : p ≤ 1024 = omega (arith, c.args.v.surveyed.ground.processes_is, c.requires.0.processes) in
+    record { fits = omega (arith, process_words_lem few c.totals_of-t.ensures.1.words) }
 
 pub overflow_add-result-2 : goal.overflow_add-result-2
 overflow_add-result-2 c =
     let p = c.args.v.ground.processes in
+    let few : p ≤ 1024 = omega (arith, c.args.v.surveyed.ground.processes_is, c.requires.0.processes) in
     let r = c.totals_of-t.ensures.1 in
-    record {
-      fits = omega (
-        arith,
-        process_words_lem {p = p} (omega (arith, c.args.v.surveyed.ground.processes_is, c.requires.0.processes)) r.words,
-        r.ends,
-      );
-    }
+    record { fits = omega (arith, process_words_lem few r.words, r.ends) }
 
 pub overflow_add-result-3 : goal.overflow_add-result-3
 overflow_add-result-3 c =
