@@ -10,7 +10,6 @@ use Rattle.meaning.specs.declared.Ran.{Ran}
 use Rattle.meaning.specs.declared.Readiness.{Readiness}
 use Rattle.meaning.specs.Answers.{declined_number, accept_values, ran_values, ready_values, made_values}
 use Rattle.meaning.specs.Answers.{Acceptance, Answer, MakeAnswer, ReadyAnswer, RunAnswer}
-use Rattle.answer_words.specs.declared.Words.{Words}
 use Rattle.answer_words.specs.Words.{words_of, of_answer, of_ran, of_readiness, left, figure_words, ran_words, ready_words, made_words}
 
 -- the values, or the words as they were where there is none

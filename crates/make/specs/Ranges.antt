@@ -1,5 +1,5 @@
 -- The ranges that a word can be drawn from in 32 bits: those of all words, of sizes in range. Assumes nothing.
-use Rattle.std.specs.Prelude.{◌≡◌, ℕ, ◌≤◌, ℤ, pos, ◌-ℤ◌, ◌≤ℤ◌}
+use Rattle.std.specs.Prelude.{ℕ, ℤ, pos, ◌-ℤ◌, ◌≤ℤ◌}
 use Rattle.std.proofs.Common.{arith}
 use Rattle.integers.specs.Differences.{Abs, gaps}
 use Rattle.integers.specs.Variables.{linear}

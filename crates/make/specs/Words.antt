@@ -1,14 +1,15 @@
 -- The words of a description written into a list of bytes one after another, as the loop leaves it: all of them are the made description,
 -- and what stood behind it stays. Assumes nothing.
-use Rattle.std.specs.Prelude.{◌≡◌, length, set, take, ℤ, pos}
+use Rattle.std.specs.Prelude.{◌≡◌, length, take, ℤ, pos}
 use Rattle.std.proofs.Math.Path.{refl, ap, ap₂}
-use Rattle.std.proofs.Common.{sym, ◌∙◌, subst, add-zero, add-one, length-append, length-drop, take-suc, length-take-le, drop-drop, of_z}
-use mathlib.Core.List.{List, [], ◌∷◌, ◌++◌}
-use Prim.Native.Nat.{ℕ, zero, suc, ◌+◌, ◌*◌, ◌-◌, ◌/◌, ◌%◌, ◌≤◌, ◌<◌}
+use Rattle.std.proofs.Common.{sym, ◌∙◌, subst, add-one, length-append, length-drop, take-suc, length-take-le, drop-drop, of_z}
+use mathlib.Core.List.{List, [], ◌∷◌, ◌++◌, append_assoc}
+use Prim.Native.Nat.{ℕ, zero, suc, ◌+◌, ◌*◌, ◌-◌, ◌≤◌, ◌<◌}
 use native.Mathlib.Omega.{arith}
 use Rattle.std.proofs.Math.ListN.{get_or, drop}
 use Rattle.std.proofs.Math.Seq.{take-length, take-append_seam, drop-append-add}
 use mir.Syntax.{w32}
+use borrow.Rule.Slice.PartMut.{put_mid}
 use Rattle.meaning.specs.declared.Sizes.{Sizes}
 use Rattle.meaning.specs.Lists.{each}
 use Rattle.meaning.specs.Description.{bytes_of, bytes, words_of}
@@ -31,14 +32,15 @@ words_more : (ws : List ℤ) (out : List ℕ) (n : ℕ) → words_to ws (n + 1) 
 unfolding words_to
 words_more ws out n = ap (λ (k : ℕ). words_to ws k out) (add-one n)
 
--- a word, byte by byte
-pub put_is : (out : List ℕ) (i u : ℕ)
-    → set (set (set (set out i (u % 256)) (i + 1) (u / 256 % 256)) (i + 2) (u / 65536 % 256)) (i + 3) (u / 16777216 % 256)
-    ≡ stored (bytes_of u) i 4 out
-unfolding stored
-put_is out i u =
-    ap (λ (j : ℕ). set (set (set (set out j (u % 256)) (i + 1) (u / 256 % 256)) (i + 2) (u / 65536 % 256)) (i + 3) (u / 16777216 % 256))
-    (sym (add-zero i))
+-- a word, in one piece
+pub put_is : (out : List ℕ) (i k u : ℕ) {bs : List ℕ} → k ≡ 4 → i + 4 ≤ length out → bs ≡ bytes_of u
+    → put_mid i k out bs ≡ stored (bytes_of u) i 4 out
+put_is out i k u e h b =
+    let l : length (bytes_of u) ≡ 4 = refl in
+    ap₂ (λ (k : ℕ) (bs : List ℕ). put_mid i k out bs) e b
+    ∙ sym (stored_paste (bytes_of u) i out 4 h (omega arith)
+    ∙ append_assoc (take i out) (bytes_of u) (drop (i + 4) out)
+    ∙ ap (λ (l : List ℕ). take i out ++ (bytes_of u ++ l)) (sym (drop-drop 4 i out)))
 
 -- ---- all of them
 

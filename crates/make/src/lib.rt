@@ -78,10 +78,7 @@ fn put_word(out: &mut [u8], k: u32, u: u32)
     ensures { out.new ≡ stored (bytes_of u) (4 * k) 4 out.old }
 {
     let i = 4 * k as usize;
-    out[i] = (u % 256) as u8;
-    out[i + 1] = (u / 256 % 256) as u8;
-    out[i + 2] = (u / 65536 % 256) as u8;
-    out[i + 3] = (u / 16777216 % 256) as u8;
+    out[i..i + 4].copy_from_slice(&u.to_le_bytes());
 }
 
 // The three sizes.

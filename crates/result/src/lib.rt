@@ -10,6 +10,7 @@
 
 ghost use Rattle.std.specs.Prelude.{◌≡◌, ◌≤◌, length};
 ghost use Rattle.integers.specs.Fill.{fill_by};
+ghost use Rattle.refusals.specs.Numbers.{numbered};
 ghost use Rattle.meaning.specs.Lists.{every, numbers};
 ghost use Rattle.meaning.specs.Limits.{limits_of};
 ghost use Rattle.meaning.specs.Description.{description_of};
@@ -25,8 +26,9 @@ ghost use Rattle.result.specs.Call.{Called, Drawable};
 
 use lanes::ALL;
 use layout::SPANS;
-use meaning::{Answer, ELEMENTS};
+use meaning::ELEMENTS;
 use port_table::{PORTS, Size};
+use refusals::Refusal;
 use survey::Survey;
 
 // Whether every pipe is wholly received.
@@ -34,13 +36,11 @@ fn all_out(ports: &[u32], state: &[u32], pipes: usize) -> bool
     requires { Asked ports.now (length state.now) pipes }
     ensures { result ≡ every (out_by ports.now state.now) (numbers pipes) }
 {
-    let mut q = 0;
-    while q < pipes {
+    for q in 0..pipes {
         let e = port_table::end(ports, q);
         if ports::word(state, e.received) != e.total {
             return false;
         }
-        q += 1;
     }
     true
 }
@@ -50,11 +50,9 @@ fn put_in_order(received: &[u32], places: &[u16], elements: usize, output: &mut 
     requires { Readable received.now places.now elements output.old }
     ensures { output.new ≡ fill_by (placed received.now places.now) elements output.old }
 {
-    let mut e = 0;
-    while e < elements {
+    for e in 0..elements {
         let at = places[e] as usize;
         output[e] = received[at];
-        e += 1;
     }
 }
 
@@ -79,19 +77,16 @@ fn result_opened(
     received: &[u32],
     state: &[u32],
     output: &mut [u32],
-) -> Answer
-    requires { (Drawable s.now ports.now z received.now state.now) × (SurveyOf s.now v) × (Spans (description_of s.now).nest spans.now)
+) -> Result<(), Refusal>
+    requires { (Drawable s.now ports.now z received.now state.now) × (SurveyOf s.now v)
+        × (Spans (description_of s.now).nest spans.now)
         × (AllLanes (description_of s.now) lanes.now) }
-    ensures { Called s.now received.now state.now output.old result output.new }
+    ensures { Called s.now received.now state.now output.old (numbered result) output.new }
 {
     let out = all_out(ports, state, z.pipes);
-    let r = declines::of_result(out, output.len() == received.len());
-    if r == 0 {
-        fill_output(v, spans, lanes, received, output);
-        Answer::Done
-    } else {
-        Answer::Refused(r)
-    }
+    declines::of_result(out, output.len() == received.len())?;
+    fill_output(v, spans, lanes, received, output);
+    Ok(())
 }
 
 // RESULT
@@ -102,8 +97,8 @@ pub fn result(
     waiting: &[u32],
     received: &[u32],
     state: &[u32],
-) -> Answer
-    ensures { (result
+) -> Result<(), Refusal>
+    ensures { (numbered result
         ≡ (result_call (limits_of board) s.now output.old
         (memory_of waiting.now received.now state.now)).answer)
         × (output.new
@@ -115,14 +110,8 @@ pub fn result(
     let mut lanes = [0u16; ALL];
     let o = opening::open_with_lanes(
         board, s, waiting, received, state, &mut spans, &mut lanes, &mut ports,
-    );
-    let r = o.refusal;
-    if r == 0 {
-        let z = o.size;
-        let v = o.survey;
-        let spans = &spans;
-        result_opened(s, v, &ports, spans, &lanes, z, received, state, output)
-    } else {
-        Answer::Refused(r)
-    }
+    )?;
+    result_opened(
+        s, o.survey, &ports, &spans, &lanes, o.size, received, state, output,
+    )
 }

@@ -5,7 +5,6 @@ use Prim.Native.Nat.{ℕ, ◌+◌, ◌*◌}
 use native.Mathlib.Omega.{arith}
 use lib.ListN.{set}
 use Rattle.answer_words.specs.Words.{noted_out}
-use borrow.Author.Rules.{rules}
 use Rattle.answer_words.proofs.note.Goals as goal
 
 pub returns-then-k-list : goal.returns-then-k-list

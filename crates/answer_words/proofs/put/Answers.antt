@@ -2,7 +2,6 @@
 use mathlib.Core.Path.{sym}
 use native.Mathlib.Omega.{arith}
 use lib.Seq.{set_out}
-use borrow.Author.Rules.{rules}
 use Rattle.answer_words.proofs.put.Goals as goal
 
 pub returns-else-at-list : goal.returns-else-at-list

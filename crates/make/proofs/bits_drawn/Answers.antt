@@ -2,7 +2,6 @@
 use mathlib.Core.Path.{◌∙◌, ap}
 use mir.Syntax.{w32}
 use mir.Val.{of_z}
-use borrow.Author.Rules.{rules}
 use Rattle.integers.specs.Words.{held}
 use Rattle.make.proofs.bits_drawn.Goals as goal
 

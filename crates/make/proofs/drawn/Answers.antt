@@ -1,6 +1,5 @@
 -- `make::drawn` meets its contract. Assumes nothing.
 use mathlib.Core.Path.{sym, ◌∙◌, ap, subst}
-use borrow.Author.Rules.{rules}
 use Rattle.integers.specs.Words.{held}
 use Rattle.meaning.specs.declared.Range.{Range}
 use Rattle.meaning.specs.Generator.{drawn_from}

@@ -4,7 +4,6 @@ use Prim.Native.Nat.{ℕ, suc, ◌%◌, ◌≤◌, ◌<◌}
 use native.Mathlib.Nat.{mod-lt}
 use native.Mathlib.Omega.{arith}
 use lib.IntN.{pos, ◌+ℤ◌}
-use borrow.Author.Rules.{rules}
 use Rattle.integers.specs.Words.{fits, box, add, at, bits}
 use Rattle.make.proofs.drawn_from.Goals as goal
 

@@ -1,6 +1,5 @@
 -- `make::put_sizes` meets its contract. Assumes nothing.
 use mathlib.Core.Path.{◌∙◌, ap}
-use borrow.Author.Rules.{rules}
 use Rattle.meaning.specs.Description.{bytes_of}
 use Rattle.words.specs.Stored.{stored}
 use Rattle.make.proofs.put_sizes.Goals as goal

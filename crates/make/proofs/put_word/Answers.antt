@@ -1,18 +1,11 @@
 -- `make::put_word` meets its contract. Assumes nothing.
+use mathlib.Core.Path.{◌∙◌}
+use Prim.Native.Nat.{◌*◌}
 use native.Mathlib.Omega.{arith}
-use lib.ListN.{length-set}
-use borrow.Author.Rules.{rules}
 use Rattle.make.specs.Words.{put_is}
 use Rattle.make.proofs.put_word.Goals as goal
 
-pub bounds-out-i-2 : goal.bounds-out-i-2
-bounds-out-i-2 c = simp length-set (omega (arith, c.requires))
-
-pub bounds-out-i-3 : goal.bounds-out-i-3
-bounds-out-i-3 c = simp length-set (omega (arith, c.requires))
-
-pub bounds-out-i-4 : goal.bounds-out-i-4
-bounds-out-i-4 c = simp length-set (omega (arith, c.requires))
-
 pub returns : goal.returns
-returns c = put_is _ _ _
+returns c =
+    let a = c.args in
+    put_is a.out.now (4 * a.k) _ a.u (omega arith) c.requires (c.copy_from_slice.ensures.after ∙ c.to_le_bytes.ensures)

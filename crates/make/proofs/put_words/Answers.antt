@@ -4,7 +4,6 @@ use Prim.Native.Nat.{ℕ, suc, ◌+◌, ◌-◌, ◌≤◌}
 use native.Mathlib.Omega.{arith}
 use mir.Syntax.{w32}
 use mir.Val.{of_z}
-use borrow.Author.Rules.{rules}
 use Rattle.meaning.specs.Description.{words_of}
 use Rattle.meaning.specs.Generator.{round, after, drawn, made_words}
 use Rattle.generated.specs.Rounds.{after_none, after_more}

@@ -7,7 +7,6 @@ use borrow.Rule.Slice.PartMut.{mid_len}
 use Rattle.meaning.specs.Description.{streams_of}
 use Rattle.table.specs.Blocks.{Streamed, zeros_length, streamed_none, streamed_next}
 use Rattle.table.specs.Drawable.{flow_drawable, flow_passed}
-use borrow.Author.Rules.{rules}
 use Rattle.table.proofs.fill_streams.Goals as goal
 
 pub loop-i-init : goal.loop-i-init

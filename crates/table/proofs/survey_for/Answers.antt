@@ -5,10 +5,7 @@ use native.Mathlib.Omega.{arith}
 use lib.ListN.{length}
 use Rattle.refusals.specs.Numbers.{number_of, refusal_number, number-positive}
 use Rattle.meaning.specs.declared.Description.{Description}
-use Rattle.meaning.specs.Tests.{refusal}
 use Rattle.meaning.specs.Space.{processes}
-use Rattle.meaning.specs.Accept.{refusal_of}
-use Rattle.declines.specs.Tests.{table_lengths}
 use Rattle.table.specs.Drawable.{refused_own, refused_first}
 use borrow.Author.Rules.{rules}
 use Rattle.table.proofs.survey_for.Goals as goal
