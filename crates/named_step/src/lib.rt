@@ -13,11 +13,12 @@ ghost use Rattle.meaning.specs.Description.{description_of};
 ghost use Rattle.meaning.specs.Rules.{memory_of};
 ghost use Rattle.refusals.specs.Numbers.{numbered};
 ghost use Rattle.survey.specs.OfBytes.{SurveyOf};
-ghost use Rattle.layout.specs.Spans.{Spans, span_words};
+ghost use Rattle.layout.specs.Spans.{Spans};
 ghost use Rattle.opening.specs.Opening.{Opened};
 ghost use Rattle.named_step.specs.Named.{has_port_by, named_by, Rows};
 ghost use Rattle.named_step.specs.Stepped.{Stepped};
 
+use layout::SPANS;
 use meaning::Step;
 use port_table::Size;
 use refusals::Refusal;

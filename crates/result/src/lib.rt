@@ -16,8 +16,8 @@ ghost use Rattle.meaning.specs.Limits.{limits_of};
 ghost use Rattle.meaning.specs.Description.{description_of};
 ghost use Rattle.meaning.specs.Rules.{memory_of};
 ghost use Rattle.meaning.specs.Calls.{length_of, result as result_call};
-ghost use Rattle.survey.specs.OfBytes.{Surveyed, SurveyOf};
-ghost use Rattle.layout.specs.Spans.{Spans, span_words};
+ghost use Rattle.survey.specs.OfBytes.{SurveyOf};
+ghost use Rattle.layout.specs.Spans.{Spans};
 ghost use Rattle.figures.specs.Shares.{AllLanes};
 ghost use Rattle.element_places.specs.Order.{Placeable};
 ghost use Rattle.result.specs.Out.{out_by, Asked};
@@ -79,8 +79,7 @@ fn result_opened(
     output: &mut [u32],
 ) -> Result<(), Refusal>
     requires { (Drawable s.now ports.now z received.now state.now) × (SurveyOf s.now v)
-        × (Spans (description_of s.now).nest spans.now)
-        × (AllLanes (description_of s.now) lanes.now) }
+        × (Spans (description_of s.now).nest spans.now) × (AllLanes (description_of s.now) lanes.now) }
     ensures { Called s.now received.now state.now output.old (numbered result) output.new }
 {
     let out = all_out(ports, state, z.pipes);

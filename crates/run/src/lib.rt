@@ -8,7 +8,7 @@ ghost use Rattle.meaning.specs.Description.{description_of};
 ghost use Rattle.meaning.specs.Rules.{memory_of};
 ghost use Rattle.meaning.specs.Calls.{run};
 ghost use Rattle.survey.specs.OfBytes.{SurveyOf};
-ghost use Rattle.layout.specs.Spans.{Spans, span_words};
+ghost use Rattle.layout.specs.Spans.{Spans};
 ghost use Rattle.opening.specs.Opening.{Opened};
 ghost use Rattle.run.specs.Call.{RanBy};
 

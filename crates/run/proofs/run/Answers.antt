@@ -8,7 +8,7 @@ use Rattle.run.proofs.run.Goals as goal
 pub run_opened-requires : goal.run_opened-requires
 run_opened-requires c =
     let e = c.open-o.ensures in
-    let z = c.if-r-eq0.true in (e.opened z, e.survey z, e.spans z, omega arith)
+    let z = c.if-r-eq0.true in (e.opened z, e.survey z, e.spans z)
 
 pub returns-then-r-eq0 : goal.returns-then-r-eq0
 returns-then-r-eq0 c =

@@ -1,6 +1,5 @@
 -- `start::fill_memory` meets its contract: a value put at its element's place stands in pipe order, and the figures say how many words to
 -- clear, no more than the lists have. Assumes nothing.
-use borrow.Author.Rules.{rules}
 use native.Mathlib.Omega.{arith}
 use Rattle.start.specs.Call.{elements_is, words_is, putting, memory_filled}
 use Rattle.start.proofs.fill_memory.Goals as goal

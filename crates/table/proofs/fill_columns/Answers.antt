@@ -1,7 +1,6 @@
 -- `table::fill_columns` meets its contract: what the limits of a board accept the gauge's accept too, so that the columns can be drawn.
 -- Assumes nothing.
 use mathlib.Core.Path.{◌≡◌, sym, ◌∙◌, ap}
-use native.Mathlib.Omega.{arith}
 use Rattle.refusals.specs.Numbers.{number_of, refusal_number}
 use Rattle.meaning.specs.declared.Limits.{Limits}
 use Rattle.geometry.specs.UpTo.{by_gauge}

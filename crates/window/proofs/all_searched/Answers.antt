@@ -1,10 +1,9 @@
 -- `window::all_searched` meets its contract: the search in what is left of the streams has the answer of the whole; a stream adds at most
 -- 4,194,304 to the start. Assumes nothing.
-use mathlib.Core.Path.{◌≡◌, refl, ◌∙◌, ap, ap₂}
+use mathlib.Core.Path.{refl, ◌∙◌, ap, ap₂}
 use Prim.Native.Nat.{◌+◌}
 use native.Mathlib.Omega.{arith}
 use lib.ListN.{drop}
-use borrow.Author.Rules.{rules}
 use Rattle.meaning.specs.declared.Nest.{Nest}
 use Rattle.meaning.specs.declared.Stream.{Stream}
 use Rattle.meaning.specs.Description.{streams_of}

@@ -1,6 +1,5 @@
 -- `window::located` meets its contract: the search finds a pipe exactly if its number is below how many there are, and the elements passed
 -- over say where its part begins. Assumes nothing.
-use borrow.Author.Rules.{rules}
 use mathlib.Core.Path.{sym, ap}
 use mathlib.Core.Bool.{Bool, cond}
 use Rattle.window.specs.Pieces.{same_piece, found_piece, lost_piece}
