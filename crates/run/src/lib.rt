@@ -3,6 +3,7 @@
 #![tactic(auto)]
 
 ghost use Rattle.std.specs.Prelude.{◌≡◌, length};
+ghost use Rattle.refusals.specs.Numbers.{numbered};
 ghost use Rattle.meaning.specs.Limits.{limits_of};
 ghost use Rattle.meaning.specs.Description.{description_of};
 ghost use Rattle.meaning.specs.Rules.{memory_of};
@@ -16,6 +17,7 @@ use layout::SPANS;
 use meaning::{Ran, STATE_WORDS};
 use port_table::{PORTS, Size};
 use ready_set::{FLAGS, MEMBERS};
+use refusals::Refusal;
 use survey::Survey;
 
 // The call once the memory is opened, with the survey of its bytes.
@@ -32,7 +34,7 @@ fn run_opened(
 ) -> Ran
     requires { (Opened s.now (memory_of waiting.now received.old state.old) ports.now z) × (SurveyOf s.now v)
         × (Spans (description_of s.now).nest spans.now) }
-    ensures { RanBy s.now steps (memory_of waiting.now received.old state.old) result
+    ensures { RanBy s.now steps (memory_of waiting.now received.old state.old) (Ok result)
         (memory_of waiting.now received.new state.new) }
 {
     let g = step_rules::program_of(v);
@@ -43,7 +45,7 @@ fn run_opened(
     let done = run_steps::run_steps(
         s, g, ports, spans, &wakeups, z, steps, waiting, received, state, &mut flags,
     );
-    Ran::Ran {
+    Ran {
         steps: done,
         ready: ready_set::lowest(&flags) < MEMBERS,
     }
@@ -57,8 +59,8 @@ pub fn run(
     waiting: &[u32],
     received: &mut [u32],
     state: &mut [u32],
-) -> Ran
-    ensures { (result ≡ (run (limits_of board) s.now steps
+) -> Result<Ran, Refusal>
+    ensures { (numbered result ≡ (run (limits_of board) s.now steps
         (memory_of waiting.now received.old state.old)).answer)
         × (memory_of waiting.now received.new state.new
         ≡ (run (limits_of board) s.now steps
@@ -66,14 +68,8 @@ pub fn run(
 {
     let mut spans = [0u32; SPANS];
     let mut ports = [0u32; PORTS];
-    let o = opening::open(board, s, waiting, received, state, &mut spans, &mut ports);
-    let r = o.refusal;
-    if r == 0 {
-        let z = o.size;
-        let v = o.survey;
-        let spans = &spans;
-        run_opened(s, v, &ports, spans, z, steps, waiting, received, state)
-    } else {
-        Ran::Refused(r)
-    }
+    let o = opening::open(board, s, waiting, received, state, &mut spans, &mut ports)?;
+    Ok(run_opened(
+        s, o.survey, &ports, &spans, o.size, steps, waiting, received, state,
+    ))
 }

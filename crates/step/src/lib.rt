@@ -3,13 +3,14 @@
 #![tactic(auto)]
 
 ghost use Rattle.std.specs.Prelude.{◌≡◌};
+ghost use Rattle.refusals.specs.Numbers.{numbered};
 ghost use Rattle.meaning.specs.Limits.{limits_of};
 ghost use Rattle.meaning.specs.Rules.{memory_of};
 ghost use Rattle.meaning.specs.Calls.{step};
 
 use layout::SPANS;
-use meaning::Answer;
 use port_table::PORTS;
+use refusals::Refusal;
 
 // STEP
 pub fn step(
@@ -21,8 +22,8 @@ pub fn step(
     waiting: &[u32],
     received: &mut [u32],
     state: &mut [u32],
-) -> Answer
-    ensures { (result ≡ (step (limits_of board) s.now kind number stream
+) -> Result<(), Refusal>
+    ensures { (numbered result ≡ (step (limits_of board) s.now kind number stream
         (memory_of waiting.now received.old state.old)).answer)
         × (memory_of waiting.now received.new state.new
         ≡ (step (limits_of board) s.now kind number stream
@@ -30,26 +31,18 @@ pub fn step(
 {
     let mut spans = [0u32; SPANS];
     let mut ports = [0u32; PORTS];
-    let o = opening::open(board, s, waiting, received, state, &mut spans, &mut ports);
-    let r = o.refusal;
-    if r == 0 {
-        let z = o.size;
-        let v = o.survey;
-        let spans = &spans;
-        named_step::step_opened(
-            s,
-            v,
-            &ports,
-            spans,
-            z,
-            kind,
-            number as usize,
-            stream as usize,
-            waiting,
-            received,
-            state,
-        )
-    } else {
-        Answer::Refused(r)
-    }
+    let o = opening::open(board, s, waiting, received, state, &mut spans, &mut ports)?;
+    named_step::step_opened(
+        s,
+        o.survey,
+        &ports,
+        &spans,
+        o.size,
+        kind,
+        number as usize,
+        stream as usize,
+        waiting,
+        received,
+        state,
+    )
 }

@@ -1,10 +1,10 @@
 -- The columns' words, block by block: those of the processes, then a block for each stream in use. Assumes nothing.
-use Rattle.std.specs.Prelude.{◌≡◌, ◌⊎◌, List, ℕ, ◌+◌, ◌*◌, ◌≤◌, ◌<◌, length, get_or, replicate}
-use Rattle.std.proofs.Common.{◌∙◌, ap, inl, inr, zero-add, eq-or-lt_of_le, mul-le-mul_right, arith}
+use Rattle.std.specs.Prelude.{◌≡◌, ◌⊎◌, List, ◌++◌, ℕ, ◌+◌, ◌*◌, ◌-◌, ◌≤◌, ◌<◌, length, get_or, take, drop, replicate}
+use Rattle.std.proofs.Common.{◌∙◌, ap, inl, inr, zero-add, eq-or-lt_of_le, mul-le-mul_right, arith, length-take-le}
+use Rattle.std.proofs.Common.{get_or-take, get_or-drop, get_or-append-add}
+use Rattle.std.proofs.Math.ListN.{get_or-append}
 use Rattle.std.proofs.lemmas.List.{length-replicate}
 use borrow.Rule.Slice.PartMut.{put_mid}
-use Rattle.integers.specs.Fill.{fill_by, fill_past}
-use Rattle.integers.proofs.Fill.{fill_at_lem}
 use Rattle.integers.specs.declared.V2.{V2}
 use Rattle.meaning.specs.declared.Nest.{Nest}
 use Rattle.meaning.specs.declared.Stream.{Stream}
@@ -69,12 +69,15 @@ module _ {n : Nest} {ss : List Stream} {i : ℕ} {w : List ℕ} (a k : ℕ) (ys 
 
 -- ---- the processes' words in front
 
-module _ (es w : List ℕ) (size : 3072 ≤ length w) where
-  abbrev copied : List ℕ
-  copied = fill_by (λ k. get_or es k 0) 3072 w
+module _ (es w : List ℕ) (wide : 3072 ≤ length es) where
+  abbrev pub copied : List ℕ
+  copied = take 3072 es ++ drop 3072 w
+
+  front : length (take 3072 es) ≡ 3072
+  front = length-take-le 3072 es wide
 
   pub front_copied : (k : ℕ) → k < 3072 → get_or copied k 0 ≡ get_or es k 0
-  front_copied k l = fill_at_lem (λ k. get_or es k 0) 3072 k w 0 l size
+  front_copied k l = get_or-append (take 3072 es) (drop 3072 w) 0 k (omega (arith, front)) ∙ get_or-take 3072 es k 0 l
 
   pub streamed_copied : {n : Nest} {ss : List Stream} {m : ℕ} → Streamed n ss m w → Streamed n ss m copied
   streamed_copied g =
@@ -85,4 +88,9 @@ module _ (es w : List ℕ) (size : 3072 ≤ length w) where
       }
     where
       past : (k : ℕ) → 3072 ≤ k → get_or copied k 0 ≡ get_or w k 0
-      past k l = fill_past (λ k. get_or es k 0) 3072 k w 0 l
+      past k l =
+          let j = k - 3072 in
+          let t : k ≡ length (take 3072 es) + j = omega (arith, front) in
+          let s : 3072 + j ≡ k = omega arith in
+          ap (λ (i : ℕ). get_or copied i 0) t ∙ get_or-append-add (take 3072 es) (drop 3072 w) j 0 ∙ get_or-drop 3072 w j 0
+          ∙ ap (λ (i : ℕ). get_or w i 0) s

@@ -8,7 +8,7 @@
 
 #![tactic(auto)]
 
-ghost use Rattle.std.specs.Prelude.{◌≡◌, ℕ, ◌<◌, ◌≤◌, length, get_or, replicate, IfOk};
+ghost use Rattle.std.specs.Prelude.{◌≡◌, ◌++◌, ℕ, ◌<◌, ◌≤◌, length, take, drop, replicate, IfOk};
 ghost use Rattle.integers.specs.Fill.{fill_by};
 ghost use Rattle.refusals.specs.Numbers.{refusal_number, numbered};
 ghost use Rattle.meaning.specs.Limits.{limits_of, gauge_limits, UpTo};
@@ -49,11 +49,9 @@ fn fill_streams(v: Survey, spans: &[u32; SPANS], words: &mut [u32])
 // The words of the processes go in front.
 fn copy_spans(spans: &[u32; SPANS], words: &mut [u32])
     requires { span_words ≤ length words.old }
-    ensures { words.new ≡ fill_by (λ k. get_or spans.now k 0) span_words words.old }
+    ensures { words.new ≡ take span_words spans.now ++ drop span_words words.old }
 {
-    for k in 0..SPANS {
-        words[k] = spans[k];
-    }
+    words[..SPANS].copy_from_slice(&spans[..SPANS]);
 }
 
 // What the rows need of a description.

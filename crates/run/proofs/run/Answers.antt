@@ -1,24 +1,28 @@
 -- `run::run` meets its contract: the memory's refusal, with the memory as it was, or the steps on an opened memory. Assumes nothing.
+use mathlib.Core.Path.{◌≡◌, refl, ◌∙◌}
 use native.Mathlib.Omega.{arith}
 use borrow.Author.Rules.{rules}
+use Rattle.refusals.specs.Numbers.{number_of, numbered, number-positive}
+use Rattle.meaning.specs.Answers.{Refused}
+use Rattle.meaning.specs.Limits.{limits_of}
 use Rattle.meaning.specs.Rules.{memory_of}
 use Rattle.run.specs.Call.{opened_call, refused_call}
 use Rattle.run.proofs.run.Goals as goal
 
 pub run_opened-requires : goal.run_opened-requires
-run_opened-requires c =
-    let e = c.open-o.ensures in
-    let z = c.if-r-eq0.true in (e.opened z, e.survey z, e.spans z)
+run_opened-requires c = let o = c.in_ok-o.ensures.opened in (o.opened, o.survey, o.spans)
 
-pub returns-then-r-eq0 : goal.returns-then-r-eq0
-returns-then-r-eq0 c =
+pub returns : goal.returns
+returns c =
     let a = c.args in
-    opened_call _ a.s.now a.steps (memory_of a.waiting.now a.received.now a.state.now) c.open-o.ensures.refused
-    c.if-r-eq0.true
-    c.run_opened.ensures
+    opened_call _ a.s.now a.steps (memory_of a.waiting.now a.received.now a.state.now)
+    c.in_ok-o.ensures.number refl c.run_opened.ensures
 
-pub returns-else-r-eq0 : goal.returns-else-r-eq0
-returns-else-r-eq0 c =
+pub returns-in_err-o : goal.returns-in_err-o
+returns-in_err-o c =
     let a = c.args in
-    refused_call _ a.s.now a.steps (memory_of a.waiting.now a.received.now a.state.now)
-    c.open-o.ensures.refused c.if-r-eq0.false
+    let e = c.in_err-o.field-0.0 in
+    let k : numbered c.from_residual.result ≡ Refused (number_of e) = search rules in
+    let d = refused_call (limits_of a.board) a.s.now a.steps (memory_of a.waiting.now a.received.now a.state.now)
+    c.in_err-o.ensures.number (λ z. omega (arith, number-positive e)) in
+    (k ∙ d.0, d.1)

@@ -2,11 +2,12 @@
 -- as they were filled. Assumes nothing.
 use mathlib.Core.Path.{◌≡◌, sym, subst}
 use mathlib.Core.List.{List}
-use Prim.Native.Nat.{ℕ, ◌≤◌, ◌<◌}
+use Prim.Native.Nat.{ℕ, ◌<◌}
 use native.Mathlib.Omega.{arith}
-use lib.ListN.{length, get_or}
+use lib.ListN.{get_or}
 use Rattle.meaning.specs.Description.{streams_of}
 use Rattle.table.specs.Blocks.{Streamed, zeros_length, front_copied, streamed_copied}
+use borrow.Author.Rules.{rules}
 use Rattle.table.proofs.draw.Goals as goal
 
 pub copy_spans-requires : goal.copy_spans-requires
@@ -18,7 +19,7 @@ returns c =
     let g = c.requires.0 in
     let es = c.args.spans.now in
     let w = c.fill_streams.new.words in
-    let l : 3072 ≤ length w = omega (arith, c.fill_streams.auto.words, zeros_length c.requires.2) in
+    let e = sym c.copy_spans.ensures in
     record {
       shaped = c.shape_of.ensures;
       bounded = g.bounded;
@@ -26,7 +27,6 @@ returns c =
       most = omega (arith, c.args.v.surveyed.in_use, g.most);
       front = es;
       spans = c.requires.1;
-      copied = subst (λ (v : List ℕ). (j : ℕ) → j < 3072 → get_or v j 0 ≡ get_or es j 0) (sym c.copy_spans.ensures) (front_copied es w l);
-      streams = subst (Streamed d.nest (streams_of d) _) (sym c.copy_spans.ensures)
-          (streamed_copied es w l c.fill_streams.ensures);
+      copied = subst (λ (v : List ℕ). (j : ℕ) → j < 3072 → get_or v j 0 ≡ get_or es j 0) e (front_copied es w (omega arith));
+      streams = subst (Streamed d.nest (streams_of d) _) e (streamed_copied es w (omega arith) c.fill_streams.ensures);
     }
