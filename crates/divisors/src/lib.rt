@@ -4,14 +4,13 @@
 
 ghost use Rattle.std.specs.Prelude.{◌≡◌, ◌<◌};
 ghost use Rattle.meaning.specs.Accept.{stream_divisor, divisors};
-ghost use Rattle.survey.specs.Surveys.{Surveyed};
 
 use meaning::Divisors;
 use survey::Survey;
 
 // The divisor of stream i, 0 past the streams in use.
 fn stream_divisor(v: Survey, i: u32) -> u32
-    requires { (Surveyed v) × (i < 6) }
+    requires { i < 6 }
     ensures { result ≡ stream_divisor v.description i }
 {
     if i < v.description.sizes.streams {
@@ -24,7 +23,6 @@ fn stream_divisor(v: Survey, i: u32) -> u32
 
 // The divisors of place and of the six streams.
 pub fn divisors_of(v: Survey) -> Divisors
-    requires { Surveyed v }
     ensures { result ≡ divisors v.description }
 {
     Divisors {

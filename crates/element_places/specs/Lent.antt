@@ -30,7 +30,8 @@ use Rattle.counting.specs.Forms.{weigh}
 use Rattle.layout.specs.Spans.{process_of, Spans}
 use Rattle.survey.specs.declared.Flow.{Flow}
 use Rattle.survey.specs.declared.Survey.{Survey}
-use Rattle.survey.specs.Surveys.{FlowOf, Surveyed, no_flow, flow_is}
+use Rattle.survey.specs.Surveys.{FlowOf, no_flow}
+use Rattle.survey.specs.OfBytes.{flow_is}
 use Rattle.lanes.specs.Flow.{Flows, LanesIn, Seen}
 use Rattle.lanes.specs.All.{seen_of}
 use Rattle.pipes.specs.Elements.{At, Near, good, inside, total_none, at_one, one_elements, index_moving}
@@ -227,23 +228,23 @@ module _ (f : Flow) (from start p : ℕ) (places : List ℕ) where
 
 -- ---- stream i of a survey, its elements numbered from `from` on
 
-module _ {v : Survey} (h : Placeable v.description) (u : Surveyed v) (i : ℕ) {f : Flow} (l : i < v.description.sizes.streams)
+module _ (v : Survey) (h : Placeable v.description) (i : ℕ) {f : Flow} (l : i < v.description.sizes.streams)
     (e : f ≡ get_or v.flows i no_flow) {from : ℕ} (ef : from ≡ stream_start v.description.nest (streams_of v.description) i) where
   abbrev d : Description
   d = v.description
 
   flow : FlowOf d.nest (stream_at d i) f
-  flow = subst (λ (s : Stream). FlowOf d.nest s f) (stream_is d h.described i l refl) (flow_is u i l e)
+  flow = subst (λ (s : Stream). FlowOf d.nest s f) (stream_is d h.described i l refl) (flow_is v i l e)
 
   -- what its pipes are lent
   pub saying_at : {spans lanes places : List ℕ} → Spans d.nest spans → 3072 ≤ length spans → LanesIn d.nest (stream_at d i) lanes
       → length places ≡ 24576 → Saying f v.ground.processes from spans lanes places
   saying_at of long has words =
-      let k = share_at h.described u i l e of long in
+      let k = share_at v h.described i l e of long in
       record {
         seen = seen_of k.flows flow.nest_is flow.stream_is of long has;
         counted = k.counted;
-        small = (sharing_at h.described u i l e).elements;
+        small = (sharing_at v h.described i l e).elements;
         fits = fits;
         words = words;
       }
@@ -263,4 +264,4 @@ module _ {v : Survey} (h : Placeable v.description) (u : Surveyed v) (i : ℕ) {
   right_at_lem xs out o =
       next_right h i l xs out
       (o ∙ ap₂ (λ (n : Nest) (s : Stream). said n s from v.ground.processes xs) flow.nest_is flow.stream_is
-      ∙ ap₂ (λ (a b : ℕ). said d.nest (stream_at d i) a b xs) ef u.ground.processes_is)
+      ∙ ap₂ (λ (a b : ℕ). said d.nest (stream_at d i) a b xs) ef v.surveyed.ground.processes_is)

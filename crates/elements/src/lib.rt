@@ -12,14 +12,13 @@ ghost use Rattle.meaning.specs.Limits.{elements_most};
 ghost use Rattle.meaning.specs.Description.{streams_of};
 ghost use Rattle.meaning.specs.Body.{stream_start};
 ghost use Rattle.meaning.specs.Calls.{length_of};
-ghost use Rattle.survey.specs.Surveys.{Surveyed};
 ghost use Rattle.elements.specs.Counts.{Few};
 
 use survey::Survey;
 
 // The elements of the first streams.
 pub fn elements_in(v: Survey, count: u32) -> u32
-    requires { (Few v.description) × (Surveyed v) × (count ≤ v.description.sizes.streams) }
+    requires { (Few v.description) × (count ≤ v.description.sizes.streams) }
     ensures { result ≡ stream_start v.description.nest (streams_of v.description) count }
 {
     let mut sum: u32 = 0;
@@ -31,7 +30,7 @@ pub fn elements_in(v: Survey, count: u32) -> u32
 
 // The elements of all streams.
 pub fn element_count(v: Survey) -> u32
-    requires { (Few v.description) × (Surveyed v) }
+    requires { Few v.description }
     ensures { (result ≡ length_of v.description) × (result ≤ elements_most) }
 {
     elements_in(v, v.description.sizes.streams)

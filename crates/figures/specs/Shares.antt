@@ -29,7 +29,8 @@ use Rattle.survey.specs.declared.Flow.{Flow}
 use Rattle.lanes.specs.All.{LanesOf, lanes_of}
 use Rattle.lanes.specs.Flow.{Laid, LanesIn, Seen, Flowing, flowing_at}
 use Rattle.survey.specs.declared.Survey.{Survey}
-use Rattle.survey.specs.Surveys.{Surveyed, no_flow, flow_is, streams_used}
+use Rattle.survey.specs.Surveys.{no_flow, streams_used}
+use Rattle.survey.specs.OfBytes.{flow_is}
 use Rattle.layout.specs.Spans.{Spans}
 use Rattle.lanes.specs.Accepted.{laid_stream}
 use Rattle.pipe_parts.specs.Starts.{entering}
@@ -236,25 +237,25 @@ figures_are {d} h {r} {t} e p i l q w s =
 
 -- ---- stream i of a survey
 
-module _ {v : Survey} (h : Described v.description) (u : Surveyed v) (i : ℕ) {f : Flow} (l : i < v.description.sizes.streams)
+module _ (v : Survey) (h : Described v.description) (i : ℕ) {f : Flow} (l : i < v.description.sizes.streams)
     (e : f ≡ get_or v.flows i no_flow) where
   sharing : Sharing v.description.nest (get_or v.description.streams i no_stream)
   sharing = stream_sharing v.description h i l refl
 
   pub sharing_at : Sharing f.nest f.stream
-  sharing_at = let k = flow_is u i l e in subst₂ Sharing (sym k.nest_is) (sym k.stream_is) sharing
+  sharing_at = let k = flow_is v i l e in subst₂ Sharing (sym k.nest_is) (sym k.stream_is) sharing
 
   pub share_at : {spans : List ℕ} → Spans v.description.nest spans → 3072 ≤ length spans → Flowing f v.ground.processes spans
-  share_at of long = flowing_at u i l e sharing.laid of long
+  share_at of long = flowing_at v i l e sharing.laid of long
 
   -- its part of the totals, and its lanes
   pub share_next : {t : Totals} {r : Share} → t ≡ totals_of v.description i → r ≡ share_of f.nest f.stream
       → join t r ≡ totals_of v.description (i + 1)
   share_next a b =
-      let k = flow_is u i l e in
+      let k = flow_is v i l e in
       ap₂ join a (b ∙ ap₂ share_of k.nest_is k.stream_is) ∙ totals_next v.description h i l refl
 
   pub lanes_at : {w : List ℕ} → LanesIn f.nest f.stream w
       → LanesIn v.description.nest (get_or (streams_of v.description) i no_stream) w
   lanes_at a =
-      let k = flow_is u i l e in lanes_of k.nest_is (k.stream_is ∙ stream_is v.description h i l refl) a
+      let k = flow_is v i l e in lanes_of k.nest_is (k.stream_is ∙ stream_is v.description h i l refl) a

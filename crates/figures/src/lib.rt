@@ -8,11 +8,10 @@
 
 #![tactic(auto)]
 
-ghost use Rattle.std.specs.Prelude.{◌≡◌, true, ℕ, suc, ◌≤◌, ◌<◌, length, get_or, replicate};
+ghost use Rattle.std.specs.Prelude.{◌≡◌, true, ℕ, suc, ◌<◌, length, get_or, replicate};
 ghost use Rattle.meaning.specs.Pipes.{is_entry, entries};
 ghost use Rattle.meaning.specs.Accept.{figures};
-ghost use Rattle.layout.specs.Spans.{process_of, Spans, span_words};
-ghost use Rattle.survey.specs.Surveys.{Surveyed};
+ghost use Rattle.layout.specs.Spans.{process_of, Spans};
 ghost use Rattle.lanes.specs.Flow.{LanesIn, Flowing};
 ghost use Rattle.lanes.specs.All.{own_lane_words, lane_words};
 ghost use Rattle.pipes.specs.Elements.{Near};
@@ -20,6 +19,7 @@ ghost use Rattle.figures.specs.Sums.{steps_on, Under, sums_over, sums_at};
 ghost use Rattle.figures.specs.Shares.{Summing, Sharing, Small, share_of, join, Room, totals_of, Described, AllLanes};
 
 use lanes::LANES;
+use layout::SPANS;
 use meaning::Figures;
 use survey::{Flow, Survey};
 
@@ -116,9 +116,8 @@ fn joined(t: Totals, s: Share) -> Totals
     }
 }
 
-fn totals_of(v: Survey, spans: &[u32], lanes: &mut [u16]) -> Totals
-    requires { (Described v.description) × (Surveyed v) × (Spans v.description.nest spans.now) × (span_words ≤ length spans.now)
-        × (lanes.old ≡ replicate lane_words 0) }
+fn totals_of(v: Survey, spans: &[u32; SPANS], lanes: &mut [u16]) -> Totals
+    requires { (Described v.description) × (Spans v.description.nest spans.now) × (lanes.old ≡ replicate lane_words 0) }
     ensures { (result ≡ totals_of v.description v.description.sizes.streams) × (Room result)
         × (AllLanes v.description lanes.new) }
 {
@@ -132,15 +131,17 @@ fn totals_of(v: Survey, spans: &[u32], lanes: &mut [u16]) -> Totals
     for i in 0..v.description.sizes.streams {
         let a = LANES * i as usize;
         let f = survey::flow_at(v, i as usize);
-        totals = joined(totals, share_of(f, processes, spans, &mut lanes[a..a + LANES]));
+        totals = joined(
+            totals,
+            share_of(f, processes, spans, &mut lanes[a..a + LANES]),
+        );
     }
     totals
 }
 
 // The six figures, and the lanes of all streams, whose words come as zeros.
-pub fn figures_of(v: Survey, spans: &[u32], lanes: &mut [u16]) -> Figures
-    requires { (Described v.description) × (Surveyed v) × (Spans v.description.nest spans.now) × (span_words ≤ length spans.now)
-        × (lanes.old ≡ replicate lane_words 0) }
+pub fn figures_of(v: Survey, spans: &[u32; SPANS], lanes: &mut [u16]) -> Figures
+    requires { (Described v.description) × (Spans v.description.nest spans.now) × (lanes.old ≡ replicate lane_words 0) }
     ensures { (result ≡ figures v.description) × (AllLanes v.description lanes.new) }
 {
     let processes = v.ground.processes;

@@ -23,7 +23,8 @@ use Rattle.geometry.specs.Pipes.{Accepted}
 use Rattle.geometry.specs.Elements.{entry_of, entry_is}
 use Rattle.vectors.specs.Within.{Within2}
 use Rattle.survey.specs.InRange.{InRange}
-use Rattle.survey.specs.Surveys.{FlowOf, Surveyed, no_flow, flow_is}
+use Rattle.survey.specs.Surveys.{FlowOf, no_flow}
+use Rattle.survey.specs.OfBytes.{flow_is}
 use Rattle.numbering.specs.Ranges.{between_apart}
 use Rattle.numbering.specs.Extents.{Spanning, boxed, box_spanning}
 use Rattle.counting.specs.Forms.{weigh, stride_small}
@@ -194,14 +195,14 @@ module _ {f : Flow} (h : Flows f) where
           (e ∙ ap (row_index (space f.nest)) entry_eq, omega (arith, e, row_lt (space f.nest) entry entry_inside))
 
 -- stream i of a survey
-pub flowing_at : {v : Survey} {f : Flow} {spans : List ℕ} → Surveyed v → (i : ℕ) → i < v.description.sizes.streams
+pub flowing_at : (v : Survey) (i : ℕ) {f : Flow} {spans : List ℕ} → i < v.description.sizes.streams
     → f ≡ get_or v.flows i no_flow → Laid v.description.nest (get_or v.description.streams i no_stream)
     → Spans v.description.nest spans → 3072 ≤ length spans → Flowing f v.ground.processes spans
-flowing_at {f = f} {spans} h i l e laid of long =
-    let k = flow_is h i l e in
+flowing_at v i {f} {spans} l e laid of long =
+    let k = flow_is v i l e in
     record {
       flows = flows laid k;
-      counted = h.ground.processes_is ∙ ap (λ (n : Nest). length (processes n)) (sym k.nest_is);
+      counted = v.surveyed.ground.processes_is ∙ ap (λ (n : Nest). length (processes n)) (sym k.nest_is);
       of_spans = subst (λ (n : Nest). Spans n spans) (sym k.nest_is) of;
       long = long;
     }

@@ -12,12 +12,13 @@ ghost use Rattle.std.specs.Prelude.{◌≡◌, length};
 ghost use Rattle.meaning.specs.Description.{description_of};
 ghost use Rattle.meaning.specs.Rules.{memory_of};
 ghost use Rattle.refusals.specs.Numbers.{numbered};
-ghost use Rattle.survey.specs.Surveys.{SurveyOf};
-ghost use Rattle.layout.specs.Spans.{Spans, span_words};
+ghost use Rattle.survey.specs.OfBytes.{SurveyOf};
+ghost use Rattle.layout.specs.Spans.{Spans};
 ghost use Rattle.opening.specs.Opening.{Opened};
 ghost use Rattle.named_step.specs.Named.{has_port_by, named_by, Rows};
 ghost use Rattle.named_step.specs.Stepped.{Stepped};
 
+use layout::SPANS;
 use meaning::Step;
 use port_table::Size;
 use refusals::Refusal;
@@ -51,7 +52,7 @@ pub fn step_opened(
     s: &[u8],
     v: Survey,
     ports: &[u32],
-    spans: &[u32],
+    spans: &[u32; SPANS],
     z: Size,
     kind: u32,
     number: usize,
@@ -61,7 +62,7 @@ pub fn step_opened(
     state: &mut [u32],
 ) -> Result<(), Refusal>
     requires { (Opened s.now (memory_of waiting.now received.old state.old) ports.now z) × (SurveyOf s.now v)
-        × (Spans (description_of s.now).nest spans.now) × (length spans.now ≡ span_words) }
+        × (Spans (description_of s.now).nest spans.now) }
     ensures { Stepped s.now kind number stream
         (memory_of waiting.now received.old state.old) (numbered result)
         (memory_of waiting.now received.new state.new) }

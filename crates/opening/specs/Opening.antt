@@ -23,14 +23,14 @@ use Rattle.decode.specs.Refusals.{passed}
 use Rattle.declines.specs.Tests.{memory_lengths, memory_fits}
 use Rattle.figures.specs.Shares.{Described, AllLanes, described}
 use Rattle.survey.specs.declared.Survey.{Survey}
-use Rattle.survey.specs.Surveys.{SurveyOf}
+use Rattle.survey.specs.OfBytes.{SurveyOf}
 use Rattle.layout.specs.Spans.{Spans}
 use Rattle.body.specs.Fit.{Fit}
 use Rattle.ports.specs.Layout.{Regular}
 use Rattle.ports.specs.Rows.{row_of}
 use Rattle.sound_rows.specs.Rows.{Single}
 use Rattle.port_table.specs.declared.Size.{Size}
-use Rattle.port_table.specs.PortsOf.{port_table_words, SizeOf, PortsOf, RowsFit, PartsFit}
+use Rattle.port_table.specs.PortsOf.{SizeOf, PortsOf, RowsFit, PartsFit}
 use Rattle.sound.specs.States.{state_sound}
 use Rattle.sound.specs.Meaning.{sound_is}
 use Rattle.port_fits.specs.Instances.{count_is, count_most, instance_is}
@@ -78,14 +78,13 @@ grounds s ok =
       instances = instance_is s ok;
     }
 
--- lists of the right lengths, and words for a port table
-pub record Standing (d : Description) (z : Size) (state ports : List ℕ) : Type 0 where
+-- lists of the right lengths
+pub record Standing (d : Description) (z : Size) (state : List ℕ) : Type 0 where
   pub grounds : Grounds d
   pub size : z ≡ size_of d
   pub long : state_length d ≤ length state
-  pub words : length ports ≡ port_table_words
 
-module _ {d : Description} {z : Size} {state ports : List ℕ} (h : Standing d z state ports) {b : List ℕ} (p : PortsOf (array_of d) b) where
+module _ {d : Description} {z : Size} {state : List ℕ} (h : Standing d z state) {b : List ℕ} (p : PortsOf (array_of d) b) where
   pub rows_fit_in : RowsFit (length state) b z
   rows_fit_in = subst (RowsFit (length state) b) (sym h.size) (h.grounds.rows b (length state) p h.long)
 

@@ -16,17 +16,16 @@ ghost use Rattle.meaning.specs.Array.{array_of};
 ghost use Rattle.meaning.specs.Rules.{sound, memory_of};
 ghost use Rattle.meaning.specs.Description.{description_of};
 ghost use Rattle.meaning.specs.Calls.{memory_tests, refused_by};
-ghost use Rattle.survey.specs.Surveys.{Surveyed};
-ghost use Rattle.layout.specs.Spans.{Spans, span_words};
+ghost use Rattle.layout.specs.Spans.{Spans};
 ghost use Rattle.lanes.specs.All.{lane_words};
 ghost use Rattle.figures.specs.Shares.{AllLanes};
-ghost use Rattle.port_table.specs.PortsOf.{PortsOf, port_table_words};
+ghost use Rattle.port_table.specs.PortsOf.{PortsOf};
 ghost use Rattle.opening.specs.Opening.{size_from, Grounds, Standing, Opens, Answered};
 
 use lanes::ALL;
 use layout::SPANS;
 use meaning::{Figures, Limits};
-use port_table::Size;
+use port_table::{PORTS, Size};
 use refusals::Refusal;
 use survey::Survey;
 
@@ -52,12 +51,11 @@ fn sound_refusal(
     v: Survey,
     z: Size,
     state: &[u32],
-    spans: &[u32],
+    spans: &[u32; SPANS],
     lanes: &[u16],
-    ports: &mut [u32],
+    ports: &mut [u32; PORTS],
 ) -> Result<(), Refusal>
-    requires { (Standing v.description z state.now ports.old) × (Surveyed v) × (Spans v.description.nest spans.now)
-        × (span_words ≤ length spans.now) × (AllLanes v.description lanes.now) }
+    requires { (Standing v.description z state.now) × (Spans v.description.nest spans.now) × (AllLanes v.description lanes.now) }
     ensures { (refusal_number result ≡ refusal ((22 if not (sound (array_of v.description) state.now)) ∷ []))
         × (PortsOf (array_of v.description) ports.new) }
 {
@@ -71,12 +69,11 @@ fn open_accepted(
     waiting: &[u32],
     received: &[u32],
     state: &[u32],
-    spans: &[u32],
+    spans: &[u32; SPANS],
     lanes: &mut [u16],
-    ports: &mut [u32],
+    ports: &mut [u32; PORTS],
 ) -> Result<Opening, Refusal>
-    requires { (Grounds v.description) × (Surveyed v) × (Spans v.description.nest spans.now) × (span_words ≤ length spans.now)
-        × (lanes.old ≡ replicate lane_words 0) × (length ports.old ≡ port_table_words) }
+    requires { (Grounds v.description) × (Spans v.description.nest spans.now) × (lanes.old ≡ replicate lane_words 0) }
     ensures number { refusal_number result ≡ refusal (memory_tests v.description (memory_of waiting.now received.now state.now)) }
     ensures opened { IfOk result (λ o. Opens v (memory_of waiting.now received.now state.now) ports.new lanes.new o) }
 {
@@ -96,9 +93,9 @@ fn open_within(
     state: &[u32],
     spans: &mut [u32; SPANS],
     lanes: &mut [u16],
-    ports: &mut [u32],
+    ports: &mut [u32; PORTS],
 ) -> Result<Opening, Refusal>
-    requires { (UpTo limits gauge_limits) × (lanes.old ≡ replicate lane_words 0) × (length ports.old ≡ port_table_words) }
+    requires { (UpTo limits gauge_limits) × (lanes.old ≡ replicate lane_words 0) }
     ensures number { refusal_number result ≡ refused_by limits s.now (memory_tests (description_of s.now)
         (memory_of waiting.now received.now state.now)) }
     ensures opened { IfOk result (λ o. Answered s.now (memory_of waiting.now received.now state.now) ports.new spans.new o) }
@@ -117,9 +114,9 @@ pub fn open_with_lanes(
     state: &[u32],
     spans: &mut [u32; SPANS],
     lanes: &mut [u16],
-    ports: &mut [u32],
+    ports: &mut [u32; PORTS],
 ) -> Result<Opening, Refusal>
-    requires { (lanes.old ≡ replicate lane_words 0) × (length ports.old ≡ port_table_words) }
+    requires { lanes.old ≡ replicate lane_words 0 }
     ensures number { refusal_number result ≡ refused_by (limits_of board) s.now (memory_tests (description_of s.now)
         (memory_of waiting.now received.now state.now)) }
     ensures opened { IfOk result (λ o. Answered s.now (memory_of waiting.now received.now state.now) ports.new spans.new o) }
@@ -137,9 +134,8 @@ pub fn open(
     received: &[u32],
     state: &[u32],
     spans: &mut [u32; SPANS],
-    ports: &mut [u32],
+    ports: &mut [u32; PORTS],
 ) -> Result<Opening, Refusal>
-    requires { length ports.old ≡ port_table_words }
     ensures number { refusal_number result ≡ refused_by (limits_of board) s.now (memory_tests (description_of s.now)
         (memory_of waiting.now received.now state.now)) }
     ensures opened { IfOk result (λ o. Answered s.now (memory_of waiting.now received.now state.now) ports.new spans.new o) }

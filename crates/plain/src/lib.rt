@@ -6,7 +6,6 @@ ghost use Rattle.std.specs.Prelude.{◌≡◌};
 ghost use Rattle.refusals.specs.Numbers.{numbered};
 ghost use Rattle.meaning.specs.Limits.{limits_of};
 ghost use Rattle.meaning.specs.Calls.{plain_run};
-ghost use Rattle.survey.specs.Surveys.{Surveyed};
 ghost use Rattle.written_order.specs.Places.{Fitting};
 ghost use Rattle.plain.specs.Call.{Called};
 
@@ -16,7 +15,7 @@ use survey::Survey;
 
 // The call on an accepted description.
 fn run_accepted(v: Survey, values: &[u32], output: &mut [u32]) -> Result<(), Refusal>
-    requires { (Fitting v.description) × (Surveyed v) }
+    requires { Fitting v.description }
     ensures { Called v.description values.now output.old (numbered result) output.new }
 {
     let e = elements::element_count(v);

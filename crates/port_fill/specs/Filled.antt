@@ -33,7 +33,8 @@ use Rattle.ports.specs.Rows.{row_of}
 use Rattle.ports.specs.Ends.{end_of}
 use Rattle.survey.specs.declared.Flow.{Flow}
 use Rattle.survey.specs.declared.Survey.{Survey}
-use Rattle.survey.specs.Surveys.{FlowOf, Surveyed, no_flow, flow_is}
+use Rattle.survey.specs.Surveys.{FlowOf, no_flow}
+use Rattle.survey.specs.OfBytes.{flow_is}
 use Rattle.layout.specs.Spans.{Spans}
 use Rattle.lanes.specs.Flow.{LanesIn}
 use Rattle.lanes.specs.All.{lanes_of}
@@ -293,14 +294,14 @@ module _ (d : Description) (h : Described d) where
 
 -- ---- a turn of the loop over the streams
 
-module _ {v : Survey} {stride : ℕ} {spans : List ℕ} (h : Started v.description stride spans) (u : Surveyed v) (i : ℕ)
-    {f : Flow} (l : i < v.description.sizes.streams) (ef : f ≡ get_or v.flows i no_flow) {t : Sums}
+module _ (v : Survey) {stride : ℕ} {spans : List ℕ} (h : Started v.description stride spans) (i : ℕ) {f : Flow}
+    (l : i < v.description.sizes.streams) (ef : f ≡ get_or v.flows i no_flow) {t : Sums}
     (et : t ≡ sums_of v.description i) where
   abbrev d : Description
   d = v.description
 
   of_flow : FlowOf d.nest (get_or d.streams i no_stream) f
-  of_flow = flow_is u i l ef
+  of_flow = flow_is v i l ef
 
   pub slack : Slack t
   slack = subst Slack (sym et) (sums_slack d h.described i (omega arith))
@@ -309,14 +310,14 @@ module _ {v : Survey} {stride : ℕ} {spans : List ℕ} (h : Started v.descripti
   hop_few = omega (arith, of_flow.hop_is, (stream_sharing d h.described i l refl).hop)
 
   pub processes_few : v.ground.processes ≤ 1024
-  processes_few = omega (arith, u.ground.processes_is, h.described.processes)
+  processes_few = omega (arith, v.surveyed.ground.processes_is, h.described.processes)
 
   pub lanes_here : {w : List ℕ} → LanesIn d.nest (stream_at d i) w → LanesIn f.nest f.stream w
   lanes_here = lanes_of (sym of_flow.nest_is) (sym (of_flow.stream_is ∙ stream_of_lem d h.described i l refl))
 
   module _ {c : ℕ} (e : c ≡ length (entries f.nest f.stream)) where
     pub entries_few : c ≤ 1024
-    entries_few = omega (arith, e, (share_small (sharing_at h.described u i l ef)).pipes)
+    entries_few = omega (arith, e, (share_small (sharing_at v h.described i l ef)).pipes)
 
     pub joined_next : join t f.hop c ≡ sums_of d (i + 1)
     joined_next =
@@ -336,7 +337,7 @@ module _ {v : Survey} {stride : ℕ} {spans : List ℕ} (h : Started v.descripti
           stride = ap (λ (g : Strand). g.stride) eg ∙ h.strides;
           offset = ap (λ (g : Strand). g.offset) eg ∙ ap (λ (t : Sums). 1 + t.words) et;
           tail =
-              ap (λ (g : Strand). g.tail) eg ∙ ap₂ (λ (p w : ℕ). p * w + t.ends) u.ground.processes_is h.strides
+              ap (λ (g : Strand). g.tail) eg ∙ ap₂ (λ (p w : ℕ). p * w + t.ends) v.surveyed.ground.processes_is h.strides
               ∙ ap (λ (t : Sums). length (processes d.nest) * stride_of d + t.ends) et;
         }
 
@@ -344,8 +345,8 @@ module _ {v : Survey} {stride : ℕ} {spans : List ℕ} (h : Started v.descripti
     pub stringing : StreamFillable f v.ground.processes g i first t.pipes spans
     stringing =
         record {
-          sharing = sharing_at h.described u i l ef;
-          flowing = share_at h.described u i l ef h.of_spans h.long;
+          sharing = sharing_at v h.described i l ef;
+          flowing = share_at v h.described i l ef h.of_spans h.long;
           narrow = narrow_is;
           stream = omega (arith, six d h.described);
           early = omega (arith, e, first_most d h.described i l);

@@ -28,7 +28,7 @@ use Rattle.port_rows.specs.Strands.{Narrow, PortGiven, row_from, end_from}
 use Rattle.words.specs.Stored.{stored}
 use Rattle.port_table.specs.Rows.{port_words, end_words}
 use Rattle.port_fill.specs.declared.Sums.{Sums}
-use Rattle.port_fill.specs.Marks.{mark, marks, marks_step, marks_length}
+use Rattle.port_fill.specs.Marks.{mark, marks, marks_step}
 
 -- ---- what the rows share
 
@@ -209,16 +209,10 @@ module _ (n : Nest) (s : Stream) (g : Strand) (start base j p : ℕ) (l : List �
 -- ---- one row more
 
 module _ (n : Nest) (s : Stream) (g : Strand) (i p : ℕ) (l : List ℕ) {x : List ℕ} (e : x ≡ port_rows n s g i p l) where
-  pub ports_length : length x ≡ length l
-  ports_length = ap length e ∙ marks_length always (port_line n s g) (port_place i) 5 p l
-
   pub ports_turn : {out : List ℕ} → out ≡ port_row n s g i p x → out ≡ port_rows n s g i (p + 1) l
   ports_turn o = o ∙ ap (port_row n s g i p) e ∙ sym (marks_step always (port_line n s g) (port_place i) 5 p l)
 
 module _ (n : Nest) (s : Stream) (g : Strand) (first base p : ℕ) (l : List ℕ) {x : List ℕ} (e : x ≡ end_rows n s g first base p l) where
-  pub ends_length : length x ≡ length l
-  ends_length = ap length e ∙ marks_length (on_end n s) (end_line n s g first) (end_spot n s base) 3 p l
-
   pub ends_turn : {start j : ℕ} → start ≡ start_at n s first p → j ≡ entered_at n s p → {out : List ℕ}
       → out ≡ end_row n s g start base j p x
       → out ≡ end_rows n s g first base (p + 1) l

@@ -15,23 +15,23 @@ ghost use Rattle.meaning.specs.Limits.{gauge_limits, process_words_most};
 ghost use Rattle.meaning.specs.Pipes.{entries};
 ghost use Rattle.meaning.specs.Array.{array_of};
 ghost use Rattle.geometry.specs.Descriptions.{Laid};
-ghost use Rattle.survey.specs.Surveys.{Surveyed};
 ghost use Rattle.addresses.specs.Indices.{stride_of};
-ghost use Rattle.layout.specs.Spans.{Spans, span_words};
+ghost use Rattle.layout.specs.Spans.{Spans};
 ghost use Rattle.pipe_parts.specs.Starts.{entering_one};
-ghost use Rattle.pipe_parts.specs.Heads.{head_words, Heads};
+ghost use Rattle.pipe_parts.specs.Heads.{Heads};
 ghost use Rattle.lanes.specs.Flow.{LanesIn};
 ghost use Rattle.figures.specs.Shares.{Described, AllLanes};
 ghost use Rattle.port_rows.specs.Strands.{Narrow};
-ghost use Rattle.port_table.specs.PortsOf.{PortsOf, port_table_words};
+ghost use Rattle.port_table.specs.PortsOf.{PortsOf};
 ghost use Rattle.port_fill.specs.Strung.{Slack, strand_from, join, PortFillable, EndFillable, PortsFillable, EndsFillable};
 ghost use Rattle.port_fill.specs.Strung.{StreamFillable, port_row, end_row, port_rows, end_rows, stream_rows};
 ghost use Rattle.port_fill.specs.Filled.{Started};
 
 use lanes::LANES;
+use layout::SPANS;
 use pipe_parts::HEADS;
 use port_rows::Strand;
-use port_table::{PORT, PROCESS};
+use port_table::{PORT, PORTS, PROCESS};
 use survey::{Flow, Survey};
 
 const PIPE_ROWS: u32 = port_table::PIPE_ROWS as u32;
@@ -66,7 +66,7 @@ fn strand_of(hop: u32, processes: u32, stride: u32, t: Sums) -> Strand
 {
     Strand {
         hop,
-        stride: stride,
+        stride,
         offset: 1 + t.words,
         tail: processes * stride + t.ends,
     }
@@ -74,7 +74,7 @@ fn strand_of(hop: u32, processes: u32, stride: u32, t: Sums) -> Strand
 
 // The words of a process.
 fn stride_of(v: Survey) -> u32
-    requires { (Described v.description) × (Surveyed v) }
+    requires { Described v.description }
     ensures { (result ≡ stride_of v.description) × (result ≤ process_words_most) }
 {
     let mut sum = 1;
@@ -96,9 +96,9 @@ fn put_end(
     base: u32,
     j: u32,
     p: u32,
-    ports: &mut [u32],
+    ports: &mut [u32; PORTS],
 ) -> u32
-    requires { (EndFillable f g total start base j p) × (length ports.old ≡ port_table_words) }
+    requires { EndFillable f g total start base j p }
     ensures { (result ≡ entering_one f.nest f.stream p)
         × (ports.new ≡ end_row f.nest f.stream g start base j p ports.old) }
 {
@@ -120,11 +120,10 @@ fn put_ends(
     lanes: &[u16],
     first: u32,
     base: u32,
-    heads: &mut [u16],
-    ports: &mut [u32],
+    heads: &mut [u16; HEADS],
+    ports: &mut [u32; PORTS],
 ) -> u32
-    requires { (EndsFillable f g processes spans.now lanes.now first base) × (length heads.old ≡ head_words)
-        × (length ports.old ≡ port_table_words) }
+    requires { EndsFillable f g processes spans.now lanes.now first base }
     ensures { (result ≡ length (entries f.nest f.stream)) × (Heads f.nest f.stream processes heads.new)
         × (ports.new ≡ end_rows f.nest f.stream g first base processes ports.old) }
 {
@@ -148,9 +147,9 @@ fn put_port(
     heads: &[u16],
     i: usize,
     p: usize,
-    ports: &mut [u32],
+    ports: &mut [u32; PORTS],
 )
-    requires { (PortFillable f g spans.now lanes.now heads.now i p) × (length ports.old ≡ port_table_words) }
+    requires { PortFillable f g spans.now lanes.now heads.now i p }
     ensures { ports.new ≡ port_row f.nest f.stream g i p ports.old }
 {
     let k = port_rows::row_of(f, g, spans, lanes, heads, p);
@@ -166,9 +165,9 @@ fn put_ports(
     lanes: &[u16],
     heads: &[u16],
     i: usize,
-    ports: &mut [u32],
+    ports: &mut [u32; PORTS],
 )
-    requires { (PortsFillable f g processes spans.now lanes.now heads.now i) × (length ports.old ≡ port_table_words) }
+    requires { PortsFillable f g processes spans.now lanes.now heads.now i }
     ensures { ports.new ≡ port_rows f.nest f.stream g i processes ports.old }
 {
     for p in 0..processes {
@@ -186,10 +185,9 @@ fn fill_stream(
     base: u32,
     spans: &[u32],
     lanes: &[u16],
-    ports: &mut [u32],
+    ports: &mut [u32; PORTS],
 ) -> u32
-    requires { (StreamFillable f processes g i first base spans.now) × (LanesIn f.nest f.stream lanes.now)
-        × (length ports.old ≡ port_table_words) }
+    requires { (StreamFillable f processes g i first base spans.now) × (LanesIn f.nest f.stream lanes.now) }
     ensures { (result ≡ length (entries f.nest f.stream))
         × (ports.new ≡ stream_rows f.nest f.stream g i first base ports.old) }
 {
@@ -203,9 +201,8 @@ fn fill_stream(
 
 // ---- all streams
 
-fn fill_streams(v: Survey, stride: u32, spans: &[u32], lanes: &[u16], ports: &mut [u32])
-    requires { (Started v.description stride spans.now) × (Surveyed v) × (AllLanes v.description lanes.now)
-        × (length ports.old ≡ port_table_words) }
+fn fill_streams(v: Survey, stride: u32, spans: &[u32], lanes: &[u16], ports: &mut [u32; PORTS])
+    requires { (Started v.description stride spans.now) × (AllLanes v.description lanes.now) }
     ensures { PortsOf (array_of v.description) ports.new }
 {
     let processes = v.ground.processes;
@@ -236,9 +233,9 @@ fn fill_streams(v: Survey, stride: u32, spans: &[u32], lanes: &[u16], ports: &mu
 }
 
 // The port table of an accepted description.
-pub fn fill_ports(v: Survey, spans: &[u32], lanes: &[u16], ports: &mut [u32])
-    requires { (Described v.description) × (Laid v.description) × (Surveyed v) × (Spans v.description.nest spans.now)
-        × (span_words ≤ length spans.now) × (AllLanes v.description lanes.now) × (length ports.old ≡ port_table_words) }
+pub fn fill_ports(v: Survey, spans: &[u32; SPANS], lanes: &[u16], ports: &mut [u32; PORTS])
+    requires { (Described v.description) × (Laid v.description) × (Spans v.description.nest spans.now)
+        × (AllLanes v.description lanes.now) }
     ensures { PortsOf (array_of v.description) ports.new }
 {
     let stride = stride_of(v);

@@ -7,7 +7,7 @@
 
 ghost use Rattle.vectors.specs.Within.{Within};
 ghost use Rattle.numbering.specs.Ranges.{Bounded};
-ghost use Rattle.survey.specs.Surveys.{Surveyed};
+ghost use Rattle.survey.specs.OfBytes.{Surveyed};
 ghost use Rattle.walk.specs.Walked.{Along, Readable};
 
 use integers::V3;

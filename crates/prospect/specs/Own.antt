@@ -21,7 +21,6 @@ use Rattle.vectors.specs.Within.{Within}
 use Rattle.decode.specs.Ranged.{Ranged}
 use Rattle.survey.specs.declared.Survey.{Survey}
 use Rattle.survey.specs.InRange.{nest_bounded}
-use Rattle.survey.specs.Surveys.{Surveyed}
 
 -- a vector that is not zero moves along the step of its first component that is not 0
 module _ (u : V3) where
@@ -74,7 +73,6 @@ own_moves n v f r = still_by n v ∙ go (eq_z (dot v (increment n)) (pos 0)) ref
 pub record Own (d : Description) (v : Survey) : Type 0 where
   pub same : v.description ≡ with_nest d (stepped d.nest v.description.nest.step)
   pub ranged : Ranged v.description
-  pub surveyed : Surveyed v
   pub moves : refused7 d.nest ≡ false → refused8 v.description.nest ≡ false
 
 pub own_ranged : {d : Description} {v : V3} → Ranged d → Within 1 v → Ranged (with_nest d (stepped d.nest v))
@@ -96,7 +94,6 @@ own_ranged h w =
 -- one that can be walked
 pub record Laid (v : Survey) : Type 0 where
   pub ranged : Ranged v.description
-  pub surveyed : Surveyed v
   pub layout : Layout v.description.nest
   pub instances : length (instances v.description.nest) ≤ gauge_limits.instances
 
@@ -106,7 +103,6 @@ unfolding instances
 own_laid {d} {v} o r few =
     record {
       ranged = o.ranged;
-      surveyed = o.surveyed;
       layout =
           layout_of (nest_bounded o.ranged.nest).directed (passed (ap (λ (d : Description). refused7 d.nest) o.same ∙ r))
           (passed (o.moves r));

@@ -17,7 +17,6 @@ ghost use Rattle.meaning.specs.Description.{streams_of};
 ghost use Rattle.vectors.specs.Within.{Within};
 ghost use Rattle.decode.specs.Ranged.{Ranged};
 ghost use Rattle.numbering.specs.Ranges.{Bounded};
-ghost use Rattle.survey.specs.Surveys.{Surveyed};
 ghost use Rattle.walk.specs.Walked.{Along};
 ghost use Rattle.outlook.specs.Outlooks.{no_outlook};
 ghost use Rattle.prospect.specs.Own.{Own, Moved, Laid};
@@ -91,7 +90,7 @@ pub fn own_survey(d: Description) -> Survey
 
 // Of all streams, by the walk.
 fn outlooks_along(v: Survey, walk: &[i8]) -> [Outlook; STREAMS]
-    requires { (Ranged v.description) × (Surveyed v) × (Along v.description.nest walk.now) }
+    requires { (Ranged v.description) × (Along v.description.nest walk.now) }
     ensures { OutlooksOf v.description result }
 {
     let d = v.description;

@@ -10,7 +10,7 @@ ghost use Rattle.meaning.specs.Limits.{limits_of, gauge_limits, UpTo};
 ghost use Rattle.meaning.specs.Description.{streams_of};
 ghost use Rattle.meaning.specs.Accept.{tests_from, refusal_of};
 ghost use Rattle.decode.specs.Ranged.{Ranged};
-ghost use Rattle.survey.specs.Surveys.{Surveyed, SurveyOf};
+ghost use Rattle.survey.specs.OfBytes.{SurveyOf};
 ghost use Rattle.layout.specs.Spans.{Spans, span_words};
 ghost use Rattle.walk.specs.Walked.{Along, Walkable};
 
@@ -22,7 +22,7 @@ use walk::WALK;
 
 // The first of the refusals 11 to 17 that applies to a stream, lowest first.
 fn streams_refusal(v: Survey, limits: Limits, walk: &[i8]) -> Result<(), Refusal>
-    requires { (Ranged v.description) × (Surveyed v) × (Along v.description.nest walk.now) }
+    requires { (Ranged v.description) × (Along v.description.nest walk.now) }
     ensures { refusal_number result ≡ refusal (tests_from limits v.description 0 (streams_of v.description)) }
 {
     let d = v.description;
@@ -35,9 +35,8 @@ fn streams_refusal(v: Survey, limits: Limits, walk: &[i8]) -> Result<(), Refusal
 }
 
 // The same by the words of the processes.
-fn walked_refusal(v: Survey, limits: Limits, spans: &[u32]) -> Result<(), Refusal>
-    requires { (Ranged v.description) × (Surveyed v) × (Walkable v.description.nest) × (Spans v.description.nest spans.now)
-        × (length spans.now ≡ span_words) }
+fn walked_refusal(v: Survey, limits: Limits, spans: &[u32; SPANS]) -> Result<(), Refusal>
+    requires { (Ranged v.description) × (Walkable v.description.nest) × (Spans v.description.nest spans.now) }
     ensures { refusal_number result ≡ refusal (tests_from limits v.description 0 (streams_of v.description)) }
 {
     let mut walk = [0i8; WALK];

@@ -16,8 +16,8 @@ ghost use Rattle.meaning.specs.Limits.{limits_of};
 ghost use Rattle.meaning.specs.Description.{description_of};
 ghost use Rattle.meaning.specs.Rules.{memory_of};
 ghost use Rattle.meaning.specs.Calls.{length_of, result as result_call};
-ghost use Rattle.survey.specs.Surveys.{Surveyed, SurveyOf};
-ghost use Rattle.layout.specs.Spans.{Spans, span_words};
+ghost use Rattle.survey.specs.OfBytes.{SurveyOf};
+ghost use Rattle.layout.specs.Spans.{Spans};
 ghost use Rattle.figures.specs.Shares.{AllLanes};
 ghost use Rattle.element_places.specs.Order.{Placeable};
 ghost use Rattle.result.specs.Out.{out_by, Asked};
@@ -56,10 +56,9 @@ fn put_in_order(received: &[u32], places: &[u16], elements: usize, output: &mut 
     }
 }
 
-fn fill_output(v: Survey, spans: &[u32], lanes: &[u16], received: &[u32], output: &mut [u32])
-    requires { (Placeable v.description) × (Surveyed v) × (length received.now ≡ length_of v.description)
-        × (length output.old ≡ length_of v.description) × (Spans v.description.nest spans.now) × (span_words ≤ length spans.now)
-        × (AllLanes v.description lanes.now) }
+fn fill_output(v: Survey, spans: &[u32; SPANS], lanes: &[u16], received: &[u32], output: &mut [u32])
+    requires { (Placeable v.description) × (length received.now ≡ length_of v.description)
+        × (length output.old ≡ length_of v.description) × (Spans v.description.nest spans.now) × (AllLanes v.description lanes.now) }
     ensures { output.new ≡ element_order v.description received.now }
 {
     let mut places = [0u16; ELEMENTS];
@@ -72,7 +71,7 @@ fn result_opened(
     s: &[u8],
     v: Survey,
     ports: &[u32],
-    spans: &[u32],
+    spans: &[u32; SPANS],
     lanes: &[u16],
     z: Size,
     received: &[u32],
@@ -80,8 +79,7 @@ fn result_opened(
     output: &mut [u32],
 ) -> Result<(), Refusal>
     requires { (Drawable s.now ports.now z received.now state.now) × (SurveyOf s.now v)
-        × (Spans (description_of s.now).nest spans.now) × (span_words ≤ length spans.now)
-        × (AllLanes (description_of s.now) lanes.now) }
+        × (Spans (description_of s.now).nest spans.now) × (AllLanes (description_of s.now) lanes.now) }
     ensures { Called s.now received.now state.now output.old (numbered result) output.new }
 {
     let out = all_out(ports, state, z.pipes);

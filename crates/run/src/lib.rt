@@ -8,8 +8,8 @@ ghost use Rattle.meaning.specs.Limits.{limits_of};
 ghost use Rattle.meaning.specs.Description.{description_of};
 ghost use Rattle.meaning.specs.Rules.{memory_of};
 ghost use Rattle.meaning.specs.Calls.{run};
-ghost use Rattle.survey.specs.Surveys.{SurveyOf};
-ghost use Rattle.layout.specs.Spans.{Spans, span_words};
+ghost use Rattle.survey.specs.OfBytes.{SurveyOf};
+ghost use Rattle.layout.specs.Spans.{Spans};
 ghost use Rattle.opening.specs.Opening.{Opened};
 ghost use Rattle.run.specs.Call.{RanBy};
 
@@ -25,7 +25,7 @@ fn run_opened(
     s: &[u8],
     v: Survey,
     ports: &[u32],
-    spans: &[u32],
+    spans: &[u32; SPANS],
     z: Size,
     steps: u32,
     waiting: &[u32],
@@ -33,7 +33,7 @@ fn run_opened(
     state: &mut [u32],
 ) -> Ran
     requires { (Opened s.now (memory_of waiting.now received.old state.old) ports.now z) × (SurveyOf s.now v)
-        × (Spans (description_of s.now).nest spans.now) × (length spans.now ≡ span_words) }
+        × (Spans (description_of s.now).nest spans.now) }
     ensures { RanBy s.now steps (memory_of waiting.now received.old state.old) (Ok result)
         (memory_of waiting.now received.new state.new) }
 {

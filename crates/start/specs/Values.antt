@@ -1,5 +1,5 @@
 -- Values in element order put at their elements' places are those values in pipe order; words cleared. Assumes nothing.
-use Rattle.std.specs.Prelude.{◌≡◌, refl, List, ◌++◌, ℕ, ◌+◌, ◌-◌, ◌≤◌, ◌<◌, length, get_or, replicate}
+use Rattle.std.specs.Prelude.{◌≡◌, refl, List, ◌++◌, ℕ, ◌≤◌, ◌<◌, length, get_or, replicate}
 use Rattle.std.proofs.Common.{sym, ◌∙◌, ap, subst, append-nil, arith, drop_of_length-le, ext_get_or}
 use Rattle.std.proofs.lemmas.List.{length-map}
 use Rattle.integers.specs.Fill.{fill_by}

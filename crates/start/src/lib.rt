@@ -12,8 +12,7 @@ ghost use Rattle.refusals.specs.Numbers.{numbered};
 ghost use Rattle.meaning.specs.Limits.{limits_of};
 ghost use Rattle.meaning.specs.Rules.{memory_of};
 ghost use Rattle.meaning.specs.Calls.{start};
-ghost use Rattle.survey.specs.Surveys.{Surveyed};
-ghost use Rattle.layout.specs.Spans.{Spans, span_words};
+ghost use Rattle.layout.specs.Spans.{Spans};
 ghost use Rattle.figures.specs.Shares.{AllLanes};
 ghost use Rattle.element_places.specs.Order.{Placeable};
 ghost use Rattle.start.specs.Values.{Puttable, put};
@@ -40,15 +39,15 @@ fn put_values(values: &[u32], places: &[u16], waiting: &mut [u32])
 fn fill_memory(
     v: Survey,
     f: Figures,
-    spans: &[u32],
+    spans: &[u32; SPANS],
     lanes: &[u16],
     values: &[u32],
     waiting: &mut [u32],
     received: &mut [u32],
     state: &mut [u32],
 )
-    requires { (Fitting v.description f values.now (memory_of waiting.old received.old state.old)) × (Surveyed v)
-        × (Spans v.description.nest spans.now) × (span_words ≤ length spans.now) × (AllLanes v.description lanes.now) }
+    requires { (Fitting v.description f values.now (memory_of waiting.old received.old state.old))
+        × (Spans v.description.nest spans.now) × (AllLanes v.description lanes.now) }
     ensures { memory_of waiting.new received.new state.new
         ≡ started_by v.description values.now
         (memory_of waiting.old received.old state.old) }
@@ -63,14 +62,13 @@ fn fill_memory(
 // The call on an accepted description.
 fn start_accepted(
     v: Survey,
-    spans: &[u32],
+    spans: &[u32; SPANS],
     values: &[u32],
     waiting: &mut [u32],
     received: &mut [u32],
     state: &mut [u32],
 ) -> Result<(), Refusal>
-    requires { (Placeable v.description) × (Surveyed v) × (Spans v.description.nest spans.now)
-        × (span_words ≤ length spans.now) }
+    requires { (Placeable v.description) × (Spans v.description.nest spans.now) }
     ensures { Called v.description values.now
         (memory_of waiting.old received.old state.old) (numbered result)
         (memory_of waiting.new received.new state.new) }

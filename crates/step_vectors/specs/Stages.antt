@@ -65,4 +65,4 @@ module _ (l : Limits) (s : List ℕ) (k : ℕ) {q : ℕ} (e : q ≡ refusal (ear
       ∙ all_tests_lem l s k
     where
       g : GroundOf v.description.nest v.ground
-      g = o.surveyed.ground
+      g = v.surveyed.ground

@@ -3,6 +3,7 @@
 pub mod InRange
 pub mod Small
 pub mod Surveys
+pub mod OfBytes
 pub mod Grounds
 pub mod Stages
 pub mod Accepted

@@ -21,7 +21,6 @@ use Rattle.counting.specs.Forms.{weigh}
 use Rattle.survey.specs.InRange.{InRange}
 use Rattle.survey.specs.declared.Ground.{Ground}
 use Rattle.survey.specs.declared.Flow.{Flow}
-use Rattle.survey.specs.declared.Survey.{Survey}
 
 -- of the loops
 pub record GroundOf (n : Nest) (g : Ground) : Type 0 where
@@ -98,17 +97,11 @@ FirstFlows d m flows = (i : ℕ) → i < m → FlowOf d.nest (get_or d.streams i
 abbrev pub FlowsOf : Description → List Flow → Type 0
 FlowsOf d = FirstFlows d d.sizes.streams
 
--- of a description
-pub record Surveyed (v : Survey) : Type 0 where
-  pub in_use : length (streams_of v.description) ≡ v.description.sizes.streams
-  pub ground : GroundOf v.description.nest v.ground
-  pub flow : FlowsOf v.description v.flows
-
--- a flow that was read
-pub flow_is : {v : Survey} → Surveyed v → (i : ℕ) {f : Flow} → i < v.description.sizes.streams → f ≡ get_or v.flows i no_flow
-    → FlowOf v.description.nest (get_or v.description.streams i no_stream) f
-flow_is {v} h i l e =
-    subst (FlowOf v.description.nest (get_or v.description.streams i no_stream)) (sym e) (h.flow i l)
+-- of a description, by its parts
+pub record IsSurvey (d : Description) (g : Ground) (flows : List Flow) : Type 0 where
+  pub in_use : length (streams_of d) ≡ d.sizes.streams
+  pub ground : GroundOf d.nest g
+  pub flow : FlowsOf d flows
 
 -- as many streams as its sizes say
 pub streams_used : (s : List ℕ) → length (streams_of (description_of s)) ≡ (description_of s).sizes.streams
@@ -131,8 +124,3 @@ may_survey {s} h e = (
   subst Ranged (sym e) h.ranged,
   subst (λ (d : Description). length (streams_of d) ≡ d.sizes.streams) (sym e) (streams_used s),
 )
-
--- of the bytes of a description
-pub record SurveyOf (s : List ℕ) (v : Survey) : Type 0 where
-  pub description_is : v.description ≡ description_of s
-  pub surveyed : Surveyed v

@@ -26,7 +26,7 @@ ghost use Rattle.vectors.specs.Within.{Within, Within2};
 ghost use Rattle.decode.specs.Ranged.{Ranged};
 ghost use Rattle.numbering.specs.Ranges.{Bounded};
 ghost use Rattle.survey.specs.InRange.{InRange};
-ghost use Rattle.survey.specs.Surveys.{GroundOf, FlowOf, FlowsOf, Surveyed, no_flow};
+ghost use Rattle.survey.specs.Surveys.{IsSurvey, GroundOf, FlowOf, FlowsOf, no_flow};
 
 use integers::{Matrix, V2, V3};
 use meaning::{Description, Nest, STREAMS, Stream};
@@ -68,6 +68,7 @@ pub struct Survey {
     pub description: Description,
     pub ground: Ground,
     pub flows: [Flow; STREAMS],
+    pub ghost surveyed: { IsSurvey description ground flows },
 }
 
 // ---- vectors
@@ -234,7 +235,7 @@ pub fn flow_at(v: Survey, i: usize) -> Flow
 // The survey of a description whose words are in range.
 pub fn survey_of(d: Description) -> Survey
     requires { (Ranged d) × (length (streams_of d) ≡ d.sizes.streams) }
-    ensures { (result.description ≡ d) × (Surveyed result) }
+    ensures { result.description ≡ d }
 {
     let ground = ground_of(d.nest);
     Survey {

@@ -18,7 +18,8 @@ use Rattle.survey.specs.declared.Flow.{Flow}
 use Rattle.survey.specs.declared.Survey.{Survey}
 use Rattle.survey.specs.InRange.{nest_bounded}
 use Rattle.survey.specs.Accepted.{accepted_within}
-use Rattle.survey.specs.Surveys.{Surveyed, SurveyOf, no_flow, flow_is}
+use Rattle.survey.specs.Surveys.{no_flow}
+use Rattle.survey.specs.OfBytes.{SurveyOf, flow_is}
 use Rattle.layout.specs.Spans.{Spans}
 use Rattle.lanes.specs.Flow.{Laid, Flowing, flowing_at}
 use Rattle.lanes.specs.Accepted.{laid_stream}
@@ -45,18 +46,18 @@ drawable {s} h e =
     }
 
 -- stream i of a survey
-module _ {v : Survey} (g : Drawable v.description) (u : Surveyed v) (i : ℕ) {f : Flow} (l : i < v.description.sizes.streams)
+module _ (v : Survey) (g : Drawable v.description) (i : ℕ) {f : Flow} (l : i < v.description.sizes.streams)
     (e : f ≡ get_or v.flows i no_flow) where
   read : get_or (streams_of v.description) i no_stream ≡ get_or v.description.streams i no_stream
   read = get_or-take v.description.sizes.streams v.description.streams i no_stream l
 
   pub flow_drawable : {spans : List ℕ} → Spans v.description.nest spans → 3072 ≤ length spans → Flowing f v.ground.processes spans
-  flow_drawable = flowing_at u i l e (subst (Laid v.description.nest) read (g.laid i (omega (arith, u.in_use))))
+  flow_drawable = flowing_at v i l e (subst (Laid v.description.nest) read (g.laid i (omega (arith, v.surveyed.in_use))))
 
   pub flow_passed : {w : List ℕ} → Passed f.nest f.stream w
       → Passed v.description.nest (get_or (streams_of v.description) i no_stream) w
   flow_passed {w} =
-      let k = flow_is u i l e in subst₂ (λ (n : Nest) (s : Stream). Passed n s w) k.nest_is (k.stream_is ∙ sym read)
+      let k = flow_is v i l e in subst₂ (λ (n : Nest) (s : Stream). Passed n s w) k.nest_is (k.stream_is ∙ sym read)
 
 -- ---- the refusal of the call
 

@@ -14,7 +14,7 @@ ghost use Rattle.refusals.specs.Numbers.{refusal_number, numbered};
 ghost use Rattle.meaning.specs.Limits.{limits_of, gauge_limits, UpTo};
 ghost use Rattle.meaning.specs.Description.{description_of, streams_of};
 ghost use Rattle.meaning.specs.Calls.{table};
-ghost use Rattle.survey.specs.Surveys.{Surveyed, SurveyOf};
+ghost use Rattle.survey.specs.OfBytes.{SurveyOf};
 ghost use Rattle.layout.specs.Spans.{Spans, span_words};
 ghost use Rattle.process_row.specs.Rows.{row_from, Readable, column_words};
 ghost use Rattle.table.specs.Blocks.{Streamed};
@@ -31,9 +31,8 @@ use survey::Survey;
 // ---- the columns
 
 // The words of all streams in use.
-fn fill_streams(v: Survey, spans: &[u32], words: &mut [u32])
-    requires { (Drawable v.description) × (Surveyed v) × (Spans v.description.nest spans.now) × (span_words ≤ length spans.now)
-        × (words.old ≡ replicate column_words 0) }
+fn fill_streams(v: Survey, spans: &[u32; SPANS], words: &mut [u32])
+    requires { (Drawable v.description) × (Spans v.description.nest spans.now) × (words.old ≡ replicate column_words 0) }
     ensures { Streamed v.description.nest (streams_of v.description) (length (streams_of v.description))
         words.new }
 {
@@ -48,8 +47,8 @@ fn fill_streams(v: Survey, spans: &[u32], words: &mut [u32])
 }
 
 // The words of the processes go in front.
-fn copy_spans(spans: &[u32], words: &mut [u32])
-    requires { (span_words ≤ length spans.now) × (span_words ≤ length words.old) }
+fn copy_spans(spans: &[u32; SPANS], words: &mut [u32])
+    requires { span_words ≤ length words.old }
     ensures { words.new ≡ take span_words spans.now ++ drop span_words words.old }
 {
     words[..SPANS].copy_from_slice(&spans[..SPANS]);
@@ -57,7 +56,6 @@ fn copy_spans(spans: &[u32], words: &mut [u32])
 
 // What the rows need of a description.
 fn shape_of(v: Survey) -> Shape
-    requires { Surveyed v }
     ensures { Shaped v.description.nest result }
 {
     Shape {
@@ -68,9 +66,8 @@ fn shape_of(v: Survey) -> Shape
 }
 
 // The columns of a description; their words come as zeros.
-fn draw(v: Survey, spans: &[u32], words: &mut [u32]) -> Shape
-    requires { (Drawable v.description) × (Surveyed v) × (Spans v.description.nest spans.now) × (span_words ≤ length spans.now)
-        × (words.old ≡ replicate column_words 0) }
+fn draw(v: Survey, spans: &[u32; SPANS], words: &mut [u32]) -> Shape
+    requires { (Drawable v.description) × (Spans v.description.nest spans.now) × (words.old ≡ replicate column_words 0) }
     ensures { Drawn v.description result words.new }
 {
     fill_streams(v, spans, words);

@@ -7,7 +7,7 @@ use Rattle.meaning.specs.Limits.{gauge_limits, UpTo}
 use Rattle.meaning.specs.Walk.{walk_refusal}
 use Rattle.geometry.specs.Descriptions.{walk_layout}
 use Rattle.survey.specs.declared.Survey.{Survey}
-use Rattle.survey.specs.Surveys.{SurveyOf}
+use Rattle.survey.specs.OfBytes.{SurveyOf}
 use Rattle.survey.specs.InRange.{nest_bounded}
 use Rattle.survey.specs.Accepted.{walk_within}
 use Rattle.walk.specs.Walked.{Walkable}

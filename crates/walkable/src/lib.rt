@@ -9,7 +9,7 @@ ghost use Rattle.meaning.specs.Tests.{refusal};
 ghost use Rattle.meaning.specs.Limits.{limits_of, gauge_limits, UpTo};
 ghost use Rattle.meaning.specs.Walk.{walk_refusal};
 ghost use Rattle.survey.specs.Stages.{early_tests};
-ghost use Rattle.survey.specs.Surveys.{SurveyOf};
+ghost use Rattle.survey.specs.OfBytes.{SurveyOf};
 ghost use Rattle.layout.specs.Spans.{Spans};
 ghost use Rattle.walk.specs.Walked.{Along};
 

@@ -14,8 +14,7 @@ ghost use Rattle.meaning.specs.Tests.{refusal};
 ghost use Rattle.meaning.specs.Description.{streams_of, description_of};
 ghost use Rattle.meaning.specs.Array.{array_of, pipe_number};
 ghost use Rattle.meaning.specs.Calls.{refused_by, window};
-ghost use Rattle.survey.specs.Surveys.{Surveyed};
-ghost use Rattle.layout.specs.Spans.{process_of, Spans, span_words};
+ghost use Rattle.layout.specs.Spans.{process_of, Spans};
 ghost use Rattle.lanes.specs.Flow.{Flowing};
 ghost use Rattle.pipes.specs.Elements.{Near};
 ghost use Rattle.pipe_parts.specs.Starts.{Counting};
@@ -106,9 +105,8 @@ fn stream_searched(f: Flow, processes: u32, spans: &[u32], w: Search) -> Search
 }
 
 // The pipes of all streams.
-fn all_searched(v: Survey, spans: &[u32], pipe: u32) -> Search
-    requires { (Described v.description) × (Surveyed v) × (Spans v.description.nest spans.now)
-        × (span_words ≤ length spans.now) }
+fn all_searched(v: Survey, spans: &[u32; SPANS], pipe: u32) -> Search
+    requires { (Described v.description) × (Spans v.description.nest spans.now) }
     ensures { (result ≡ searched (looking pipe 0) (all_lengths v.description.nest (streams_of v.description)))
         × (result.start ≤ 25165824) }
 {
@@ -128,9 +126,8 @@ fn all_searched(v: Survey, spans: &[u32], pipe: u32) -> Search
 // ---- the call
 
 // The part of a pipe, if there is such a pipe.
-fn located(v: Survey, spans: &[u32], pipe: u32) -> Result<Piece, Refusal>
-    requires { (Windowed v.description) × (Surveyed v) × (Spans v.description.nest spans.now)
-        × (span_words ≤ length spans.now) }
+fn located(v: Survey, spans: &[u32; SPANS], pipe: u32) -> Result<Piece, Refusal>
+    requires { (Windowed v.description) × (Spans v.description.nest spans.now) }
     ensures number { refusal_number result ≡ cond (ltb pipe (pipe_number (array_of v.description))) 0 19 }
     ensures part { IfOk result (λ p. p ≡ piece_of v.description pipe) }
 {
@@ -147,14 +144,13 @@ fn located(v: Survey, spans: &[u32], pipe: u32) -> Result<Piece, Refusal>
 // The part once the description is accepted, of lists of so many words.
 fn accepted_piece(
     v: Survey,
-    spans: &[u32],
+    spans: &[u32; SPANS],
     pipe: u32,
     side: u32,
     waiting: usize,
     received: usize,
 ) -> Result<Piece, Refusal>
-    requires { (Windowed v.description) × (Surveyed v) × (Spans v.description.nest spans.now)
-        × (span_words ≤ length spans.now) }
+    requires { (Windowed v.description) × (Spans v.description.nest spans.now) }
     ensures number { refusal_number result ≡ refusal (own_tests v.description pipe side waiting received) }
     ensures part { IfOk result (λ p. (p ≡ piece_of v.description pipe) × (Within p waiting received)) }
 {

@@ -25,7 +25,8 @@ use Rattle.numbering.specs.Extents.{Numbered, image_inside}
 use Rattle.survey.specs.declared.Flow.{Flow}
 use Rattle.survey.specs.declared.Survey.{Survey}
 use Rattle.survey.specs.InRange.{InRange, in_range_lem}
-use Rattle.survey.specs.Surveys.{Charted, Surveyed, no_flow, charted, flow_is}
+use Rattle.survey.specs.Surveys.{Charted, no_flow, charted}
+use Rattle.survey.specs.OfBytes.{flow_is}
 use Rattle.elements.specs.Counts.{Few, start_next, start_most}
 use Rattle.body.specs.Fit.{Runnable}
 use Rattle.written_order.specs.Columns.{column, column_length, column_other, column_at}
@@ -198,24 +199,24 @@ module _ (d : Description) where
 
 -- ---- the column of a stream that was read
 
-module _ {v : Survey} (h : Fitting v.description) (k : Surveyed v) (i : ℕ) (l : i < v.description.sizes.streams)
+module _ (v : Survey) (h : Fitting v.description) (i : ℕ) (l : i < v.description.sizes.streams)
     {f : Flow} (e : f ≡ get_or v.flows i no_flow)
     {start : ℕ} (g : start ≡ stream_start v.description.nest (streams_of v.description) i) where
   -- it can be filled
   pub filling : Filling f v.ground.instances start i
   filling =
       let d = v.description in
-      let w = flow_is k i l e in
+      let w = flow_is v i l e in
       record {
         charted = charted (in_range_lem h.few.ranged.nest (h.few.ranged.streams i)) w;
-        counted = k.ground.instances_is ∙ ap (λ (n : Nest). length (instances n)) (sym w.nest_is);
-        few = omega (arith, k.ground.instances_is, h.instances);
+        counted = v.surveyed.ground.instances_is ∙ ap (λ (n : Nest). length (instances n)) (sym w.nest_is);
+        few = omega (arith, v.surveyed.ground.instances_is, h.instances);
         lt = omega (arith, h.few.ranged.sized.most_streams);
         fits =
             omega (
               arith,
-              start_next d k.in_use h.few i l w.stream_is (ap (λ (n : Nest). length (elements n f.stream)) w.nest_is),
-              start_most d k.in_use h.few (i + 1) (omega arith),
+              start_next d v.surveyed.in_use h.few i l w.stream_is (ap (λ (n : Nest). length (elements n f.stream)) w.nest_is),
+              start_most d v.surveyed.in_use h.few (i + 1) (omega arith),
               h.few.ranged.sized.most_streams,
             );
       }
@@ -226,7 +227,7 @@ module _ {v : Survey} (h : Fitting v.description) (k : Surveyed v) (i : ℕ) (l 
       → out ≡ column i (place v.description i) (length (instances v.description.nest)) table
   column_is table o =
       let d = v.description in
-      let w = flow_is k i l e in
+      let w = flow_is v i l e in
       o ∙ ap (λ (n : Nest). column i (number_from n f.stream.map start) (length (instances n)) table) w.nest_is
       ∙ ap₂ (λ (s : Stream) (start : ℕ). column i (number_from d.nest s.map start) (length (instances d.nest)) table)
       (w.stream_is ∙ sym (get_or-take d.sizes.streams d.streams i no_stream l)) g

@@ -11,15 +11,8 @@ use Rattle.meaning.specs.Body.{execute, execute_all}
 use Rattle.numbering.specs.Turns.{turning, all_some, instances_length}
 use Rattle.survey.specs.declared.Survey.{Survey}
 use Rattle.survey.specs.InRange.{nest_bounded}
-use Rattle.survey.specs.Surveys.{Surveyed}
 use Rattle.body.specs.Execute.{execute_at, execute_touched}
 use Rattle.written_order.specs.Places.{Fitting, Table, lent}
-
--- there is a first instance
-pub some_instance : {v : Survey} → Fitting v.description → Surveyed v → 0 < v.ground.instances
-some_instance {v} h k =
-    let n = v.description.nest in
-    omega (arith, k.ground.instances_is, instances_length n, all_some (turning n refl (nest_bounded h.few.ranged.nest)))
 
 module _ (d : Description) (xs : List V3) (k : ℕ) (store : List ℕ) where
   pub run_next : k < length xs → execute_all d (drop (k + 1) xs) (execute d (get_or xs k zero3) store) ≡ execute_all d (drop k xs) store

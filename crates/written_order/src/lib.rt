@@ -14,7 +14,6 @@ ghost use Rattle.meaning.specs.Loops.{instances};
 ghost use Rattle.meaning.specs.Description.{streams_of};
 ghost use Rattle.meaning.specs.Body.{execute, final_values};
 ghost use Rattle.meaning.specs.Calls.{length_of};
-ghost use Rattle.survey.specs.Surveys.{Surveyed};
 ghost use Rattle.written_order.specs.Columns.{column};
 ghost use Rattle.written_order.specs.Places.{Fitting, Filling, Table, number_from, place, columns};
 
@@ -41,7 +40,7 @@ fn fill_column(f: Flow, count: u32, start: u32, i: u32, table: &mut [u32; ELEMEN
 
 // The column of stream i.
 fn fill_stream(v: Survey, i: u32, table: &mut [u32; ELEMENTS])
-    requires { (Fitting v.description) × (Surveyed v) × (i < v.description.sizes.streams) }
+    requires { (Fitting v.description) × (i < v.description.sizes.streams) }
     ensures { table.new
         ≡ column i (place v.description i) (length (instances v.description.nest)) table.old }
 {
@@ -52,7 +51,7 @@ fn fill_stream(v: Survey, i: u32, table: &mut [u32; ELEMENTS])
 
 // The columns of all streams: row k then has the elements that instance k touches.
 fn fill_table(v: Survey, table: &mut [u32; ELEMENTS])
-    requires { (Fitting v.description) × (Surveyed v) }
+    requires { Fitting v.description }
     ensures { table.new ≡ columns v.description v.description.sizes.streams table.old }
 {
     for i in 0..v.description.sizes.streams {
@@ -75,8 +74,7 @@ fn run_instance(d: Description, k: u32, x: V3, table: &[u32], store: &mut [u32])
 
 // All instances in the written order.
 fn run_instances(v: Survey, table: &[u32], store: &mut [u32])
-    requires { (Fitting v.description) × (Surveyed v) × (Table v.description table.now)
-        × (length store.old ≡ length_of v.description) }
+    requires { (Fitting v.description) × (Table v.description table.now) × (length store.old ≡ length_of v.description) }
     ensures { store.new ≡ final_values v.description store.old }
 {
     let course = counting::course_of(v.description.nest);
@@ -89,7 +87,7 @@ fn run_instances(v: Survey, table: &[u32], store: &mut [u32])
 
 // The run of a description's loops, on values in element order.
 pub fn run_loops(v: Survey, store: &mut [u32])
-    requires { (Fitting v.description) × (Surveyed v) × (length store.old ≡ length_of v.description) }
+    requires { (Fitting v.description) × (length store.old ≡ length_of v.description) }
     ensures { store.new ≡ final_values v.description store.old }
 {
     let mut table = [0; ELEMENTS];

@@ -17,14 +17,9 @@ figures_of-figures-requires c =
     let e = c.in_ok-v.ensures in
     let h = e.surveyed in (
       subst Described (sym h.0.description_is) (described a.s.now (by_board a.board a.s.now (sym e.number))),
-      h.0.surveyed,
       h.1,
-      omega arith,
       refl,
     )
-
-pub divisors_of-requires : goal.divisors_of-requires
-divisors_of-requires c = c.in_ok-v.ensures.surveyed.0.surveyed
 
 pub returns : goal.returns
 returns c =

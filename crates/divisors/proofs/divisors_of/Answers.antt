@@ -4,7 +4,7 @@ use Rattle.divisors.proofs.divisors_of.Goals as goal
 pub returns : goal.returns
 returns c =
     rw (
-      c.requires.ground.divisor_is,
+      c.args.v.surveyed.ground.divisor_is,
       c.stream_divisor.ensures,
       c.stream_divisor-2.ensures,
       c.stream_divisor-3.ensures,

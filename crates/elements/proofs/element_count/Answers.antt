@@ -8,12 +8,12 @@ use Rattle.elements.proofs.element_count.Goals as goal
 pub returns : goal.returns
 returns c =
     let d = c.args.v.description in
-    let u = c.requires.1.in_use in (
-      c.elements_in.ensures ∙ start_all d u c.requires.0,
+    let u = c.args.v.surveyed.in_use in (
+      c.elements_in.ensures ∙ start_all d u c.requires,
       omega (
         arith,
         c.elements_in.ensures,
-        start_most d u c.requires.0 d.sizes.streams (omega arith),
-        c.requires.0.ranged.sized.most_streams,
+        start_most d u c.requires d.sizes.streams (omega arith),
+        c.requires.ranged.sized.most_streams,
       ),
     )

@@ -10,7 +10,7 @@ use Rattle.figures.proofs.totals_of.Goals as goal
 pub loop-i-init : goal.loop-i-init
 loop-i-init c =
     let d = c.args.v.description in
-    (totals_zero d, lanes_none d.nest (streams_of d) c.requires.4)
+    (totals_zero d, lanes_none d.nest (streams_of d) c.requires.2)
 
 pub slice_bounds-share_of-end : goal.slice_bounds-share_of-end
 slice_bounds-share_of-end c = omega (
@@ -26,8 +26,8 @@ share_of-requires c =
     let e = c.flow_at-f.ensures in
     let k = 3072 * l.i + 3072 - 3072 * l.i in
     let six : l.i < 6 = omega (arith, c.requires.0.few.ranged.sized.most_streams) in (
-      sharing_at c.requires.0 c.requires.1 l.i t e,
-      share_at c.requires.0 c.requires.1 l.i t e c.requires.2 c.requires.3,
+      sharing_at c.args.v c.requires.0 l.i t e,
+      share_at c.args.v c.requires.0 l.i t e c.requires.1 (omega arith),
       part_length six l.invariant.1 {k = k} (omega arith),
       part_zeros six l.invariant.1 {k = k} (omega arith),
     )
@@ -47,13 +47,13 @@ loop-i-preserved c =
     let e = c.flow_at-f.ensures in
     let k = 3072 * l.i + 3072 - 3072 * l.i in
     let six : l.i < 6 = omega (arith, c.requires.0.few.ranged.sized.most_streams) in (
-      c.joined-totals.ensures ∙ share_next c.requires.0 c.requires.1 l.i t e l.invariant.0 r.ensures.0,
+      c.joined-totals.ensures ∙ share_next c.args.v c.requires.0 l.i t e l.invariant.0 r.ensures.0,
       lanes_next six l.invariant.1 {k = k} (omega arith) c.requires.0.processes _
-          (lanes_at c.requires.0 c.requires.1 l.i t e r.ensures.2),
+          (lanes_at c.args.v c.requires.0 l.i t e r.ensures.2),
     )
 
 pub shape_of-lanes : goal.shape_of-lanes
-shape_of-lanes c = c.loop-i.invariant.1.words ∙ sym (zero_words c.requires.4)
+shape_of-lanes c = c.loop-i.invariant.1.words ∙ sym (zero_words c.requires.2)
 
 pub returns : goal.returns
 returns c =

@@ -1,6 +1,7 @@
 -- `named_step::step_opened` meets its contract: by the port table of an opened memory a name is that of a step, and the step is ready,
 -- exactly where it is so by the array. Assumes nothing.
 use Rattle.std.proofs.Common.{◌≡◌, sym, ◌∙◌}
+use native.Mathlib.Omega.{arith}
 use Rattle.meaning.specs.Description.{description_of}
 use Rattle.step_rules.specs.Steps.{program_of}
 use Rattle.opening.specs.Opening.{grounds}
@@ -31,7 +32,7 @@ act-requires c =
     let p = c.requires in
     let g = c.program_of-g.ensures in
     let d : c.program_of-g.result ≡ program_of (description_of a.s.now) = rw p.1.description_is at g.0 in
-    asks p.0 a.kind a.number a.stream (sym c.named.ensures ∙ c.in-Some.is) (sym c.can.ensures ∙ c.if-not-can.false) d g.1 p.2 p.3
+    asks p.0 a.kind a.number a.stream (sym c.named.ensures ∙ c.in-Some.is) (sym c.can.ensures ∙ c.if-not-can.false) d g.1 p.2 (omega arith)
 
 pub returns : goal.returns
 returns c =

@@ -4,4 +4,4 @@ use mathlib.Core.Path.{refl}
 use Rattle.opening.proofs.open.Goals as goal
 
 pub open_with_lanes-requires : goal.open_with_lanes-requires
-open_with_lanes-requires c = (refl, c.requires)
+open_with_lanes-requires c = refl

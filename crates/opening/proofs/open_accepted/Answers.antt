@@ -11,7 +11,7 @@ use Rattle.opening.proofs.open_accepted.Goals as goal
 
 pub figures_of-f-requires : goal.figures_of-f-requires
 figures_of-f-requires c =
-    let p = c.requires in (p.0.described, p.1, p.2, p.3, p.4)
+    let p = c.requires in (p.0.described, p.1, p.2)
 
 pub sound_refusal-requires : goal.sound_refusal-requires
 sound_refusal-requires c =
@@ -23,11 +23,8 @@ sound_refusal-requires c =
         grounds = c.requires.0;
         size = c.size_of-z.ensures ∙ size_is a.v.description f.0;
         long = l.2;
-        words = c.requires.5;
       },
       c.requires.1,
-      c.requires.2,
-      c.requires.3,
       f.1,
     )
 

@@ -9,8 +9,7 @@ use Rattle.opening.proofs.open_with_lanes.Goals as goal
 
 pub open_within-requires : goal.open_within-requires
 open_within-requires c =
-    let p = c.requires in
-    (c.limits_of-limits.ensures.1, p.0, p.1)
+    (c.limits_of-limits.ensures.1, c.requires)
 
 pub returns : goal.returns
 returns c =

@@ -16,11 +16,8 @@ open_accepted-requires c =
     let e = c.in_ok-v.ensures in
     let h = e.surveyed in (
       subst Grounds (sym h.0.description_is) (grounds _ (by_gauge p.0 _ (sym e.number))),
-      h.0.surveyed,
       h.1,
-      omega arith,
       p.1,
-      p.2,
     )
 
 pub returns : goal.returns

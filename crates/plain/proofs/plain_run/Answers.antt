@@ -13,8 +13,7 @@ use Rattle.plain.proofs.plain_run.Goals as goal
 pub run_accepted-requires : goal.run_accepted-requires
 run_accepted-requires c =
     let h = c.in_ok-v.ensures in
-    let v = h.surveyed.0 in
-    (subst Fitting (sym v.description_is) (accepted_fitting _ (by_board _ _ (sym h.number))), v.surveyed)
+    subst Fitting (sym h.surveyed.0.description_is) (accepted_fitting _ (by_board _ _ (sym h.number)))
 
 pub returns : goal.returns
 returns c =

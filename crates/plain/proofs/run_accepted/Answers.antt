@@ -10,7 +10,7 @@ use Rattle.plain.specs.Call.{Called, own_is, lengths_are, run_done, run_refused}
 use Rattle.plain.proofs.run_accepted.Goals as goal
 
 pub element_count-e-requires : goal.element_count-e-requires
-element_count-e-requires c = let p = c.requires in (p.0.few, p.1)
+element_count-e-requires c = c.requires.few
 
 pub copy_from_slice-requires : goal.copy_from_slice-requires
 copy_from_slice-requires c =
@@ -26,7 +26,7 @@ run_loops-requires c =
     let d = a.v.description in
     let n = own_is d (length a.values.now) (length a.output.now) c.element_count-e.ensures.0 c.in_ok-of_plain.ensures in
     let l = lengths_are d (length a.values.now) (length a.output.now) n refl in
-    (c.requires.0, c.requires.1, c.copy_from_slice.ensures.len ∙ l.1)
+    (c.requires, c.copy_from_slice.ensures.len ∙ l.1)
 
 pub returns : goal.returns
 returns c =

@@ -1,8 +1,9 @@
 -- `port_fill::fill_ports` meets its contract. Assumes nothing.
+use native.Mathlib.Omega.{arith}
 use Rattle.port_fill.proofs.fill_ports.Goals as goal
 
 pub stride_of-stride-requires : goal.stride_of-stride-requires
-stride_of-stride-requires c = let p = c.requires in (p.0, p.2)
+stride_of-stride-requires c = c.requires.0
 
 pub fill_streams-requires : goal.fill_streams-requires
 fill_streams-requires c =
@@ -12,10 +13,8 @@ fill_streams-requires c =
         laid = p.1;
         narrow = c.stride_of-stride.ensures.1;
         strides = c.stride_of-stride.ensures.0;
-        of_spans = p.3;
-        long = p.4;
+        of_spans = p.2;
+        long = omega arith;
       },
-      p.2,
-      p.5,
-      p.6,
+      p.3,
     )

@@ -1,31 +1,19 @@
--- `port_fill::fill_stream` meets its contract: the heads are filled at all processes before the rows that are made of them, and the first
--- rows leave the table its length. Assumes nothing.
+-- `port_fill::fill_stream` meets its contract: the heads are filled at all processes before the rows that are made of them. Assumes
+-- nothing.
 use mathlib.Core.Path.{refl}
-use native.Mathlib.Omega.{arith}
-use Prim.Native.Nat.{ℕ}
-use lib.ListN.{length-replicate}
 use Rattle.lanes.specs.All.{seen_of}
-use Rattle.port_fill.specs.Strung.{ends_fillable, ports_fillable, ends_length, strung}
+use Rattle.port_fill.specs.Strung.{ends_fillable, ports_fillable, strung}
 use Rattle.port_fill.proofs.fill_stream.Goals as goal
 
 pub put_ends-pipes-requires : goal.put_ends-pipes-requires
 put_ends-pipes-requires c =
-    let f = c.requires.0.flowing in (
-      ends_fillable c.requires.0 (seen_of f.flows refl refl f.of_spans f.long c.requires.1),
-      length-replicate {A = ℕ} 2048 0,
-      c.requires.2,
-    )
+    let f = c.requires.0.flowing in
+    ends_fillable c.requires.0 (seen_of f.flows refl refl f.of_spans f.long c.requires.1)
 
 pub put_ports-requires : goal.put_ports-requires
 put_ports-requires c =
-    let f = c.requires.0.flowing in (
-      ports_fillable c.requires.0 (seen_of f.flows refl refl f.of_spans f.long c.requires.1) c.put_ends-pipes.ensures.1,
-      omega (
-        arith,
-        c.requires.2,
-        ends_length _ _ c.args.g c.args.first c.args.base _ c.args.ports.now c.put_ends-pipes.ensures.2,
-      ),
-    )
+    let f = c.requires.0.flowing in
+    ports_fillable c.requires.0 (seen_of f.flows refl refl f.of_spans f.long c.requires.1) c.put_ends-pipes.ensures.1
 
 pub returns : goal.returns
 returns c =

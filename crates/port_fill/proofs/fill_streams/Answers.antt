@@ -10,7 +10,7 @@ use Rattle.port_fill.proofs.fill_streams.Goals as goal
 
 pub loop-i-init : goal.loop-i-init
 loop-i-init c =
-    let d = c.args.v.description in (sums_zero d, filled_zero d c.requires.3)
+    let d = c.args.v.description in (sums_zero d, filled_zero d (omega arith))
 
 pub flow_at-f-requires : goal.flow_at-f-requires
 flow_at-f-requires c =
@@ -22,16 +22,16 @@ strand_of-g-requires c =
     let t : l.i < c.args.v.description.sizes.streams = omega arith in
     let e = c.flow_at-f.ensures in
     let h = c.requires.0 in
-    let u = c.requires.1 in (
-      hop_few h u l.i t e l.invariant.0,
-      processes_few h u l.i t e l.invariant.0,
+    let v = c.args.v in (
+      hop_few v h l.i t e l.invariant.0,
+      processes_few v h l.i t e l.invariant.0,
       h.narrow,
-      slack h u l.i t e l.invariant.0,
+      slack v h l.i t e l.invariant.0,
     )
 
 pub elements_in-first-requires : goal.elements_in-first-requires
 elements_in-first-requires c =
-    (c.requires.0.described.few, c.requires.1, omega arith)
+    (c.requires.0.described.few, omega arith)
 
 pub overflow_cast-a : goal.overflow_cast-a
 overflow_cast-a c = omega (arith, six c.args.v.description c.requires.0.described)
@@ -50,7 +50,7 @@ offset_bounds-lanes-a c = omega (arith, six c.args.v.description c.requires.0.de
 
 pub slice_bounds-fill_stream-end : goal.slice_bounds-fill_stream-end
 slice_bounds-fill_stream-end c =
-    omega (arith, six c.args.v.description c.requires.0.described, c.requires.2.words)
+    omega (arith, six c.args.v.description c.requires.0.described, c.requires.1.words)
 
 pub fill_stream-pipes-requires : goal.fill_stream-pipes-requires
 fill_stream-pipes-requires c =
@@ -58,11 +58,10 @@ fill_stream-pipes-requires c =
     let t : l.i < c.args.v.description.sizes.streams = omega arith in
     let e = c.flow_at-f.ensures in
     let h = c.requires.0 in
-    let u = c.requires.1 in
+    let v = c.args.v in
     let a = 3072 * l.i in (
-      stringing h u l.i t e l.invariant.0 c.strand_of-g.ensures.0 c.elements_in-first.ensures,
-      lanes_here h u l.i t e l.invariant.0 (part_lanes c.requires.2 l.i t {k = a + 3072 - a} (omega arith)),
-      l.invariant.1.words,
+      stringing v h l.i t e l.invariant.0 c.strand_of-g.ensures.0 c.elements_in-first.ensures,
+      lanes_here v h l.i t e l.invariant.0 (part_lanes c.requires.1 l.i t {k = a + 3072 - a} (omega arith)),
     )
 
 pub joined-sums-requires : goal.joined-sums-requires
@@ -71,10 +70,10 @@ joined-sums-requires c =
     let t : l.i < c.args.v.description.sizes.streams = omega arith in
     let e = c.flow_at-f.ensures in
     let h = c.requires.0 in
-    let u = c.requires.1 in (
-      slack h u l.i t e l.invariant.0,
-      hop_few h u l.i t e l.invariant.0,
-      entries_few h u l.i t e l.invariant.0 c.fill_stream-pipes.ensures.0,
+    let v = c.args.v in (
+      slack v h l.i t e l.invariant.0,
+      hop_few v h l.i t e l.invariant.0,
+      entries_few v h l.i t e l.invariant.0 c.fill_stream-pipes.ensures.0,
     )
 
 pub loop-i-preserved : goal.loop-i-preserved
@@ -83,10 +82,10 @@ loop-i-preserved c =
     let t : l.i < c.args.v.description.sizes.streams = omega arith in
     let e = c.flow_at-f.ensures in
     let h = c.requires.0 in
-    let u = c.requires.1 in
+    let v = c.args.v in
     let k = c.fill_stream-pipes.ensures in (
-      c.joined-sums.ensures ∙ joined_next h u l.i t e l.invariant.0 k.0,
-      filled_next h u l.i t e l.invariant.0 c.strand_of-g.ensures.0
+      c.joined-sums.ensures ∙ joined_next v h l.i t e l.invariant.0 k.0,
+      filled_next v h l.i t e l.invariant.0 c.strand_of-g.ensures.0
           c.elements_in-first.ensures l.ports k.1 l.invariant.1,
     )
 

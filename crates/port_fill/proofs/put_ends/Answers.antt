@@ -15,15 +15,15 @@ pub loop-p-init : goal.loop-p-init
 loop-p-init c =
     let n = c.args.f.nest in
     let t = c.args.f.stream in
-    (start_zero n t c.args.first, entered_zero n t, heads_zero n t c.requires.1, sym (marks_zero _ _ _ _ _))
+    (start_zero n t c.args.first, entered_zero n t, heads_zero n t (omega arith), sym (marks_zero _ _ _ _ _))
 
 pub entering_length-total-requires : goal.entering_length-total-requires
-entering_length-total-requires c = let p = c.requires.0 in
+entering_length-total-requires c = let p = c.requires in
     record { seen = p.seen; lt = omega (arith, p.counted) }
 
 pub put_head-requires : goal.put_head-requires
 put_head-requires c =
-    let p = c.requires.0 in
+    let p = c.requires in
     let f = c.args.f in
     let l = c.loop-p in (
       omega (arith, p.counted, p.seen.flows.laid.processes),
@@ -35,25 +35,25 @@ put_head-requires c =
 pub put_end-j-requires : goal.put_end-j-requires
 put_end-j-requires c =
     let l = c.loop-p in
-    (end_fillable c.requires.0 l.p (omega arith) c.entering_length-total.ensures.0 l.invariant.0 l.invariant.1, omega arith)
+    end_fillable c.requires l.p (omega arith) c.entering_length-total.ensures.0 l.invariant.0 l.invariant.1
 
 pub overflow_add-j : goal.overflow_add-j
 overflow_add-j c =
     let a = c.args in
     let l = c.loop-p in
-    let m : l.p < length (processes a.f.nest) = omega (arith, c.requires.0.counted) in
+    let m : l.p < length (processes a.f.nest) = omega (arith, c.requires.counted) in
     omega (
       arith,
       l.invariant.1,
       entered_next a.f.nest a.f.stream l.p m _ c.put_end-j.ensures.0,
       entered_le a.f.nest a.f.stream (suc l.p),
-      c.requires.0.seen.flows.laid.processes,
+      c.requires.seen.flows.laid.processes,
     )
 
 pub overflow_add-start : goal.overflow_add-start
 overflow_add-start c =
     let l = c.loop-p in
-    omega (arith, start_few c.requires.0 l.p l.invariant.0, c.entering_length-total.ensures.1)
+    omega (arith, start_few c.requires l.p l.invariant.0, c.entering_length-total.ensures.1)
 
 pub loop-p-preserved : goal.loop-p-preserved
 loop-p-preserved c =
@@ -64,10 +64,10 @@ loop-p-preserved c =
     let x = c.entering_length-total in
     let k = c.put_end-j in
     let z : suc l.p ≡ l.p + 1 = omega arith in
-    let m : l.p < length (processes n) = omega (arith, c.requires.0.counted) in (
+    let m : l.p < length (processes n) = omega (arith, c.requires.counted) in (
       ap (λ (u : ℕ). u + x.result) l.invariant.0 ∙ start_next n t a.first l.p m _ x.ensures.0 ∙ ap (start_at n t a.first) z,
       ap (λ (j : ℕ). j + k.result) l.invariant.1 ∙ entered_next n t l.p m _ k.ensures.0 ∙ ap (entered_at n t) z,
-      heads_next l.invariant.2 (omega (arith, m, c.requires.0.seen.flows.laid.processes)) l.invariant.1 x.ensures.0 c.put_head.ensures,
+      heads_next l.invariant.2 (omega (arith, m, c.requires.seen.flows.laid.processes)) l.invariant.1 x.ensures.0 c.put_head.ensures,
       ends_turn n t a.g a.first a.base l.p a.ports.now l.invariant.3 l.invariant.0 l.invariant.1 k.ensures.1,
     )
 
@@ -78,7 +78,7 @@ returns c =
     let t = a.f.stream in
     let l = c.loop-p in
     let e : l.p ≡ a.processes = omega arith in (
-      l.invariant.1 ∙ entered_all n t l.p (e ∙ c.requires.0.counted),
+      l.invariant.1 ∙ entered_all n t l.p (e ∙ c.requires.counted),
       subst (λ (k : ℕ). Heads n t k l.heads) e l.invariant.2,
       l.invariant.3 ∙ ap (λ (k : ℕ). end_rows n t a.g a.first a.base k a.ports.now) e,
     )

@@ -10,20 +10,20 @@ use Rattle.port_fill.proofs.put_port.Goals as goal
 
 pub overflow_mul-p : goal.overflow_mul-p
 overflow_mul-p c =
-    let p = c.requires.0 in
+    let p = c.requires in
     record { fits = omega (arith, p.has_port_lem.near.lt, few p.has_port_lem.near) }
 
 pub overflow_add-p : goal.overflow_add-p
 overflow_add-p c =
-    let p = c.requires.0 in
+    let p = c.requires in
     record { fits = omega (arith, p.has_port_lem.near.lt, few p.has_port_lem.near, p.stream) }
 
 pub put_port-requires : goal.put_port-requires
 put_port-requires c =
     let p = c.requires in (
-      omega (arith, p.1, p.0.has_port_lem.near.lt, few p.0.has_port_lem.near, p.0.stream),
+      omega (arith, p.has_port_lem.near.lt, few p.has_port_lem.near, p.stream),
       subst PortWide (sym c.row_of-k.ensures)
-          (row_wide p.0.narrow p.0.has_port_lem.near.seen.flows.laid p.0.has_port_lem.near.lt p.0.small),
+          (row_wide p.narrow p.has_port_lem.near.seen.flows.laid p.has_port_lem.near.lt p.small),
     )
 
 pub returns : goal.returns

@@ -10,7 +10,7 @@ pub loop-p-init : goal.loop-p-init
 loop-p-init c = sym (marks_zero _ _ _ _ _)
 
 pub put_port-requires : goal.put_port-requires
-put_port-requires c = (port_fillable c.requires.0 c.loop-p.p (omega arith), omega arith)
+put_port-requires c = port_fillable c.requires c.loop-p.p (omega arith)
 
 pub loop-p-preserved : goal.loop-p-preserved
 loop-p-preserved c =

@@ -11,7 +11,8 @@ use Rattle.lists.specs.Fills.{known_next}
 use Rattle.outlook.specs.declared.Outlook.{Outlook}
 use Rattle.outlook.specs.Outlooks.{OutlookOf, no_outlook}
 use Rattle.survey.specs.InRange.{in_range_lem}
-use Rattle.survey.specs.Surveys.{GroundOf, charted, flow_is}
+use Rattle.survey.specs.Surveys.{GroundOf, charted}
+use Rattle.survey.specs.OfBytes.{flow_is}
 use Rattle.walk.specs.Walked.{Along}
 use Rattle.prospect.proofs.outlooks_along.Goals as goal
 
@@ -25,10 +26,10 @@ flow_at-f-requires c =
 pub outlook_of-requires : goal.outlook_of-requires
 outlook_of-requires c =
     let l = c.loop-i in
-    let k = flow_is c.requires.1 l.i c.loop-i-test.true c.flow_at-f.ensures in (
+    let k = flow_is c.args.v l.i c.loop-i-test.true c.flow_at-f.ensures in (
       charted (in_range_lem c.requires.0.nest (c.requires.0.streams l.i)) k,
-      subst (λ (n : Nest). GroundOf n c.args.v.ground) (sym k.nest_is) c.requires.1.ground,
-      subst (λ (n : Nest). Along n c.args.walk.now) (sym k.nest_is) c.requires.2,
+      subst (λ (n : Nest). GroundOf n c.args.v.ground) (sym k.nest_is) c.args.v.surveyed.ground,
+      subst (λ (n : Nest). Along n c.args.walk.now) (sym k.nest_is) c.requires.1,
     )
 
 -- stream i is one of six
@@ -50,7 +51,7 @@ loop-i-preserved c =
     let l = c.loop-i in
     let t = c.loop-i-test.true in
     let d = c.args.v.description in
-    let k = flow_is c.requires.1 l.i t c.flow_at-f.ensures in
+    let k = flow_is c.args.v l.i t c.flow_at-f.ensures in
     let o = c.outlook_of.result in (
       simp length-set l.invariant.0,
       known_next (λ (k : ℕ) (o : Outlook). OutlookOf d.nest (written d k) (get_or d.streams k no_stream) o) no_outlook l.out

@@ -8,7 +8,7 @@ use Rattle.prospect.proofs.outlooks_of.Goals as goal
 pub fill_processes-requires : goal.fill_processes-requires
 fill_processes-requires c =
     let p = c.requires in
-    (nest_bounded p.0.ranged.nest, p.0.surveyed.ground, p.0.layout, p.0.instances, p.1, omega arith)
+    (nest_bounded p.0.ranged.nest, c.args.v.surveyed.ground, p.0.layout, p.0.instances, p.1, omega arith)
 
 pub fill_walk-requires : goal.fill_walk-requires
 fill_walk-requires c =
@@ -16,7 +16,7 @@ fill_walk-requires c =
     record {
       walkable =
           record { nest = nest_bounded p.0.ranged.nest; layout = p.0.layout; instances = p.0.instances; processes = p.1 };
-      ground = p.0.surveyed.ground;
+      ground = c.args.v.surveyed.ground;
       held = c.fill_processes.ensures;
       words = search rules;
       room = omega arith;
@@ -26,6 +26,5 @@ pub outlooks_along-requires : goal.outlooks_along-requires
 outlooks_along-requires c =
     let p = c.requires in (
       p.0.ranged,
-      p.0.surveyed,
       record { layout = p.0.layout; walked = c.fill_walk.ensures; few = p.0.instances; room = search rules },
     )

@@ -22,13 +22,12 @@ survey_of-requires c = (own_in_range c.requires.0 c.own_nest.ensures, c.requires
 pub returns : goal.returns
 returns c =
     let d = c.args.d in
-    let e = c.survey_of.ensures.0 in
+    let e = c.survey_of.ensures in
     let m = c.own_nest.ensures in
     record {
       same =
           e ∙ ap (with_nest d) m.same
           ∙ ap (λ (t : Description). with_nest d (stepped d.nest t.nest.step)) (sym e);
       ranged = subst Ranged (sym e) (own_in_range c.requires.0 c.own_nest.ensures);
-      surveyed = c.survey_of.ensures.1;
       moves = λ r. ap (λ (t : Description). refused8 t.nest) e ∙ m.moves r;
     }

@@ -7,7 +7,7 @@ use Rattle.prospect.proofs.prospect_of.Goals as goal
 
 pub outlooks_within-requires : goal.outlooks_within-requires
 outlooks_within-requires c =
-    let g = c.requires.0.surveyed.ground in
+    let g = c.args.v.surveyed.ground in
     let most = c.args.limits.processes in
     let some = c.args.v.ground.processes in (
       c.requires.0,
@@ -17,7 +17,7 @@ outlooks_within-requires c =
 pub returns : goal.returns
 returns c =
     let p = c.requires.0 in
-    let g = p.surveyed.ground in
+    let g = c.args.v.surveyed.ground in
     record {
       increment_is = g.increment_is;
       increment_small = g.increment_small;
@@ -25,6 +25,6 @@ returns c =
       streams_is = refl;
       hop_is = refl;
       few = p.ranged.sized.most_streams;
-      in_use = p.surveyed.in_use;
+      in_use = c.args.v.surveyed.in_use;
       outlooks = c.outlooks_within.ensures;
     }

@@ -12,7 +12,8 @@ use Rattle.meaning.specs.Tests.{refusal}
 use Rattle.meaning.specs.Accept.{stream_tests}
 use Rattle.survey.specs.InRange.{in_range_lem}
 use Rattle.survey.specs.Stages.{stream_passed, stream_refused, streams_end}
-use Rattle.survey.specs.Surveys.{GroundOf, FlowOf, charted, flow_is}
+use Rattle.survey.specs.Surveys.{GroundOf, FlowOf, charted}
+use Rattle.survey.specs.OfBytes.{flow_is}
 use Rattle.survey.specs.declared.Flow.{Flow}
 use Rattle.walk.specs.Walked.{Along}
 use borrow.Author.Rules.{rules}
@@ -27,10 +28,10 @@ flow_at-f-requires c = omega (arith, c.loop-i-test.true, c.requires.0.sized.most
 pub stream_refusal-requires : goal.stream_refusal-requires
 stream_refusal-requires c =
     let l = c.loop-i in
-    let k = flow_is c.requires.1 l.i c.loop-i-test.true c.flow_at-f.ensures in (
+    let k = flow_is c.args.v l.i c.loop-i-test.true c.flow_at-f.ensures in (
       charted (in_range_lem c.requires.0.nest (c.requires.0.streams l.i)) k,
-      subst (λ (n : Nest). GroundOf n c.args.v.ground) (sym k.nest_is) c.requires.1.ground,
-      subst (λ (n : Nest). Along n c.args.walk.now) (sym k.nest_is) c.requires.2,
+      subst (λ (n : Nest). GroundOf n c.args.v.ground) (sym k.nest_is) c.args.v.surveyed.ground,
+      subst (λ (n : Nest). Along n c.args.walk.now) (sym k.nest_is) c.requires.1,
     )
 
 -- what is answered of a stream, by its nest and itself and not by its flow
@@ -47,10 +48,10 @@ pub returns-in_err-stream_refusal : goal.returns-in_err-stream_refusal
 returns-in_err-stream_refusal c =
     let l = c.loop-i in
     let f = c.flow_at-f.result in
-    let k = flow_is c.requires.1 l.i c.loop-i-test.true c.flow_at-f.ensures in
+    let k = flow_is c.args.v l.i c.loop-i-test.true c.flow_at-f.ensures in
     let r : refusal_number c.from_residual.result ≡ refusal (stream_tests c.args.limits f.nest c.written.result f.stream)
     = search rules in
-    stream_refused c.args.limits c.args.v.description c.requires.1.in_use l.i
+    stream_refused c.args.limits c.args.v.description c.args.v.surveyed.in_use l.i
     c.loop-i-test.true refl (answered c.args.limits k c.written.ensures r)
     (some c.in_err-stream_refusal.field-0.0 c.in_err-stream_refusal.ensures r)
     ∙ l.invariant
@@ -58,12 +59,12 @@ returns-in_err-stream_refusal c =
 pub loop-i-preserved : goal.loop-i-preserved
 loop-i-preserved c =
     let l = c.loop-i in
-    let k = flow_is c.requires.1 l.i c.loop-i-test.true c.flow_at-f.ensures in
-    stream_passed c.args.limits c.args.v.description c.requires.1.in_use l.i
+    let k = flow_is c.args.v l.i c.loop-i-test.true c.flow_at-f.ensures in
+    stream_passed c.args.limits c.args.v.description c.args.v.surveyed.in_use l.i
     c.loop-i-test.true refl (answered c.args.limits k c.written.ensures c.in_ok-stream_refusal.ensures) refl
     ∙ l.invariant
 
 pub returns : goal.returns
 returns c =
     let l = c.loop-i in
-    streams_end c.args.limits c.args.v.description c.requires.1.in_use l.i (omega arith) ∙ l.invariant
+    streams_end c.args.limits c.args.v.description c.args.v.surveyed.in_use l.i (omega arith) ∙ l.invariant

@@ -23,10 +23,8 @@ walked_refusal-requires c =
     let k = h.surveyed in
     let e = sym h.number in (
       subst Ranged (sym k.0.description_is) (walk_within l b e).0.ranged,
-      k.0.surveyed,
       walkable c.requires k.0 e,
       k.1,
-      omega arith,
     )
 
 pub returns : goal.returns

@@ -6,12 +6,11 @@ use Rattle.refuse.proofs.walked_refusal.Goals as goal
 pub fill_walk-requires : goal.fill_walk-requires
 fill_walk-requires c =
     let p = c.requires in
-    record { walkable = p.2; ground = p.1.ground; held = p.3; words = p.4; room = omega arith }
+    record { walkable = p.1; ground = c.args.v.surveyed.ground; held = p.2; words = omega arith; room = omega arith }
 
 pub streams_refusal-requires : goal.streams_refusal-requires
 streams_refusal-requires c =
     let p = c.requires in (
       p.0,
-      p.1,
-      record { layout = p.2.layout; walked = c.fill_walk.ensures; few = p.2.instances; room = search rules },
+      record { layout = p.1.layout; walked = c.fill_walk.ensures; few = p.1.instances; room = search rules },
     )

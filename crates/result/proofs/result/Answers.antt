@@ -11,13 +11,13 @@ use Rattle.result.specs.Call.{drawable, opened_call, refused_call}
 use Rattle.result.proofs.result.Goals as goal
 
 pub open_with_lanes-requires : goal.open_with_lanes-requires
-open_with_lanes-requires c = (refl, omega arith)
+open_with_lanes-requires c = refl
 
 pub result_opened-requires : goal.result_opened-requires
 result_opened-requires c =
     let e = c.in_ok-o.ensures in
     let o = e.opened in
-    (drawable o.opened, o.survey, o.spans, omega arith, e.lanes)
+    (drawable o.opened, o.survey, o.spans, e.lanes)
 
 pub returns : goal.returns
 returns c =

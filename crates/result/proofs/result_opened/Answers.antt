@@ -16,7 +16,7 @@ pub fill_output-requires : goal.fill_output-requires
 fill_output-requires c =
     let v = c.requires.1 in
     let f = fillable c.requires.0 c.args.output.now c.all_out-out.ensures c.in_ok-of_result.ensures refl v.description_is in
-    (f.0, v.surveyed, f.1, f.2, rw v.description_is c.requires.2, c.requires.3, rw v.description_is c.requires.4)
+    (f.0, f.1, f.2, rw v.description_is c.requires.2, rw v.description_is c.requires.3)
 
 pub returns : goal.returns
 returns c =

@@ -10,7 +10,7 @@ use Rattle.run.specs.Call.{opened_call, refused_call}
 use Rattle.run.proofs.run.Goals as goal
 
 pub run_opened-requires : goal.run_opened-requires
-run_opened-requires c = let o = c.in_ok-o.ensures.opened in (o.opened, o.survey, o.spans, omega arith)
+run_opened-requires c = let o = c.in_ok-o.ensures.opened in (o.opened, o.survey, o.spans)
 
 pub returns : goal.returns
 returns c =

@@ -6,7 +6,7 @@ use Rattle.run.specs.Call.{ran_by}
 use Rattle.run.proofs.run_opened.Goals as goal
 
 pub program_of-g-requires : goal.program_of-g-requires
-program_of-g-requires c = c.requires.1.surveyed.ground
+program_of-g-requires c = c.args.v.surveyed.ground
 
 pub fill_wakeups-requires : goal.fill_wakeups-requires
 fill_wakeups-requires c = table_asks c.requires.0
@@ -19,7 +19,7 @@ pub run_steps-done-requires : goal.run_steps-done-requires
 run_steps-done-requires c =
     let p = c.program_of-g.ensures in
     let h = c.requires in
-    starts h.0 h.1.description_is p.0 p.1 h.2 h.3
+    starts h.0 h.1.description_is p.0 p.1 h.2 (omega arith)
     c.fill_wakeups.ensures
     c.fill_flags.ensures
 

@@ -1,13 +1,12 @@
 -- `start::fill_memory` meets its contract: a value put at its element's place stands in pipe order, and the figures say how many words to
 -- clear, no more than the lists have. Assumes nothing.
-use borrow.Author.Rules.{rules}
 use native.Mathlib.Omega.{arith}
 use Rattle.start.specs.Call.{elements_is, words_is, putting, memory_filled}
 use Rattle.start.proofs.fill_memory.Goals as goal
 
 pub fill_places-requires : goal.fill_places-requires
 fill_places-requires c = let p = c.requires in
-    (p.0.placeable, p.1, p.2, p.3, p.4, omega arith)
+    (p.0.placeable, p.1, p.2, omega arith)
 
 pub put_values-requires : goal.put_values-requires
 put_values-requires c =

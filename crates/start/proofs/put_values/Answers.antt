@@ -1,5 +1,4 @@
 -- `start::put_values` meets its contract: the first e values are put. Assumes nothing.
-use borrow.Author.Rules.{rules}
 use mathlib.Core.Path.{refl, sym}
 use native.Mathlib.Omega.{arith}
 use Rattle.element_places.specs.Spread.{spread_zero, spread_step}

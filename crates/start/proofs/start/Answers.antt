@@ -16,9 +16,7 @@ start_accepted-requires c =
     let r = c.in_ok-v.ensures in
     let u = r.surveyed in (
       subst Placeable (sym u.0.description_is) (placeable _ (by_board _ _ (sym r.number))),
-      u.0.surveyed,
       u.1,
-      omega arith,
     )
 
 pub returns : goal.returns

@@ -10,7 +10,7 @@ use Rattle.start.specs.Call.{Called, fitting, call_done, call_refused}
 use Rattle.start.proofs.start_accepted.Goals as goal
 
 pub figures_of-f-requires : goal.figures_of-f-requires
-figures_of-f-requires c = let p = c.requires in (p.0.described, p.1, p.2, p.3, refl)
+figures_of-f-requires c = let p = c.requires in (p.0.described, p.1, refl)
 
 pub fill_memory-requires : goal.fill_memory-requires
 fill_memory-requires c =
@@ -19,8 +19,6 @@ fill_memory-requires c =
           (memory_of a.waiting.now a.received.now a.state.now)
           c.in_ok-of_start.ensures c.requires.0 refl,
       c.requires.1,
-      c.requires.2,
-      c.requires.3,
       c.figures_of-f.ensures.1,
     )
 

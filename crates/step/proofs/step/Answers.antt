@@ -11,7 +11,7 @@ use Rattle.step.specs.Call.{opened_call, refused_call}
 use Rattle.step.proofs.step.Goals as goal
 
 pub step_opened-requires : goal.step_opened-requires
-step_opened-requires c = let o = c.in_ok-o.ensures.opened in (o.opened, o.survey, o.spans, omega arith)
+step_opened-requires c = let o = c.in_ok-o.ensures.opened in (o.opened, o.survey, o.spans)
 
 pub returns : goal.returns
 returns c =

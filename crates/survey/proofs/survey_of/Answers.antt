@@ -1,5 +1,4 @@
 -- `survey::survey_of` meets its contract. Assumes nothing.
-use mathlib.Core.Path.{refl}
 use Rattle.survey.specs.InRange.{nest_bounded}
 use Rattle.survey.proofs.survey_of.Goals as goal
 
@@ -9,7 +8,6 @@ ground_of-ground-requires c = nest_bounded c.requires.0.nest
 pub flows_of-requires : goal.flows_of-requires
 flows_of-requires c = (c.requires.0, c.ground_of-ground.ensures)
 
-pub returns : goal.returns
-returns c =
-    let p = c.requires in
-    (refl, record { in_use = p.1; ground = c.ground_of-ground.ensures; flow = c.flows_of.ensures })
+pub invariant_of-result : goal.invariant_of-result
+invariant_of-result c =
+    record { surveyed = record { in_use = c.requires.1; ground = c.ground_of-ground.ensures; flow = c.flows_of.ensures } }

@@ -11,7 +11,7 @@ use borrow.Author.Rules.{rules}
 use Rattle.table.proofs.draw.Goals as goal
 
 pub copy_spans-requires : goal.copy_spans-requires
-copy_spans-requires c = (c.requires.3, omega (arith, c.fill_streams.auto.words, zeros_length c.requires.4))
+copy_spans-requires c = omega (arith, c.fill_streams.auto.words, zeros_length c.requires.2)
 
 pub returns : goal.returns
 returns c =
@@ -24,9 +24,9 @@ returns c =
       shaped = c.shape_of.ensures;
       bounded = g.bounded;
       few = g.processes;
-      most = omega (arith, c.requires.1.in_use, g.most);
+      most = omega (arith, c.args.v.surveyed.in_use, g.most);
       front = es;
-      spans = c.requires.2;
-      copied = subst (λ (v : List ℕ). (j : ℕ) → j < 3072 → get_or v j 0 ≡ get_or es j 0) e (front_copied es w c.requires.3);
-      streams = subst (Streamed d.nest (streams_of d) _) e (streamed_copied es w c.requires.3 c.fill_streams.ensures);
+      spans = c.requires.1;
+      copied = subst (λ (v : List ℕ). (j : ℕ) → j < 3072 → get_or v j 0 ≡ get_or es j 0) e (front_copied es w (omega arith));
+      streams = subst (Streamed d.nest (streams_of d) _) e (streamed_copied es w (omega arith) c.fill_streams.ensures);
     }

@@ -1,7 +1,6 @@
 -- `table::fill_columns` meets its contract: what the limits of a board accept the gauge's accept too, so that the columns can be drawn.
 -- Assumes nothing.
 use mathlib.Core.Path.{◌≡◌, sym, ◌∙◌, ap}
-use native.Mathlib.Omega.{arith}
 use Rattle.refusals.specs.Numbers.{number_of, refusal_number}
 use Rattle.meaning.specs.declared.Limits.{Limits}
 use Rattle.geometry.specs.UpTo.{by_gauge}
@@ -18,9 +17,7 @@ draw-requires c =
     let h = c.in_ok-v.ensures in
     let k = h.surveyed in (
       drawable k.0 (by_gauge c.limits_of.ensures.1 _ (none_refused _ _ _ (sym h.number)).0),
-      k.0.surveyed,
       k.1,
-      omega arith,
       c.requires,
     )
 

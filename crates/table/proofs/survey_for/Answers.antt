@@ -14,7 +14,7 @@ pub returns : goal.returns
 returns c =
     let h = c.in_ok-v.ensures in
     let k = h.surveyed in
-    let n = k.0.surveyed.ground.processes_is ∙ ap (λ (d : Description). length (processes d.nest)) k.0.description_is in
+    let n = c.in_ok-v.v.surveyed.ground.processes_is ∙ ap (λ (d : Description). length (processes d.nest)) k.0.description_is in
     record { number = refused_own _ _ _ (sym h.number) n c.in_ok-of_table.ensures; surveyed = k }
 
 pub returns-in_err-v-clause-number : goal.returns-in_err-v-clause-number
@@ -28,6 +28,6 @@ returns-in_err-of_table-clause-number c =
     let h = c.in_ok-v.ensures in
     let k = h.surveyed in
     let e = c.in_err-of_table.field-0.0 in
-    let n = k.0.surveyed.ground.processes_is ∙ ap (λ (d : Description). length (processes d.nest)) k.0.description_is in
+    let n = c.in_ok-v.v.surveyed.ground.processes_is ∙ ap (λ (d : Description). length (processes d.nest)) k.0.description_is in
     let r : refusal_number c.from_residual-in_err-of_table.result ≡ number_of e = search rules in
     r ∙ refused_own c.args.limits c.args.s.now c.args.room (sym h.number) n c.in_err-of_table.ensures

@@ -15,8 +15,7 @@ use Rattle.geometry.specs.Tests.{numbered}
 use Rattle.numbering.specs.Ranges.{Bounded}
 use Rattle.survey.specs.InRange.{nest_bounded}
 use Rattle.survey.specs.Accepted.{early_decoded}
-use Rattle.survey.specs.Surveys.{Surveyed, SurveyOf, may_survey}
-use Rattle.survey.specs.declared.Survey.{Survey}
+use Rattle.survey.specs.Surveys.{may_survey}
 use Rattle.survey.specs.Stages.{layout_tests, early_tests, walk_tests_lem, goes_on, stops}
 use borrow.Author.Rules.{rules}
 use Rattle.walkable.proofs.nest_survey.Goals as goal
@@ -27,33 +26,28 @@ description-requires c = (early_decoded c.args.limits c.args.s.now (sym c.in_ok-
 pub survey_of-v-requires : goal.survey_of-v-requires
 survey_of-v-requires c = may_survey (early_decoded c.args.limits c.args.s.now (sym c.in_ok-early_refusal.ensures)) c.description.ensures
 
--- what is surveyed
-survey_is : {s : List ℕ} {d : Description} {v : Survey} → (v.description ≡ d) × (Surveyed v) → d ≡ description_of s → SurveyOf s v
-survey_is h e = record { description_is = h.0 ∙ e; surveyed = h.1 }
-
 pub nest_refusal-requires : goal.nest_refusal-requires
-nest_refusal-requires c =
-    let v = survey_is c.survey_of-v.ensures c.description.ensures in (
-      subst (λ (d : Description). Bounded d.nest) (sym v.description_is)
-          (nest_bounded (early_decoded c.args.limits c.args.s.now (sym c.in_ok-early_refusal.ensures)).ranged.nest),
-      v.surveyed.ground,
-    )
+nest_refusal-requires c = (
+  subst (λ (d : Description). Bounded d.nest) (sym (c.survey_of-v.ensures ∙ c.description.ensures))
+      (nest_bounded (early_decoded c.args.limits c.args.s.now (sym c.in_ok-early_refusal.ensures)).ranged.nest),
+  c.survey_of-v.result.surveyed.ground,
+)
 
 -- the tests of the loops after those before them, by the refusal of the loops
-loops : (l : Limits) (s : List ℕ) {v : Survey} {r : ℕ} → 0 ≡ refusal (early_tests l s) → SurveyOf s v
-    → r ≡ refusal (layout_tests l v.description.nest) → r ≡ walk_refusal l s
+loops : (l : Limits) (s : List ℕ) {d : Description} {r : ℕ} → 0 ≡ refusal (early_tests l s) → d ≡ description_of s
+    → r ≡ refusal (layout_tests l d.nest) → r ≡ walk_refusal l s
 unfolding numbered
-loops l s z v e =
+loops l s z h e =
     goes_on (early_tests l s) (layout_tests l (description_of s).nest) tt z refl
-    (e ∙ ap (λ (d : Description). refusal (layout_tests l d.nest)) v.description_is)
+    (e ∙ ap (λ (d : Description). refusal (layout_tests l d.nest)) h)
     ∙ walk_tests_lem l s
 
 pub returns : goal.returns
 returns c =
-    let v = survey_is c.survey_of-v.ensures c.description.ensures in
+    let h = c.survey_of-v.ensures ∙ c.description.ensures in
     record {
-      number = loops c.args.limits c.args.s.now c.in_ok-early_refusal.ensures v c.in_ok-nest_refusal.ensures;
-      surveyed = v;
+      number = loops c.args.limits c.args.s.now c.in_ok-early_refusal.ensures h c.in_ok-nest_refusal.ensures;
+      surveyed = record { description_is = h };
     }
 
 -- those before them, where one applies
@@ -72,4 +66,4 @@ pub returns-in_err-nest_refusal-clause-number : goal.returns-in_err-nest_refusal
 returns-in_err-nest_refusal-clause-number c =
     let n = c.survey_of-v.result.description.nest in
     let e : refusal_number c.from_residual-in_err-nest_refusal.result ≡ refusal (layout_tests c.args.limits n) = search rules in
-    loops c.args.limits c.args.s.now c.in_ok-early_refusal.ensures (survey_is c.survey_of-v.ensures c.description.ensures) e
+    loops c.args.limits c.args.s.now c.in_ok-early_refusal.ensures (c.survey_of-v.ensures ∙ c.description.ensures) e

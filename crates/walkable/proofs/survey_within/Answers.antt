@@ -9,4 +9,4 @@ pub fill_processes-requires : goal.fill_processes-requires
 fill_processes-requires c =
     let h = c.in_ok-v.ensures in
     let w = walkable c.requires h.surveyed (sym h.number) in
-    (w.nest, h.surveyed.surveyed.ground, w.layout, w.instances, w.processes, omega arith)
+    (w.nest, c.in_ok-v.v.surveyed.ground, w.layout, w.instances, w.processes, omega arith)

@@ -12,7 +12,7 @@ pub fill_walk-requires : goal.fill_walk-requires
 fill_walk-requires c =
     let h = c.in_ok-v.ensures in
     let w = walkable c.limits_of.ensures.1 h.surveyed.0 (sym h.number) in
-    record { walkable = w; ground = h.surveyed.0.surveyed.ground; held = h.surveyed.1; words = omega arith; room = omega arith }
+    record { walkable = w; ground = c.in_ok-v.v.surveyed.ground; held = h.surveyed.1; words = omega arith; room = omega arith }
 
 pub returns-clause-surveyed : goal.returns-clause-surveyed
 returns-clause-surveyed c =

@@ -1,14 +1,13 @@
 -- `window::all_searched` meets its contract: the search in what is left of the streams has the answer of the whole; a stream adds at most
 -- 4,194,304 to the start. Assumes nothing.
-use mathlib.Core.Path.{◌≡◌, refl, ◌∙◌, ap, ap₂}
+use mathlib.Core.Path.{refl, ◌∙◌, ap, ap₂}
 use Prim.Native.Nat.{◌+◌}
 use native.Mathlib.Omega.{arith}
 use lib.ListN.{drop}
-use borrow.Author.Rules.{rules}
 use Rattle.meaning.specs.declared.Nest.{Nest}
 use Rattle.meaning.specs.declared.Stream.{Stream}
 use Rattle.meaning.specs.Description.{streams_of}
-use Rattle.survey.specs.Surveys.{flow_is}
+use Rattle.survey.specs.OfBytes.{flow_is}
 use Rattle.figures.specs.Shares.{stream_is, share_at}
 use Rattle.window.specs.declared.Search.{Search}
 use Rattle.window.specs.Search.{searched as results, stream_lengths, all_lengths, stream_next, stream_end}
@@ -24,7 +23,7 @@ pub stream_searched-w-requires : goal.stream_searched-w-requires
 stream_searched-w-requires c =
     let p = c.requires in
     let l = c.loop-i in (
-      share_at p.0 p.1 l.i (omega arith) c.flow_at.ensures p.2 p.3,
+      share_at c.args.v p.0 l.i (omega arith) c.flow_at.ensures p.1 (omega arith),
       omega (arith, l.invariant.0, p.0.few.ranged.sized.most_streams),
     )
 
@@ -33,7 +32,7 @@ loop-i-preserved c =
     let p = c.requires in
     let d = c.args.v.description in
     let l = c.loop-i in
-    let k = flow_is p.1 l.i (omega arith) c.flow_at.ensures in (
+    let k = flow_is c.args.v l.i (omega arith) c.flow_at.ensures in (
       omega (arith, l.invariant.0, c.stream_searched-w.ensures.1),
       ap (λ (w : Search). results w (all_lengths d.nest (drop (l.i + 1) (streams_of d))))
           (c.stream_searched-w.ensures.0

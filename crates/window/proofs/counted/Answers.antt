@@ -1,6 +1,5 @@
 -- `window::counted` meets its contract: a search that has found stays; with none left to pass over it finds this pipe, and with some left
 -- one can be taken off. Assumes nothing.
-use borrow.Author.Rules.{rules}
 use native.Mathlib.Omega.{arith}
 use Rattle.window.specs.Search.{count_found, count_here, count_on}
 use Rattle.window.proofs.counted.Goals as goal

@@ -1,13 +1,12 @@
 -- `window::located` meets its contract: the search finds a pipe exactly if its number is below how many there are, and the elements passed
 -- over say where its part begins. Assumes nothing.
-use borrow.Author.Rules.{rules}
 use mathlib.Core.Path.{sym, ap}
 use mathlib.Core.Bool.{Bool, cond}
 use Rattle.window.specs.Pieces.{same_piece, found_piece, lost_piece}
 use Rattle.window.proofs.located.Goals as goal
 
 pub all_searched-w-requires : goal.all_searched-w-requires
-all_searched-w-requires c = let p = c.requires in (p.0.described, p.1, p.2, p.3)
+all_searched-w-requires c = let p = c.requires in (p.0.described, p.1)
 
 pub returns-in-Some : goal.returns-in-Some
 returns-in-Some c =

@@ -1,5 +1,4 @@
 -- `window::part_of` meets its contract. Assumes nothing.
-use borrow.Author.Rules.{rules}
 use mathlib.Core.Path.{refl}
 use borrow.Author.Tests.{eq-eqb, ne_eqb}
 use Rattle.window.proofs.part_of.Goals as goal

@@ -1,6 +1,5 @@
 -- `window::piece_of` meets its contract: the limits of a board are at most the gauge's, as `piece_within` asks. Assumes nothing.
 use mathlib.Core.Path.{◌∙◌, ap}
-use borrow.Author.Rules.{rules}
 use Rattle.meaning.specs.declared.Limits.{Limits}
 use Rattle.meaning.specs.Description.{description_of}
 use Rattle.meaning.specs.Calls.{refused_by}

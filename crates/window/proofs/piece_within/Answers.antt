@@ -14,9 +14,7 @@ accepted_piece-requires c =
     let r = c.in_ok-v.ensures in
     let u = r.surveyed in (
       subst Windowed (sym u.0.description_is) (windowed _ (by_gauge c.requires _ (sym r.number))),
-      u.0.surveyed,
       u.1,
-      omega arith,
     )
 
 pub returns : goal.returns

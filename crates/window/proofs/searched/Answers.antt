@@ -1,10 +1,9 @@
 -- `window::searched` meets its contract: the search in what is left of the processes has the answer of the whole; no start passes 32 bits,
 -- since every pipe has at most 4,096 elements. Assumes nothing.
-use mathlib.Core.Path.{◌≡◌, refl, ◌∙◌, ap}
+use mathlib.Core.Path.{refl, ◌∙◌, ap}
 use Prim.Native.Nat.{◌+◌}
 use native.Mathlib.Omega.{arith}
 use lib.ListN.{drop}
-use borrow.Author.Rules.{rules}
 use Rattle.meaning.specs.Space.{processes}
 use Rattle.window.specs.declared.Search.{Search}
 use Rattle.window.specs.Search.{searched as results, lengths_of, visit_next, visit_end}

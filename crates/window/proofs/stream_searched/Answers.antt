@@ -1,5 +1,4 @@
 -- `window::stream_searched` meets its contract: the lanes come as zeros, and are filled for all processes. Assumes nothing.
-use borrow.Author.Rules.{rules}
 use mathlib.Core.Path.{refl}
 use Rattle.lists.specs.Stores.{replicated}
 use Rattle.window.proofs.stream_searched.Goals as goal

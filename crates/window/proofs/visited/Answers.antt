@@ -1,6 +1,5 @@
 -- `window::visited` meets its contract: an entry counts its pipe and any other process nothing, and a pipe has at most 4096 elements, so
 -- the start grows by no more. Assumes nothing.
-use borrow.Author.Rules.{rules}
 use mathlib.Core.Path.{sym, ◌∙◌}
 use native.Mathlib.Omega.{arith}
 use Rattle.layout.specs.Spans.{process_of}

@@ -5,13 +5,13 @@ use Rattle.written_order.specs.Places.{filling, column_is}
 use Rattle.written_order.proofs.fill_stream.Goals as goal
 
 pub flow_at-f-requires : goal.flow_at-f-requires
-flow_at-f-requires c = omega (arith, c.requires.2, c.requires.0.few.ranged.sized.most_streams)
+flow_at-f-requires c = omega (arith, c.requires.1, c.requires.0.few.ranged.sized.most_streams)
 
 pub fill_column-requires : goal.fill_column-requires
 fill_column-requires c =
-    filling c.requires.0 c.requires.1 c.args.i c.requires.2 c.flow_at-f.ensures c.elements_in-start.ensures
+    filling c.args.v c.requires.0 c.args.i c.requires.1 c.flow_at-f.ensures c.elements_in-start.ensures
 
 pub returns : goal.returns
 returns c =
-    column_is c.requires.0 c.requires.1 c.args.i c.requires.2 c.flow_at-f.ensures c.elements_in-start.ensures
+    column_is c.args.v c.requires.0 c.args.i c.requires.1 c.flow_at-f.ensures c.elements_in-start.ensures
     c.args.table.now c.fill_column.ensures

@@ -14,5 +14,5 @@ pub run_instances-requires : goal.run_instances-requires
 run_instances-requires c =
     let p = c.requires in
     let d = c.args.v.description in
-    let t = columns_table d p.1.in_use p.0 _ (length-replicate {A = ℕ} 24576 0) in
-    (p.0, p.1, subst (Table d) (sym c.fill_table.ensures) t, p.2)
+    let t = columns_table d c.args.v.surveyed.in_use p.0 _ (length-replicate {A = ℕ} 24576 0) in
+    (p.0, subst (Table d) (sym c.fill_table.ensures) t, p.1)
