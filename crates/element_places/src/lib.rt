@@ -18,7 +18,7 @@ ghost use Rattle.integers.specs.Differences.{up};
 ghost use Rattle.meaning.specs.Limits.{gauge_limits, elements_most};
 ghost use Rattle.meaning.specs.Space.{processes};
 ghost use Rattle.geometry.specs.Wiring.{process_at};
-ghost use Rattle.layout.specs.Spans.{process_of, Spans};
+ghost use Rattle.layout.specs.Spans.{process_of, Spans, span_words};
 ghost use Rattle.figures.specs.Shares.{AllLanes};
 ghost use Rattle.pipe_parts.specs.Starts.{entering, entering_length};
 ghost use Rattle.element_places.specs.Spread.{spread};
@@ -30,7 +30,6 @@ ghost use Rattle.element_places.specs.Lines.{Lined, Owning, Walking};
 
 use integers::V2;
 use lanes::LANES;
-use layout::SPANS;
 use survey::{Flow, Survey};
 
 // Elements one after the other: the first one's number, how far on the next one's is, the first one's place, and how many they are.
@@ -190,9 +189,9 @@ fn fill_stream(
 // ---- all streams
 
 // The place of each element in the waiting list.
-pub fn fill_places(v: Survey, spans: &[u32; SPANS], lanes: &[u16], places: &mut [u16])
-    requires { (Placeable v.description) × (Spans v.description.nest spans.now) × (AllLanes v.description lanes.now)
-        × (length places.old ≡ elements_most) }
+pub fn fill_places(v: Survey, spans: &[u32], lanes: &[u16], places: &mut [u16])
+    requires { (Placeable v.description) × (Spans v.description.nest spans.now) × (span_words ≤ length spans.now)
+        × (AllLanes v.description lanes.now) × (length places.old ≡ elements_most) }
     ensures { PlacesOf v.description places.new }
 {
     for i in 0..v.description.sizes.streams {

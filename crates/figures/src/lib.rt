@@ -8,10 +8,10 @@
 
 #![tactic(auto)]
 
-ghost use Rattle.std.specs.Prelude.{◌≡◌, true, ℕ, suc, ◌<◌, length, get_or, replicate};
+ghost use Rattle.std.specs.Prelude.{◌≡◌, true, ℕ, suc, ◌≤◌, ◌<◌, length, get_or, replicate};
 ghost use Rattle.meaning.specs.Pipes.{is_entry, entries};
 ghost use Rattle.meaning.specs.Accept.{figures};
-ghost use Rattle.layout.specs.Spans.{process_of, Spans};
+ghost use Rattle.layout.specs.Spans.{process_of, Spans, span_words};
 ghost use Rattle.lanes.specs.Flow.{LanesIn, Flowing};
 ghost use Rattle.lanes.specs.All.{own_lane_words, lane_words};
 ghost use Rattle.pipes.specs.Elements.{Near};
@@ -19,7 +19,6 @@ ghost use Rattle.figures.specs.Sums.{steps_on, Under, sums_over, sums_at};
 ghost use Rattle.figures.specs.Shares.{Summing, Sharing, Small, share_of, join, Room, totals_of, Described, AllLanes};
 
 use lanes::LANES;
-use layout::SPANS;
 use meaning::Figures;
 use survey::{Flow, Survey};
 
@@ -116,8 +115,9 @@ fn joined(t: Totals, s: Share) -> Totals
     }
 }
 
-fn totals_of(v: Survey, spans: &[u32; SPANS], lanes: &mut [u16]) -> Totals
-    requires { (Described v.description) × (Spans v.description.nest spans.now) × (lanes.old ≡ replicate lane_words 0) }
+fn totals_of(v: Survey, spans: &[u32], lanes: &mut [u16]) -> Totals
+    requires { (Described v.description) × (Spans v.description.nest spans.now) × (span_words ≤ length spans.now)
+        × (lanes.old ≡ replicate lane_words 0) }
     ensures { (result ≡ totals_of v.description v.description.sizes.streams) × (Room result)
         × (AllLanes v.description lanes.new) }
 {
@@ -140,8 +140,9 @@ fn totals_of(v: Survey, spans: &[u32; SPANS], lanes: &mut [u16]) -> Totals
 }
 
 // The six figures, and the lanes of all streams, whose words come as zeros.
-pub fn figures_of(v: Survey, spans: &[u32; SPANS], lanes: &mut [u16]) -> Figures
-    requires { (Described v.description) × (Spans v.description.nest spans.now) × (lanes.old ≡ replicate lane_words 0) }
+pub fn figures_of(v: Survey, spans: &[u32], lanes: &mut [u16]) -> Figures
+    requires { (Described v.description) × (Spans v.description.nest spans.now) × (span_words ≤ length spans.now)
+        × (lanes.old ≡ replicate lane_words 0) }
     ensures { (result ≡ figures v.description) × (AllLanes v.description lanes.new) }
 {
     let processes = v.ground.processes;

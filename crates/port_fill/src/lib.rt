@@ -16,7 +16,7 @@ ghost use Rattle.meaning.specs.Pipes.{entries};
 ghost use Rattle.meaning.specs.Array.{array_of};
 ghost use Rattle.geometry.specs.Descriptions.{Laid};
 ghost use Rattle.addresses.specs.Indices.{stride_of};
-ghost use Rattle.layout.specs.Spans.{Spans};
+ghost use Rattle.layout.specs.Spans.{Spans, span_words};
 ghost use Rattle.pipe_parts.specs.Starts.{entering_one};
 ghost use Rattle.pipe_parts.specs.Heads.{Heads};
 ghost use Rattle.lanes.specs.Flow.{LanesIn};
@@ -28,7 +28,6 @@ ghost use Rattle.port_fill.specs.Strung.{StreamFillable, port_row, end_row, port
 ghost use Rattle.port_fill.specs.Filled.{Started};
 
 use lanes::LANES;
-use layout::SPANS;
 use pipe_parts::HEADS;
 use port_rows::Strand;
 use port_table::{PORT, PORTS, PROCESS};
@@ -233,9 +232,9 @@ fn fill_streams(v: Survey, stride: u32, spans: &[u32], lanes: &[u16], ports: &mu
 }
 
 // The port table of an accepted description.
-pub fn fill_ports(v: Survey, spans: &[u32; SPANS], lanes: &[u16], ports: &mut [u32; PORTS])
+pub fn fill_ports(v: Survey, spans: &[u32], lanes: &[u16], ports: &mut [u32; PORTS])
     requires { (Described v.description) × (Laid v.description) × (Spans v.description.nest spans.now)
-        × (AllLanes v.description lanes.now) }
+        × (span_words ≤ length spans.now) × (AllLanes v.description lanes.now) }
     ensures { PortsOf (array_of v.description) ports.new }
 {
     let stride = stride_of(v);

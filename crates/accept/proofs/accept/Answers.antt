@@ -18,6 +18,7 @@ figures_of-figures-requires c =
     let h = e.surveyed in (
       subst Described (sym h.0.description_is) (described a.s.now (by_board a.board a.s.now (sym e.number))),
       h.1,
+      omega arith,
       refl,
     )
 

@@ -20,7 +20,7 @@ pub elements_in-first-requires : goal.elements_in-first-requires
 elements_in-first-requires c = (c.requires.0.described.few, omega arith)
 
 pub slice_bounds-fill_stream-end : goal.slice_bounds-fill_stream-end
-slice_bounds-fill_stream-end c = omega (arith, c.requires.0.described.few.ranged.sized.most_streams, c.requires.2.words)
+slice_bounds-fill_stream-end c = omega (arith, c.requires.0.described.few.ranged.sized.most_streams, c.requires.3.words)
 
 pub fill_stream-requires : goal.fill_stream-requires
 fill_stream-requires c =
@@ -28,15 +28,15 @@ fill_stream-requires c =
     let t = c.loop-i-test.true in
     let i = c.loop-i.i in
     let a = 3072 * i in
-    saying_at c.args.v p.0 i t c.flow_at-f.ensures c.elements_in-first.ensures p.1 (omega arith)
-    (part_lanes p.2 i t {k = a + 3072 - a} (omega arith)) (c.loop-i.auto.places ∙ p.3)
+    saying_at c.args.v p.0 i t c.flow_at-f.ensures c.elements_in-first.ensures p.1 p.2
+    (part_lanes p.3 i t {k = a + 3072 - a} (omega arith)) (c.loop-i.auto.places ∙ p.4)
 
 pub loop-i-preserved : goal.loop-i-preserved
 loop-i-preserved c =
     let p = c.requires in
     let t = c.loop-i-test.true in
     let n = right_at_lem c.args.v p.0 c.loop-i.i t c.flow_at-f.ensures c.elements_in-first.ensures c.loop-i.places _
-    c.fill_stream.ensures (c.loop-i.auto.places ∙ p.3) c.loop-i.invariant in
+    c.fill_stream.ensures (c.loop-i.auto.places ∙ p.4) c.loop-i.invariant in
     n.1
 
 pub returns : goal.returns

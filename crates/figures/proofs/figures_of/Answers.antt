@@ -33,7 +33,7 @@ overflow_add-result-3 c =
 
 pub shape_of-lanes : goal.shape_of-lanes
 shape_of-lanes c =
-    c.totals_of-t.ensures.2.words ∙ sym (zero_words c.requires.2)
+    c.totals_of-t.ensures.2.words ∙ sym (zero_words c.requires.3)
 
 pub returns : goal.returns
 returns c =

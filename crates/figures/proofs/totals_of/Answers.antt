@@ -10,7 +10,7 @@ use Rattle.figures.proofs.totals_of.Goals as goal
 pub loop-i-init : goal.loop-i-init
 loop-i-init c =
     let d = c.args.v.description in
-    (totals_zero d, lanes_none d.nest (streams_of d) c.requires.2)
+    (totals_zero d, lanes_none d.nest (streams_of d) c.requires.3)
 
 pub slice_bounds-share_of-end : goal.slice_bounds-share_of-end
 slice_bounds-share_of-end c = omega (
@@ -27,7 +27,7 @@ share_of-requires c =
     let k = 3072 * l.i + 3072 - 3072 * l.i in
     let six : l.i < 6 = omega (arith, c.requires.0.few.ranged.sized.most_streams) in (
       sharing_at c.args.v c.requires.0 l.i t e,
-      share_at c.args.v c.requires.0 l.i t e c.requires.1 (omega arith),
+      share_at c.args.v c.requires.0 l.i t e c.requires.1 c.requires.2,
       part_length six l.invariant.1 {k = k} (omega arith),
       part_zeros six l.invariant.1 {k = k} (omega arith),
     )
@@ -53,7 +53,7 @@ loop-i-preserved c =
     )
 
 pub shape_of-lanes : goal.shape_of-lanes
-shape_of-lanes c = c.loop-i.invariant.1.words ∙ sym (zero_words c.requires.2)
+shape_of-lanes c = c.loop-i.invariant.1.words ∙ sym (zero_words c.requires.3)
 
 pub returns : goal.returns
 returns c =

@@ -11,7 +11,7 @@ use Rattle.opening.proofs.open_accepted.Goals as goal
 
 pub figures_of-f-requires : goal.figures_of-f-requires
 figures_of-f-requires c =
-    let p = c.requires in (p.0.described, p.1, p.2)
+    let p = c.requires in (p.0.described, p.1, omega arith, p.2)
 
 pub sound_refusal-requires : goal.sound_refusal-requires
 sound_refusal-requires c =

@@ -11,7 +11,7 @@ use Rattle.opening.proofs.sound_refusal.Goals as goal
 pub fill_ports-requires : goal.fill_ports-requires
 fill_ports-requires c =
     let p = c.requires in
-    (p.0.grounds.described, p.0.grounds.laid, p.1, p.2)
+    (p.0.grounds.described, p.0.grounds.laid, p.1, omega arith, p.2)
 
 pub sound-requires : goal.sound-requires
 sound-requires c =

@@ -14,7 +14,7 @@ fill_streams-requires c =
         narrow = c.stride_of-stride.ensures.1;
         strides = c.stride_of-stride.ensures.0;
         of_spans = p.2;
-        long = omega arith;
+        long = p.3;
       },
-      p.3,
+      p.4,
     )

@@ -6,7 +6,7 @@ use Rattle.result.specs.Order.{readable, ordered}
 use Rattle.result.proofs.fill_output.Goals as goal
 
 pub fill_places-requires : goal.fill_places-requires
-fill_places-requires c = let p = c.requires in (p.0, p.3, p.4, omega arith)
+fill_places-requires c = let p = c.requires in (p.0, p.3, omega arith, p.4, omega arith)
 
 pub put_in_order-requires : goal.put_in_order-requires
 put_in_order-requires c =

@@ -6,7 +6,7 @@ use Rattle.start.proofs.fill_memory.Goals as goal
 
 pub fill_places-requires : goal.fill_places-requires
 fill_places-requires c = let p = c.requires in
-    (p.0.placeable, p.1, p.2, omega arith)
+    (p.0.placeable, p.1, omega arith, p.2, omega arith)
 
 pub put_values-requires : goal.put_values-requires
 put_values-requires c =

@@ -10,7 +10,7 @@ use Rattle.start.specs.Call.{Called, fitting, call_done, call_refused}
 use Rattle.start.proofs.start_accepted.Goals as goal
 
 pub figures_of-f-requires : goal.figures_of-f-requires
-figures_of-f-requires c = let p = c.requires in (p.0.described, p.1, refl)
+figures_of-f-requires c = let p = c.requires in (p.0.described, p.1, omega arith, refl)
 
 pub fill_memory-requires : goal.fill_memory-requires
 fill_memory-requires c =
