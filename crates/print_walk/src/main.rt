@@ -92,12 +92,9 @@ fn print_whole(rt: &impl Print, v: Survey, walk: &[i8]) -> io::Result<()>
 fn print_walk(rt: &impl Print, board: u32, s: &[u8]) -> io::Result<()> {
     let mut spans = [0u32; SPANS];
     let mut walk = [0i8; WALK];
-    let v = walkable::walk_of(board, s, &mut spans, &mut walk);
-    let refusal = v.refusal;
-    if refusal == 0 {
-        print_whole(rt, v, &walk)
-    } else {
-        text::print_refusal(rt, refusal)
+    match walkable::walk_of(board, s, &mut spans, &mut walk) {
+        Ok(v) => print_whole(rt, v, &walk),
+        Err(e) => text::print_refusal(rt, e.number()),
     }
 }
 
