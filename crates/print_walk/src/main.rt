@@ -7,7 +7,6 @@
 
 ghost use Rattle.vectors.specs.Within.{Within};
 ghost use Rattle.numbering.specs.Ranges.{Bounded};
-ghost use Rattle.survey.specs.OfBytes.{Surveyed};
 ghost use Rattle.walk.specs.Walked.{Along, Readable};
 
 use integers::V3;
@@ -81,7 +80,7 @@ fn print_figures(rt: &impl Print, processes: u32, instances: u32) -> io::Result<
 }
 
 fn print_whole(rt: &impl Print, v: Survey, walk: &[i8]) -> io::Result<()>
-    requires { (Bounded v.description.nest) × (Surveyed v) × (Along v.description.nest walk.now) }
+    requires { (Bounded v.description.nest) × (Along v.description.nest walk.now) }
 {
     let n = v.description.nest;
     let instances = v.ground.instances;
