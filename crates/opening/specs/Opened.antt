@@ -3,7 +3,6 @@ use Rattle.std.specs.Prelude.{◌≡◌, refl, List, ℕ, ◌<◌, length}
 use Rattle.std.proofs.Common.{sym, ◌∙◌, ap, subst, arith}
 use Rattle.meaning.specs.declared.Description.{Description}
 use Rattle.meaning.specs.Loops.{increment}
-use Rattle.meaning.specs.Space.{processes, count}
 use Rattle.meaning.specs.Array.{array_of, process_count, count_at}
 use Rattle.meaning.specs.Rules.{Memory}
 use Rattle.meaning.specs.Calls.{length_of}

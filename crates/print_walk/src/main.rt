@@ -7,7 +7,6 @@
 
 ghost use Rattle.vectors.specs.Within.{Within};
 ghost use Rattle.numbering.specs.Ranges.{Bounded};
-ghost use Rattle.survey.specs.OfBytes.{Surveyed};
 ghost use Rattle.walk.specs.Walked.{Along, Readable};
 
 use integers::V3;
@@ -46,7 +45,7 @@ fn print_visits(
 }
 
 fn print_whole(rt: &impl Print, v: Survey, walk: &[i8]) -> io::Result<()>
-    requires { (Bounded v.description.nest) × (Surveyed v) × (Along v.description.nest walk.now) }
+    requires { (Bounded v.description.nest) × (Along v.description.nest walk.now) }
 {
     let n = v.description.nest;
     let processes = v.ground.processes;

@@ -1,5 +1,4 @@
 -- `opening::open` meets its contract: its lanes come as zeros. Assumes nothing.
-use borrow.Author.Rules.{rules}
 use mathlib.Core.Path.{refl}
 use Rattle.opening.proofs.open.Goals as goal
 

@@ -1,11 +1,10 @@
 -- `opening::open_accepted` meets its contract: the test of 22 comes last, and those of the lengths before it leave the state long enough
 -- for it. Assumes nothing.
-use mathlib.Core.Path.{◌≡◌, refl, sym, ◌∙◌}
+use mathlib.Core.Path.{◌≡◌, refl, ◌∙◌}
 use native.Mathlib.Omega.{arith}
 use borrow.Author.Rules.{rules}
 use Rattle.refusals.specs.Numbers.{number_of, refusal_number, number-positive}
 use Rattle.meaning.specs.Rules.{memory_of}
-use Rattle.lanes.specs.All.{zero_words}
 use Rattle.opening.specs.Opening.{size_is, lengths_hold, lengths_passed, lengths_refused, stands_lem}
 use Rattle.opening.proofs.open_accepted.Goals as goal
 

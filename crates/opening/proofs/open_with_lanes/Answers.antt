@@ -1,6 +1,5 @@
 -- `opening::open_with_lanes` meets its contract: no board's limits are above the gauge's. Assumes nothing.
 use mathlib.Core.Path.{◌∙◌, ap}
-use borrow.Author.Rules.{rules}
 use Rattle.meaning.specs.declared.Limits.{Limits}
 use Rattle.meaning.specs.Rules.{memory_of}
 use Rattle.meaning.specs.Description.{description_of}

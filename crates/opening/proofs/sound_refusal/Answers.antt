@@ -2,7 +2,6 @@
 -- Assumes nothing.
 use mathlib.Core.Path.{◌∙◌, ap}
 use mathlib.Core.Bool.{Bool}
-use borrow.Author.Rules.{rules}
 use Rattle.meaning.specs.Tests.{refusal}
 use Rattle.declines.specs.Tests.{state_tests}
 use Rattle.opening.specs.Opening.{rows_fit_in, sound_by}

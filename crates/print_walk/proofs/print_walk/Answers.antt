@@ -14,6 +14,5 @@ print_whole-requires g c =
     let h = c.in-Ok.ensures.surveyed in
     let w = (walk_within _ _ (sym c.in-Ok.ensures.number)).0 in (
       subst (λ (d : Description). Bounded d.nest) (sym h.0.description_is) (nest_bounded w.ranged.nest),
-      h.0.surveyed,
       h.2,
     )

@@ -1,5 +1,4 @@
 -- `result::put_in_order` meets its contract: the first e values are put. Assumes nothing.
-use borrow.Author.Rules.{rules}
 use mathlib.Core.Path.{sym}
 use native.Mathlib.Omega.{arith}
 use Rattle.integers.specs.Fill.{fill_zero, fill_step}

@@ -1,11 +1,10 @@
 -- `table::copy_spans` meets its contract. Assumes nothing.
-use mathlib.Core.Path.{◌≡◌, sym, ◌∙◌, ap}
+use mathlib.Core.Path.{sym, ◌∙◌, ap}
 use mathlib.Core.List.{List, ◌++◌}
 use Prim.Native.Nat.{ℕ}
 use native.Mathlib.Omega.{arith}
-use lib.ListN.{length, drop}
+use lib.ListN.{drop}
 use Rattle.std.proofs.Common.{length-take-le, take_all}
-use borrow.Author.Rules.{rules}
 use Rattle.table.proofs.copy_spans.Goals as goal
 
 pub copy_from_slice-requires : goal.copy_from_slice-requires

@@ -7,7 +7,6 @@ use native.Mathlib.Omega.{arith}
 use lib.ListN.{get_or}
 use Rattle.meaning.specs.Description.{streams_of}
 use Rattle.table.specs.Blocks.{Streamed, zeros_length, front_copied, streamed_copied}
-use borrow.Author.Rules.{rules}
 use Rattle.table.proofs.draw.Goals as goal
 
 pub copy_spans-requires : goal.copy_spans-requires
