@@ -149,7 +149,7 @@ fn walk_lines(rt: &impl Print, board: u32, s: &[u8], small: bool) -> io::Result<
     let mut walk = [0i8; WALK];
     match walkable::walk_of(board, s, &mut spans, &mut walk) {
         Ok(v) => {
-            let n = 3 * v.ground.instances as usize;
+            let n = 3 * v.loops.instances as usize;
             print_visits(rt, &walk[..n], small)
         }
         Err(refusal) => println!(rt; "walk {refusal} 0"),

@@ -26,7 +26,7 @@ pub fn divisors_of(v: Survey) -> Divisors
     ensures { result ≡ divisors v.description }
 {
     Divisors {
-        place: v.ground.divisor,
+        place: v.loops.divisor,
         stream0: stream_divisor(v, 0),
         stream1: stream_divisor(v, 1),
         stream2: stream_divisor(v, 2),

@@ -238,7 +238,7 @@ module _ (v : Survey) (h : Placeable v.description) (i : ℕ) {f : Flow} (l : i 
 
   -- what its pipes are lent
   pub saying_at : {spans lanes places : List ℕ} → Spans d.nest spans → 3072 ≤ length spans → LanesIn d.nest (stream_at d i) lanes
-      → length places ≡ 24576 → Saying f v.ground.processes from spans lanes places
+      → length places ≡ 24576 → Saying f v.loops.processes from spans lanes places
   saying_at of long has words =
       let k = share_at v h.described i l e of long in
       record {
@@ -258,10 +258,10 @@ module _ (v : Survey) (h : Placeable v.description) (i : ℕ) {f : Flow} (l : i 
       )
 
   -- once they have said it, the places of its elements stand too
-  pub right_at_lem : (xs out : List ℕ) → out ≡ said f.nest f.stream from v.ground.processes xs → length xs ≡ 24576
+  pub right_at_lem : (xs out : List ℕ) → out ≡ said f.nest f.stream from v.loops.processes xs → length xs ≡ 24576
       → ((e : ℕ) → e < stream_start d.nest (streams_of d) i → get_or xs e 0 ≡ place_of_element d e)
       → (length out ≡ 24576) × ((e : ℕ) → e < stream_start d.nest (streams_of d) (i + 1) → get_or out e 0 ≡ place_of_element d e)
   right_at_lem xs out o =
       next_right h i l xs out
-      (o ∙ ap₂ (λ (n : Nest) (s : Stream). said n s from v.ground.processes xs) flow.nest_is flow.stream_is
+      (o ∙ ap₂ (λ (n : Nest) (s : Stream). said n s from v.loops.processes xs) flow.nest_is flow.stream_is
       ∙ ap₂ (λ (a b : ℕ). said d.nest (stream_at d i) a b xs) ef v.surveyed.ground.processes_is)

@@ -200,7 +200,7 @@ pub fn fill_places(v: Survey, spans: &[u32], lanes: &[u16], places: &mut [u16])
         let a = LANES * i as usize;
         fill_stream(
             f,
-            v.ground.processes,
+            v.loops.processes,
             first,
             spans,
             &lanes[a..a + LANES],

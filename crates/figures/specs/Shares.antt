@@ -245,7 +245,7 @@ module _ (v : Survey) (h : Described v.description) (i : ℕ) {f : Flow} (l : i 
   pub sharing_at : Sharing f.nest f.stream
   sharing_at = let k = flow_is v i l e in subst₂ Sharing (sym k.nest_is) (sym k.stream_is) sharing
 
-  pub share_at : {spans : List ℕ} → Spans v.description.nest spans → 3072 ≤ length spans → Flowing f v.ground.processes spans
+  pub share_at : {spans : List ℕ} → Spans v.description.nest spans → 3072 ≤ length spans → Flowing f v.loops.processes spans
   share_at of long = flowing_at v i l e sharing.laid of long
 
   -- its part of the totals, and its lanes

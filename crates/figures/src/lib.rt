@@ -121,7 +121,7 @@ fn totals_of(v: Survey, spans: &[u32], lanes: &mut [u16]) -> Totals
     ensures { (result ≡ totals_of v.description v.description.sizes.streams) × (Room result)
         × (AllLanes v.description lanes.new) }
 {
-    let processes = v.ground.processes;
+    let processes = v.loops.processes;
     let mut totals = Totals {
         words: 0,
         pipes: 0,
@@ -145,8 +145,8 @@ pub fn figures_of(v: Survey, spans: &[u32], lanes: &mut [u16]) -> Figures
         × (lanes.old ≡ replicate lane_words 0) }
     ensures { (result ≡ figures v.description) × (AllLanes v.description lanes.new) }
 {
-    let processes = v.ground.processes;
-    let instances = v.ground.instances;
+    let processes = v.loops.processes;
+    let instances = v.loops.instances;
     let t = totals_of(v, spans, lanes);
     Figures {
         processes,

@@ -197,7 +197,7 @@ module _ {f : Flow} (h : Flows f) where
 -- stream i of a survey
 pub flowing_at : (v : Survey) (i : ℕ) {f : Flow} {spans : List ℕ} → i < v.description.sizes.streams
     → f ≡ get_or v.flows i no_flow → Laid v.description.nest (get_or v.description.streams i no_stream)
-    → Spans v.description.nest spans → 3072 ≤ length spans → Flowing f v.ground.processes spans
+    → Spans v.description.nest spans → 3072 ≤ length spans → Flowing f v.loops.processes spans
 flowing_at v i {f} {spans} l e laid of long =
     let k = flow_is v i l e in
     record {

@@ -309,7 +309,7 @@ module _ (v : Survey) {stride : ℕ} {spans : List ℕ} (h : Started v.descripti
   pub hop_few : f.hop ≤ gauge_limits.hop
   hop_few = omega (arith, of_flow.hop_is, (stream_sharing d h.described i l refl).hop)
 
-  pub processes_few : v.ground.processes ≤ 1024
+  pub processes_few : v.loops.processes ≤ 1024
   processes_few = omega (arith, v.surveyed.ground.processes_is, h.described.processes)
 
   pub lanes_here : {w : List ℕ} → LanesIn d.nest (stream_at d i) w → LanesIn f.nest f.stream w
@@ -324,7 +324,7 @@ module _ (v : Survey) {stride : ℕ} {spans : List ℕ} (h : Started v.descripti
         sums_next d h.described i l refl of_flow.hop_is
         (e ∙ ap₂ (λ (n : Nest) (s : Stream). length (entries n s)) of_flow.nest_is of_flow.stream_is) et
 
-  module _ {g : Strand} (eg : g ≡ strand_from f.hop v.ground.processes stride t) {first : ℕ}
+  module _ {g : Strand} (eg : g ≡ strand_from f.hop v.loops.processes stride t) {first : ℕ}
       (e : first ≡ stream_start d.nest (streams_of d) i) where
     narrow_is : Narrow g
     narrow_is = subst Narrow (sym eg) (strand_narrow hop_few processes_few h.narrow slack)
@@ -342,7 +342,7 @@ module _ (v : Survey) {stride : ℕ} {spans : List ℕ} (h : Started v.descripti
         }
 
     -- stream i, as the functions ask
-    pub stringing : StreamFillable f v.ground.processes g i first t.pipes spans
+    pub stringing : StreamFillable f v.loops.processes g i first t.pipes spans
     stringing =
         record {
           sharing = sharing_at v h.described i l ef;

@@ -204,7 +204,7 @@ fn fill_streams(v: Survey, stride: u32, spans: &[u32], lanes: &[u16], ports: &mu
     requires { (Started v.description stride spans.now) × (AllLanes v.description lanes.now) }
     ensures { PortsOf (array_of v.description) ports.new }
 {
-    let processes = v.ground.processes;
+    let processes = v.loops.processes;
     let mut sums = Sums {
         words: 0,
         pipes: 0,

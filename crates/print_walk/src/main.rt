@@ -48,8 +48,8 @@ fn print_whole(rt: &impl Print, v: Survey, walk: &[i8]) -> io::Result<()>
     requires { (Bounded v.description.nest) × (Along v.description.nest walk.now) }
 {
     let n = v.description.nest;
-    let processes = v.ground.processes;
-    let instances = v.ground.instances;
+    let processes = v.loops.processes;
+    let instances = v.loops.instances;
     println!(rt; "processes {processes} instances {instances}")?;
     print_visits(rt, n, walk, instances as usize, v.description.sizes.loops)
 }

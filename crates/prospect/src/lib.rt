@@ -97,7 +97,7 @@ fn outlooks_along(v: Survey, walk: &[i8]) -> [Outlook; STREAMS]
     let mut out = [outlook::no_outlook(); STREAMS];
     for i in 0..d.sizes.streams {
         let f = survey::flow_at(v, i as usize);
-        out[i as usize] = outlook::outlook_of(f, v.ground, decode::written(d, i), walk);
+        out[i as usize] = outlook::outlook_of(f, v.loops, decode::written(d, i), walk);
     }
     out
 }
@@ -109,9 +109,9 @@ fn outlooks_of(v: Survey) -> [Outlook; STREAMS]
 {
     let n = v.description.nest;
     let mut spans = [0u32; SPANS];
-    layout::fill_processes(n, v.ground, &mut spans);
+    layout::fill_processes(n, v.loops, &mut spans);
     let mut walk = [0i8; WALK];
-    walk::fill_walk(n, v.ground, &spans, &mut walk);
+    walk::fill_walk(n, v.loops, &spans, &mut walk);
     outlooks_along(v, &walk)
 }
 
@@ -132,9 +132,9 @@ pub fn prospect_of(v: Survey, limits: Limits) -> Prospect
     requires { (Laid v) × (UpTo limits gauge_limits) }
     ensures { ProspectOf limits v.description result }
 {
-    let crowded = refuse_nest::processes_refused(v.ground, limits);
+    let crowded = refuse_nest::processes_refused(v.loops, limits);
     Prospect {
-        increment: v.ground.increment,
+        increment: v.loops.increment,
         crowded,
         streams: v.description.sizes.streams,
         hop: limits.hop,

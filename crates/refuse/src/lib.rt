@@ -29,7 +29,7 @@ fn streams_refusal(v: Survey, limits: Limits, walk: &[i8]) -> Result<(), Refusal
     let m = d.sizes.streams;
     for i in 0..m {
         let f = survey::flow_at(v, i as usize);
-        refuse_stream::stream_refusal(f, v.ground, decode::written(d, i), limits, walk)?;
+        refuse_stream::stream_refusal(f, v.loops, decode::written(d, i), limits, walk)?;
     }
     Ok(())
 }
@@ -40,7 +40,7 @@ fn walked_refusal(v: Survey, limits: Limits, spans: &[u32; SPANS]) -> Result<(),
     ensures { refusal_number result ≡ refusal (tests_from limits v.description 0 (streams_of v.description)) }
 {
     let mut walk = [0i8; WALK];
-    walk::fill_walk(v.description.nest, v.ground, spans, &mut walk);
+    walk::fill_walk(v.description.nest, v.loops, spans, &mut walk);
     streams_refusal(v, limits, &walk)
 }
 

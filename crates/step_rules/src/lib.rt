@@ -37,13 +37,13 @@ pub struct Program {
 
 // What the processes of a description run.
 pub fn program_of(v: Survey) -> Program
-    requires { GroundOf v.description.nest v.ground }
+    requires { GroundOf v.description.nest v.loops }
     ensures { (result ≡ program_of v.description) × (Within 200 result.increment) }
 {
     let lines = v.description.lines;
     Program {
         nest: v.description.nest,
-        increment: v.ground.increment,
+        increment: v.loops.increment,
         lines,
         count: v.description.sizes.lines,
     }

@@ -54,7 +54,7 @@ module _ (l : Limits) (s : List ℕ) (k : ℕ) {q : ℕ} (e : q ≡ refusal (ear
   early_stops f = stops (early_tests l s k) (last_tests l (description_of s).nest) e f ∙ all_tests_lem l s k
 
   -- the ground at another step has the same 6 and 7
-  pub early_goes_on : {v : Survey} {r : ℕ} → q ≡ 0 → Own (description_of s) v → r ≡ refusal (ground_tests l v.ground)
+  pub early_goes_on : {v : Survey} {r : ℕ} → q ≡ 0 → Own (description_of s) v → r ≡ refusal (ground_tests l v.loops)
       → r ≡ refusal (vector_tests l s k)
   unfolding numbered instances
   early_goes_on {v} z o h =
@@ -64,5 +64,5 @@ module _ (l : Limits) (s : List ℕ) (k : ℕ) {q : ℕ} (e : q ≡ refusal (ear
       (seven g refl ∙ ap (λ (d : Description). refused7 d.nest) o.same))
       ∙ all_tests_lem l s k
     where
-      g : GroundOf v.description.nest v.ground
+      g : GroundOf v.description.nest v.loops
       g = v.surveyed.ground

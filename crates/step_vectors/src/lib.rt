@@ -61,7 +61,7 @@ fn survey_of(board: u32, s: &[u8], k: u32, limits: Limits) -> Result<Survey, Ref
 {
     early_refusal(board, s, k)?;
     let v = prospect::own_survey(decode::description(s));
-    ground_refusal(v.ground, limits)?;
+    ground_refusal(v.loops, limits)?;
     Ok(v)
 }
 

@@ -6,7 +6,8 @@
 //
 //   InRange     what the refusals 1 to 5 leave of a nest and of a stream, in the words of the crates that compute with them
 //   Small       tests on small words as the code makes them; the step of a line is not negative; rank by the divisor
-//   Surveys     what a survey holds: `GroundOf`, `FlowOf`, `Surveyed`
+//   Surveys     what a survey holds: `GroundOf`, `FlowOf`, `IsSurvey`
+//   OfBytes     that a survey is that of some bytes: `SurveyOf`
 //   Grounds     the tests of the loops by their ground
 //   Stages      the refusals 33 and 6 to 17 in stages, each a test or two and the stage after them; lists of tests one after the other
 //   Accepted    `accepted-within`: what a refusal of 0 leaves of ranges, instances, processes, moves and hops
@@ -66,9 +67,9 @@ pub struct Flow {
 #[derive(Clone, Copy)]
 pub struct Survey {
     pub description: Description,
-    pub ground: Ground,
+    pub loops: Ground,
     pub flows: [Flow; STREAMS],
-    pub ghost surveyed: { IsSurvey description ground flows },
+    pub ghost surveyed: { IsSurvey description loops flows },
 }
 
 // ---- vectors
@@ -240,7 +241,7 @@ pub fn survey_of(d: Description) -> Survey
     let ground = ground_of(d.nest);
     Survey {
         description: d,
-        ground,
+        loops: ground,
         flows: flows_of(d, ground),
     }
 }

@@ -51,7 +51,7 @@ module _ (v : Survey) (g : Drawable v.description) (i : ℕ) {f : Flow} (l : i <
   read : get_or (streams_of v.description) i no_stream ≡ get_or v.description.streams i no_stream
   read = get_or-take v.description.sizes.streams v.description.streams i no_stream l
 
-  pub flow_drawable : {spans : List ℕ} → Spans v.description.nest spans → 3072 ≤ length spans → Flowing f v.ground.processes spans
+  pub flow_drawable : {spans : List ℕ} → Spans v.description.nest spans → 3072 ≤ length spans → Flowing f v.loops.processes spans
   flow_drawable = flowing_at v i l e (subst (Laid v.description.nest) read (g.laid i (omega (arith, v.surveyed.in_use))))
 
   pub flow_passed : {w : List ℕ} → Passed f.nest f.stream w

@@ -37,7 +37,7 @@ fn fill_streams(v: Survey, spans: &[u32; SPANS], words: &mut [u32])
         words.new }
 {
     let m = v.description.sizes.streams as usize;
-    let processes = v.ground.processes;
+    let processes = v.loops.processes;
     for i in 0..m {
         let a = SPANS + BLOCK * i;
         let e = a + BLOCK;
@@ -59,9 +59,9 @@ fn shape_of(v: Survey) -> Shape
     ensures { Shaped v.description.nest result }
 {
     Shape {
-        rows: v.ground.processes as usize,
+        rows: v.loops.processes as usize,
         nest: v.description.nest,
-        space: v.ground.space,
+        space: v.loops.space,
     }
 }
 
@@ -87,7 +87,7 @@ fn survey_for(
     ensures surveyed { IfOk result (λ v. (SurveyOf s.now v) × (Spans v.description.nest spans.new)) }
 {
     let v = refuse::survey_within(s, limits, spans)?;
-    declines::of_table(v.ground.processes as usize, room)?;
+    declines::of_table(v.loops.processes as usize, room)?;
     Ok(v)
 }
 

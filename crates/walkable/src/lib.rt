@@ -36,7 +36,7 @@ fn nest_survey(s: &[u8], limits: Limits) -> Result<Survey, Refusal>
 {
     early_refusal(s, limits)?;
     let v = survey::survey_of(decode::description(s));
-    refuse_nest::nest_refusal(v.description.nest, v.ground, limits)?;
+    refuse_nest::nest_refusal(v.description.nest, v.loops, limits)?;
     Ok(v)
 }
 
@@ -48,7 +48,7 @@ pub fn survey_within(s: &[u8], limits: Limits, spans: &mut [u32; SPANS]) -> Resu
     ensures kept { OnErr result (spans.new ≡ spans.old) }
 {
     let v = nest_survey(s, limits)?;
-    layout::fill_processes(v.description.nest, v.ground, spans);
+    layout::fill_processes(v.description.nest, v.loops, spans);
     Ok(v)
 }
 
@@ -64,6 +64,6 @@ pub fn walk_of(
     ensures kept { OnErr result ((spans.new ≡ spans.old) × (walk.new ≡ walk.old)) }
 {
     let v = survey_within(s, boards::limits_of(board), spans)?;
-    walk::fill_walk(v.description.nest, v.ground, spans, walk);
+    walk::fill_walk(v.description.nest, v.loops, spans, walk);
     Ok(v)
 }

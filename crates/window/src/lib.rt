@@ -111,7 +111,7 @@ fn all_searched(v: Survey, spans: &[u32; SPANS], pipe: u32) -> Search
         × (result.start ≤ 25165824) }
 {
     let m = v.description.sizes.streams;
-    let processes = v.ground.processes;
+    let processes = v.loops.processes;
     let mut w = Search {
         left: pipe,
         start: 0,

@@ -203,7 +203,7 @@ module _ (v : Survey) (h : Fitting v.description) (i : ℕ) (l : i < v.descripti
     {f : Flow} (e : f ≡ get_or v.flows i no_flow)
     {start : ℕ} (g : start ≡ stream_start v.description.nest (streams_of v.description) i) where
   -- it can be filled
-  pub filling : Filling f v.ground.instances start i
+  pub filling : Filling f v.loops.instances start i
   filling =
       let d = v.description in
       let w = flow_is v i l e in

@@ -46,7 +46,7 @@ fn fill_stream(v: Survey, i: u32, table: &mut [u32; ELEMENTS])
 {
     let f = survey::flow_at(v, i as usize);
     let start = elements::elements_in(v, i);
-    fill_column(f, v.ground.instances, start, i, table);
+    fill_column(f, v.loops.instances, start, i, table);
 }
 
 // The columns of all streams: row k then has the elements that instance k touches.
@@ -79,7 +79,7 @@ fn run_instances(v: Survey, table: &[u32], store: &mut [u32])
 {
     let course = counting::course_of(v.description.nest);
     let mut x = course.first;
-    for k in 0..v.ground.instances {
+    for k in 0..v.loops.instances {
         run_instance(v.description, k, x, table, store);
         x = counting::next(course, x);
     }

@@ -16,13 +16,13 @@ element_count-requires c = c.requires.0.few
 
 pub overflow_mul-result : goal.overflow_mul-result
 overflow_mul-result c =
-    let p = c.args.v.ground.processes in
+    let p = c.args.v.loops.processes in
     let few : p ≤ 1024 = omega (arith, c.args.v.surveyed.ground.processes_is, c.requires.0.processes) in
     record { fits = omega (arith, process_words_lem few c.totals_of-t.ensures.1.words) }
 
 pub overflow_add-result-2 : goal.overflow_add-result-2
 overflow_add-result-2 c =
-    let p = c.args.v.ground.processes in
+    let p = c.args.v.loops.processes in
     let few : p ≤ 1024 = omega (arith, c.args.v.surveyed.ground.processes_is, c.requires.0.processes) in
     let r = c.totals_of-t.ensures.1 in
     record { fits = omega (arith, process_words_lem few r.words, r.ends) }

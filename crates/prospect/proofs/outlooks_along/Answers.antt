@@ -28,7 +28,7 @@ outlook_of-requires c =
     let l = c.loop-i in
     let k = flow_is c.args.v l.i c.loop-i-test.true c.flow_at-f.ensures in (
       charted (in_range_lem c.requires.0.nest (c.requires.0.streams l.i)) k,
-      subst (λ (n : Nest). GroundOf n c.args.v.ground) (sym k.nest_is) c.args.v.surveyed.ground,
+      subst (λ (n : Nest). GroundOf n c.args.v.loops) (sym k.nest_is) c.args.v.surveyed.ground,
       subst (λ (n : Nest). Along n c.args.walk.now) (sym k.nest_is) c.requires.1,
     )
 

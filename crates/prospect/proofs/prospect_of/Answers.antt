@@ -9,7 +9,7 @@ pub outlooks_within-requires : goal.outlooks_within-requires
 outlooks_within-requires c =
     let g = c.args.v.surveyed.ground in
     let most = c.args.limits.processes in
-    let some = c.args.v.ground.processes in (
+    let some = c.args.v.loops.processes in (
       c.requires.0,
       λ e. omega (arith, ltb-false most some (sym c.processes_refused-crowded.ensures ∙ e), g.processes_is, c.requires.1.processes),
     )

@@ -48,7 +48,7 @@ pub returns-in_err-ground_refusal : goal.returns-in_err-ground_refusal
 returns-in_err-ground_refusal c =
     let a = c.args in
     let h = subst (λ (d : Description). Own d c.own_survey-v.result) c.description.ensures c.own_survey-v.ensures in
-    let r : refusal_number c.from_residual-in_err-ground_refusal.result ≡ refusal (ground_tests a.limits c.own_survey-v.result.ground)
+    let r : refusal_number c.from_residual-in_err-ground_refusal.result ≡ refusal (ground_tests a.limits c.own_survey-v.result.loops)
     = search rules in
     let e : refusal_number c.from_residual-in_err-ground_refusal.result ≡ refusal (vector_tests a.limits a.s.now a.k)
     = early_goes_on a.limits a.s.now a.k (early_is a.s.now a.k c.in_ok-early_refusal.ensures c.requires) refl h r in
