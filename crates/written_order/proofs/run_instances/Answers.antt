@@ -21,7 +21,14 @@ run_instance-requires c =
     let l = c.loop-k in
     let p = c.requires in
     let t : l.k < length (instances c.args.v.description.nest) = omega (arith, c.args.v.surveyed.ground.instances_is) in
-    (p.0, c.args.v.surveyed.in_use, p.1, t, omega arith, reached (nest_bounded p.0.few.ranged.nest) c.course_of-course.ensures.0 l.invariant.1 t)
+    (
+      p.0,
+      c.args.v.surveyed.in_use,
+      p.1,
+      t,
+      omega arith,
+      reached (nest_bounded p.0.few.ranged.nest) c.course_of-course.ensures.0 l.invariant.1 t,
+    )
 
 pub next-x-requires : goal.next-x-requires
 next-x-requires c =
