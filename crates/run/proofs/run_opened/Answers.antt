@@ -1,6 +1,6 @@
 -- `run::run_opened` meets its contract: the flags are kept true of the state, so after the steps the lowest one set tells whether any step
 -- is ready. Assumes nothing.
-use borrow.Author.Rules.{rules}
+use native.Mathlib.Omega.{arith}
 use Rattle.run_steps.specs.Turn.{table_asks, flags_ask, starts}
 use Rattle.run.specs.Call.{ran_by}
 use Rattle.run.proofs.run_opened.Goals as goal
