@@ -16,7 +16,7 @@ ghost use Rattle.run.specs.Call.{RanBy};
 use layout::SPANS;
 use meaning::{Ran, STATE_WORDS};
 use port_table::{PORTS, Size};
-use ready_set::{FLAGS, MEMBERS};
+use ready_set::{MEMBERS, ReadySet};
 use refusals::Refusal;
 use survey::Survey;
 
@@ -40,14 +40,14 @@ fn run_opened(
     let g = step_rules::program_of(v);
     let mut wakeups = [0u16; STATE_WORDS + 1];
     wakeups::fill_wakeups(ports, z, &mut wakeups);
-    let mut flags = [0u64; FLAGS];
-    wakeups::fill_flags(ports, state, z, &mut flags);
+    let mut set = ReadySet::new();
+    wakeups::fill_flags(ports, state, z, &mut set);
     let done = run_steps::run_steps(
-        s, g, ports, spans, &wakeups, z, steps, waiting, received, state, &mut flags,
+        s, g, ports, spans, &wakeups, z, steps, waiting, received, state, &mut set,
     );
     Ran {
         steps: done,
-        ready: ready_set::lowest(&flags) < MEMBERS,
+        ready: set.lowest() < MEMBERS,
     }
 }
 

@@ -13,8 +13,7 @@ use Rattle.port_table.specs.declared.Size.{Size}
 use Rattle.port_table.specs.PortsOf.{RowsFit, PartsFit}
 use Rattle.vectors.specs.Within.{Within}
 use Rattle.layout.specs.Spans.{Spans}
-use Rattle.ready_set.specs.Flags.{flag_words, Kept}
-use Rattle.ready_set.specs.Keeping.{kept_none}
+use Rattle.ready_set.specs.Flags.{Kept}
 use Rattle.step_rules.specs.declared.Program.{Program}
 use Rattle.step_rules.specs.Steps.{program_of, can_by, act_by}
 use Rattle.step_rules.specs.Fits.{Programmed, Inside}
@@ -50,8 +49,8 @@ module _ {s : List ℕ} {M : Memory} {b : List ℕ} {z : Size} (o : Opened s M b
         refl,
       )
 
-  pub flags_ask : (RowsFit (length M.state) b z) × (Sized z) × (Kept (λ r. false) (replicate {A = ℕ} flag_words 0))
-  flags_ask = (fits (grounds s o.accepted) o.stood, table_asks.1, kept_none)
+  pub flags_ask : {flags : List ℕ} → Kept (λ r. false) flags → (RowsFit (length M.state) b z) × (Sized z) × (Kept (λ r. false) flags)
+  flags_ask k = (fits (grounds s o.accepted) o.stood, table_asks.1, k)
 
   -- the loop starts
   pub starts : {d : Description} {g : Program} {spans wakeups flags : List ℕ} → d ≡ description_of s → g ≡ program_of d
@@ -106,8 +105,7 @@ module _ {s : List ℕ} {g : Program} {b spans wakeups : List ℕ} {z : Size} {M
 
     -- what the flags ask
     pub renews : (RowsFit (length M'.state) b z) × (RowsFit state_words_most b z) × (Sized z) × (WakeupsOf b z wakeups) × (r < rank_count z)
-        × (length flags ≡ flag_words)
-    renews = (fits ground next.stood, rows_in_table next, rank_in.0, st.wakeups_of, rank_in.1, h.ready.kept.words)
+    renews = (fits ground next.stood, rows_in_table next, rank_in.0, st.wakeups_of, rank_in.1)
 
     nearby : Local b z wakeups M.state M'.state r
     nearby =

@@ -14,7 +14,7 @@ ghost use Rattle.meaning.specs.Rules.{memory_of};
 ghost use Rattle.run_steps.specs.Runs.{Started, Ended};
 
 use port_table::Size;
-use ready_set::MEMBERS;
+use ready_set::{MEMBERS, ReadySet};
 use step_rules::Program;
 
 // Steps, lowest first, until there are enough or none is ready; how many were done.
@@ -29,22 +29,22 @@ pub fn run_steps(
     waiting: &[u32],
     received: &mut [u32],
     state: &mut [u32],
-    flags: &mut [u64],
+    set: &mut ReadySet,
 ) -> u32
     requires { Started s.now g ports.now spans.now wakeups.now z
-        (memory_of waiting.now received.old state.old) flags.old }
+        (memory_of waiting.now received.old state.old) set.old.words }
     ensures { Ended s.now ports.now z steps
         (memory_of waiting.now received.old state.old) result
-        (memory_of waiting.now received.new state.new) flags.new }
+        (memory_of waiting.now received.new state.new) set.new.words }
 {
     for done in 0..steps {
-        let r = ready_set::lowest(flags);
+        let r = set.lowest();
         if r >= MEMBERS {
             return done;
         }
         let step = step_order::step_of(z, r);
         step_rules::act(g, ports, spans, z, step, waiting, received, state);
-        wakeups::refresh(ports, wakeups, state, z, r, step, flags);
+        wakeups::refresh(ports, wakeups, state, z, r, step, set);
     }
     steps
 }

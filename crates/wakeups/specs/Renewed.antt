@@ -1,9 +1,9 @@
 -- Flags tested anew. Assumes nothing.
-use Rattle.std.specs.Prelude.{◌≡◌, refl, ◌⊎◌, Bool, true, false, List, ℕ, ◌+◌, ◌<◌, eqb, length}
+use Rattle.std.specs.Prelude.{◌≡◌, refl, ◌⊎◌, Bool, true, false, List, ℕ, ◌+◌, ◌<◌, eqb}
 use Rattle.std.proofs.Common.{sym, ◌∙◌, ap, inl, inr, true≢false, arith, eqb-true}
 use Rattle.std.proofs.lemmas.Bool.{eqb-false}
 use Rattle.port_table.specs.declared.Size.{Size}
-use Rattle.ready_set.specs.Flags.{flag_words, Kept, put}
+use Rattle.ready_set.specs.Flags.{Kept, put}
 use Rattle.ready_set.specs.Keeping.{put_same, put_other, kept_agree}
 use Rattle.nearby.specs.Nearby.{Own}
 use Rattle.step_order.specs.Ranks.{rank_count, step_at, take_rank, fire_rank, give_rank}
@@ -28,7 +28,6 @@ pub record Between (new f g : ℕ → Bool) (S : ℕ → Type 0) : Type 0 where
 
 -- a set that is kept in l is so in l', but for numbers tested anew
 pub record Renewed (new : ℕ → Bool) (S : ℕ → Type 0) (l l' : List ℕ) : Type 0 where
-  pub words : length l' ≡ flag_words
   pub keeps : (f : ℕ → Bool) → Kept f l → (g : ℕ → Bool) × (Kept g l') × (Between new f g S)
 
 -- ---- the numbers of one more test
@@ -50,12 +49,12 @@ give_next z p i r x e (j, h, d) = go (below_next i j h)
 module _ {new : ℕ → Bool} where
   -- ---- nothing, one number, more
 
-  pub renewed_none : {S : ℕ → Type 0} {l : List ℕ} → length l ≡ flag_words → ((x : ℕ) → S x → ⊥) → Renewed new S l l
-  renewed_none e n = record { words = e; keeps = λ f k. (f, k, record { each = λ x. inl refl; these = λ x s. absurd (n x s) }) }
+  pub renewed_none : {S : ℕ → Type 0} {l : List ℕ} → ((x : ℕ) → S x → ⊥) → Renewed new S l l
+  renewed_none n = record { keeps = λ f k. (f, k, record { each = λ x. inl refl; these = λ x s. absurd (n x s) }) }
 
   pub renewed_one : (r : ℕ) (b : Bool) {l l' : List ℕ} → b ≡ new r
-      → (length l' ≡ flag_words) × ((f : ℕ → Bool) → Kept f l → Kept (put f r b) l') → Renewed new (OneRank r) l l'
-  renewed_one r b {l} {l'} e h = record { words = h.0; keeps = λ f k. (put f r b, h.1 f k, between f) }
+      → ((f : ℕ → Bool) → Kept f l → Kept (put f r b) l') → Renewed new (OneRank r) l l'
+  renewed_one r b {l} {l'} e h = record { keeps = λ f k. (put f r b, h f k, between f) }
     where
       between : (f : ℕ → Bool) → Between new f (put f r b) (OneRank r)
       between f = record { each = λ x. go x (eqb x r) refl; these = λ x s. put_same f r b x s ∙ rw s e }
@@ -82,7 +81,6 @@ module _ {new : ℕ → Bool} where
       → Renewed new U l l''
   renewed_then c R Q =
       record {
-        words = Q.words;
         keeps = λ f k.
             let p = R.keeps f k in
             let q = Q.keeps p.0 p.1 in (q.0, q.1, between_then c p.2 q.2);
@@ -91,7 +89,6 @@ module _ {new : ℕ → Bool} where
   pub renewed_less : {S T : ℕ → Type 0} {l l' : List ℕ} → ((x : ℕ) → S x → T x) → Renewed new T l l' → Renewed new S l l'
   renewed_less c R =
       record {
-        words = R.words;
         keeps = λ f k. let p = R.keeps f k in (p.0, p.1, record { each = p.2.each; these = λ x s. p.2.these x (c x s) });
       }
 

@@ -16,7 +16,7 @@
 ghost use Rattle.std.specs.Prelude.{◌≡◌, false, List, ℕ, ◌+◌, ◌≤◌, ◌<◌, length, replicate};
 ghost use Rattle.meaning.specs.Limits.{state_words_most};
 ghost use Rattle.port_table.specs.PortsOf.{RowsFit};
-ghost use Rattle.ready_set.specs.Flags.{Kept, flag_words};
+ghost use Rattle.ready_set.specs.Flags.{Kept};
 ghost use Rattle.step_rules.specs.Fits.{Inside};
 ghost use Rattle.step_order.specs.Ranks.{Sized, rank_count, step_at};
 ghost use Rattle.wakeups.specs.Wakeups.{foreign_word, counter_word, flag_at, Apart, WakeupsOf, Local};
@@ -24,6 +24,7 @@ ghost use Rattle.wakeups.specs.Renewed.{Renewed, OneRank, GiveRank, PortRank, Ow
 
 use meaning::{STATE_WORDS, Step};
 use port_table::Size;
+use ready_set::ReadySet;
 
 // ---- the table
 
@@ -76,29 +77,27 @@ fn counter(ports: &[u32], z: Size, step: Step) -> usize
 // ---- the flags
 
 // The flag of the step of rank r is tested anew.
-fn retest(ports: &[u32], state: &[u32], z: Size, r: usize, step: Step, flags: &mut [u64])
-    requires { (RowsFit (length state.now) ports.now z) × (Sized z) × (r < rank_count z) × (step ≡ step_at z r)
-        × (length flags.old ≡ flag_words) }
-    ensures { Renewed (flag_at ports.now state.now z) (OneRank r) flags.old flags.new }
+fn retest(ports: &[u32], state: &[u32], z: Size, r: usize, step: Step, set: &mut ReadySet)
+    requires { (RowsFit (length state.now) ports.now z) × (Sized z) × (r < rank_count z) × (step ≡ step_at z r) }
+    ensures { Renewed (flag_at ports.now state.now z) (OneRank r) set.old.words set.new.words }
 {
-    ready_set::put(flags, r, step_rules::can(ports, state, z, step));
+    set.put(r, step_rules::can(ports, state, z, step));
 }
 
 // Those of all steps.
-pub fn fill_flags(ports: &[u32], state: &[u32], z: Size, flags: &mut [u64])
-    requires { (RowsFit (length state.now) ports.now z) × (Sized z) × (Kept (λ r. false) flags.old) }
-    ensures { Kept (flag_at ports.now state.now z) flags.new }
+pub fn fill_flags(ports: &[u32], state: &[u32], z: Size, set: &mut ReadySet)
+    requires { (RowsFit (length state.now) ports.now z) × (Sized z) × (Kept (λ r. false) set.old.words) }
+    ensures { Kept (flag_at ports.now state.now z) set.new.words }
 {
     for r in 0..step_order::count(z) {
-        retest(ports, state, z, r, step_order::step_of(z, r), flags);
+        retest(ports, state, z, r, step_order::step_of(z, r), set);
     }
 }
 
 // Those of the gives of process p.
-fn retest_gives(ports: &[u32], state: &[u32], z: Size, p: usize, flags: &mut [u64])
-    requires { (RowsFit (length state.now) ports.now z) × (Sized z) × (p < z.processes) × (length flags.old ≡ flag_words) }
-    ensures { Renewed (flag_at ports.now state.now z) (GiveRank z p z.streams) flags.old
-        flags.new }
+fn retest_gives(ports: &[u32], state: &[u32], z: Size, p: usize, set: &mut ReadySet)
+    requires { (RowsFit (length state.now) ports.now z) × (Sized z) × (p < z.processes) }
+    ensures { Renewed (flag_at ports.now state.now z) (GiveRank z p z.streams) set.old.words set.new.words }
 {
     for i in 0..z.streams {
         retest(
@@ -107,17 +106,15 @@ fn retest_gives(ports: &[u32], state: &[u32], z: Size, p: usize, flags: &mut [u6
             z,
             step_order::give_rank(z, p, i),
             Step::Give(p, i),
-            flags,
+            set,
         );
     }
 }
 
 // Those of the steps at a port, and of the fire of its process.
-fn retest_port(ports: &[u32], state: &[u32], z: Size, p: usize, i: usize, flags: &mut [u64])
-    requires { (RowsFit (length state.now) ports.now z) × (Sized z) × (p < z.processes) × (i < z.streams)
-        × (length flags.old ≡ flag_words) }
-    ensures { Renewed (flag_at ports.now state.now z) (PortRank z p i) flags.old
-        flags.new }
+fn retest_port(ports: &[u32], state: &[u32], z: Size, p: usize, i: usize, set: &mut ReadySet)
+    requires { (RowsFit (length state.now) ports.now z) × (Sized z) × (p < z.processes) × (i < z.streams) }
+    ensures { Renewed (flag_at ports.now state.now z) (PortRank z p i) set.old.words set.new.words }
 {
     retest(
         ports,
@@ -125,7 +122,7 @@ fn retest_port(ports: &[u32], state: &[u32], z: Size, p: usize, i: usize, flags:
         z,
         step_order::take_rank(z, p, i),
         Step::Take(p, i),
-        flags,
+        set,
     );
     retest(
         ports,
@@ -133,7 +130,7 @@ fn retest_port(ports: &[u32], state: &[u32], z: Size, p: usize, i: usize, flags:
         z,
         step_order::fire_rank(z, p),
         Step::Fire(p),
-        flags,
+        set,
     );
     retest(
         ports,
@@ -141,23 +138,22 @@ fn retest_port(ports: &[u32], state: &[u32], z: Size, p: usize, i: usize, flags:
         z,
         step_order::give_rank(z, p, i),
         Step::Give(p, i),
-        flags,
+        set,
     );
 }
 
 // Those of the steps of the process or pipe of the step of rank r.
-fn retest_own(ports: &[u32], state: &[u32], z: Size, r: usize, step: Step, flags: &mut [u64])
-    requires { (RowsFit (length state.now) ports.now z) × (Sized z) × (r < rank_count z) × (step ≡ step_at z r)
-        × (length flags.old ≡ flag_words) }
-    ensures { Renewed (flag_at ports.now state.now z) (OwnRank z r) flags.old flags.new }
+fn retest_own(ports: &[u32], state: &[u32], z: Size, r: usize, step: Step, set: &mut ReadySet)
+    requires { (RowsFit (length state.now) ports.now z) × (Sized z) × (r < rank_count z) × (step ≡ step_at z r) }
+    ensures { Renewed (flag_at ports.now state.now z) (OwnRank z r) set.old.words set.new.words }
 {
     match step {
-        Step::Send(_) | Step::Receive(_) => retest(ports, state, z, r, step, flags),
+        Step::Send(_) | Step::Receive(_) => retest(ports, state, z, r, step, set),
         Step::Fire(p) => {
-            retest(ports, state, z, r, step, flags);
-            retest_gives(ports, state, z, p, flags);
+            retest(ports, state, z, r, step, set);
+            retest_gives(ports, state, z, p, set);
         }
-        Step::Take(p, i) | Step::Give(p, i) => retest_port(ports, state, z, p, i, flags),
+        Step::Take(p, i) | Step::Give(p, i) => retest_port(ports, state, z, p, i, set),
     }
 }
 
@@ -169,19 +165,18 @@ pub fn refresh(
     z: Size,
     r: usize,
     step: Step,
-    flags: &mut [u64],
+    set: &mut ReadySet,
 )
     requires { (RowsFit (length state.now) ports.now z) × (RowsFit state_words_most ports.now z) × (Sized z)
         × (WakeupsOf ports.now z wakeups.now)
-        × (r < rank_count z) × (step ≡ step_at z r) × (length flags.old ≡ flag_words) }
-    ensures { (length flags.new ≡ flag_words)
-        × ((old : List ℕ) → Local ports.now z wakeups.now old state.now r
-        → Kept (flag_at ports.now old z) flags.old
-        → Kept (flag_at ports.now state.now z) flags.new) }
+        × (r < rank_count z) × (step ≡ step_at z r) }
+    ensures { (old : List ℕ) → Local ports.now z wakeups.now old state.now r
+        → Kept (flag_at ports.now old z) set.old.words
+        → Kept (flag_at ports.now state.now z) set.new.words }
 {
-    retest_own(ports, state, z, r, step, flags);
+    retest_own(ports, state, z, r, step, set);
     let w = wakeups[counter(ports, z, step)] as usize;
     if w != 0 {
-        retest(ports, state, z, w - 1, step_order::step_of(z, w - 1), flags);
+        retest(ports, state, z, w - 1, step_order::step_of(z, w - 1), set);
     }
 }

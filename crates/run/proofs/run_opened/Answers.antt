@@ -13,7 +13,7 @@ fill_wakeups-requires c = table_asks c.requires.0
 
 pub fill_flags-requires : goal.fill_flags-requires
 fill_flags-requires c =
-    flags_ask c.requires.0
+    flags_ask c.requires.0 c.new-set.ensures
 
 pub run_steps-done-requires : goal.run_steps-done-requires
 run_steps-done-requires c =
@@ -22,9 +22,6 @@ run_steps-done-requires c =
     starts h.0 h.1.description_is p.0 p.1 h.2 (omega arith)
     c.fill_wakeups.ensures
     c.fill_flags.ensures
-
-pub lowest-requires : goal.lowest-requires
-lowest-requires c = c.run_steps-done.ensures.ready.kept.words
 
 pub returns : goal.returns
 returns c =

@@ -22,13 +22,13 @@ refresh-requires c =
     let h = c.loop-done.invariant in
     let q =
     renews c.requires h (c.lowest-r.ensures _ h.ready.kept) c.if-r-ge-MEMBERS.false (rw c.step_of-step.ensures at c.act.ensures) in
-    (q.0, q.1, q.2, q.3, q.4, c.step_of-step.ensures, q.5)
+    (q.0, q.1, q.2, q.3, q.4, c.step_of-step.ensures)
 
 pub loop-done-preserved : goal.loop-done-preserved
 loop-done-preserved c =
     let h = c.loop-done.invariant in
     turned c.requires h (c.lowest-r.ensures _ h.ready.kept) c.if-r-ge-MEMBERS.false (rw c.step_of-step.ensures at c.act.ensures)
-    (omega arith) c.refresh.ensures.1
+    (omega arith) c.refresh.ensures
 
 pub returns-then-r-ge-MEMBERS : goal.returns-then-r-ge-MEMBERS
 returns-then-r-ge-MEMBERS c =

@@ -6,4 +6,4 @@ use Rattle.run_steps.proofs.run_steps.Given as goal
 abbrev pub invariant-loop-done : goal.invariant-loop-done
 invariant-loop-done l =
     Partly l.s l.ports l.z l.steps (memory_of l.waiting l.initial.received l.initial.state) l.done
-    (memory_of l.waiting l.received l.state) l.flags
+    (memory_of l.waiting l.received l.state) l.set.words

@@ -6,7 +6,7 @@ use Rattle.wakeups.specs.Renewed.{renewed_none, renewed_then, renewed_all, below
 use Rattle.wakeups.proofs.fill_flags.Goals as goal
 
 pub loop-r-init : goal.loop-r-init
-loop-r-init c = renewed_none c.requires.2.words (λ x h. omega arith)
+loop-r-init c = renewed_none (λ x h. omega arith)
 
 pub loop-r-preserved : goal.loop-r-preserved
 loop-r-preserved c = renewed_then (below_next c.loop-r.r) c.loop-r.invariant c.retest.ensures

@@ -5,4 +5,4 @@ use Rattle.wakeups.specs.Renewed.{Renewed}
 use Rattle.wakeups.proofs.fill_flags.Given as goal
 
 abbrev pub invariant-loop-r : goal.invariant-loop-r
-invariant-loop-r l = Renewed (flag_at l.ports l.state l.z) (λ x. x < l.r) l.initial.flags l.flags
+invariant-loop-r l = Renewed (flag_at l.ports l.state l.z) (λ x. x < l.r) l.initial.set.words l.set.words

@@ -16,17 +16,11 @@ overflow_cast-w c =
 pub returns-then-w-ne0 : goal.returns-then-w-ne0
 returns-then-w-ne0 c =
     let a = c.args in
-    let f = c.retest.ensures in (
-      f.words,
-      refreshed_some a.ports.now a.state.now a.wakeups.now a.z a.r c.counter.result (rw c.requires.5 at c.counter.ensures.0)
-          c.retest_own.ensures f,
-    )
+    refreshed_some a.ports.now a.state.now a.wakeups.now a.z a.r c.counter.result (rw c.requires.5 at c.counter.ensures.0)
+    c.retest_own.ensures c.retest.ensures
 
 pub returns-else-w-ne0 : goal.returns-else-w-ne0
 returns-else-w-ne0 c =
     let a = c.args in
-    let f = c.retest_own.ensures in (
-      f.words,
-      refreshed_none a.ports.now a.state.now a.wakeups.now a.z a.r c.counter.result (rw c.requires.5 at c.counter.ensures.0)
-          (omega (arith, c.if-w-ne0.false)) f,
-    )
+    refreshed_none a.ports.now a.state.now a.wakeups.now a.z a.r c.counter.result (rw c.requires.5 at c.counter.ensures.0)
+    (omega (arith, c.if-w-ne0.false)) c.retest_own.ensures

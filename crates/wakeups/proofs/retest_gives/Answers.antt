@@ -5,13 +5,13 @@ use Rattle.wakeups.specs.Renewed.{renewed_none, renewed_then, renewed_less, give
 use Rattle.wakeups.proofs.retest_gives.Goals as goal
 
 pub loop-i-init : goal.loop-i-init
-loop-i-init c = renewed_none c.requires.3 (λ x (i, h, e). omega arith)
+loop-i-init c = renewed_none (λ x (i, h, e). omega arith)
 
 pub retest-requires : goal.retest-requires
 retest-requires c =
     let p = c.requires in
     let r = c.give_rank.ensures in
-    (p.0, p.1, r.1, rw r.0 (sym (give_step c.args.z c.args.p c.loop-i.i p.2 (omega arith))), c.loop-i.invariant.words)
+    (p.0, p.1, r.1, rw r.0 (sym (give_step c.args.z c.args.p c.loop-i.i p.2 (omega arith))))
 
 pub loop-i-preserved : goal.loop-i-preserved
 loop-i-preserved c =

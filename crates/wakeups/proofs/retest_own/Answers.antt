@@ -6,7 +6,7 @@ use Rattle.wakeups.proofs.retest_own.Goals as goal
 pub retest_port-requires : goal.retest_port-requires
 retest_port-requires c =
     let p = c.requires in
-    let f = own_port c.args.z c.args.r p.2 p.3 c.in-Take.is in (p.0, p.1, f.0, f.1, p.4)
+    let f = own_port c.args.z c.args.r p.2 p.3 c.in-Take.is in (p.0, p.1, f.0, f.1)
 
 pub returns-in-Send : goal.returns-in-Send
 returns-in-Send c =
