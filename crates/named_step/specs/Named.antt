@@ -2,7 +2,7 @@
 use Rattle.std.specs.Prelude.{◌≡◌, refl, Bool, true, false, cond, ◌&&◌, Option, Some, None, List, ℕ, ◌≤◌, ◌<◌, eqb, ltb, length}
 use Rattle.std.proofs.Common.{sym, ◌∙◌, ap, subst, ltb-true}
 use Rattle.meaning.specs.declared.Limits.{Limits}
-use Rattle.meaning.specs.Array.{Array, process_count, stream_count, pipe_number, on_pipe}
+use Rattle.meaning.specs.Array.{Array, process_count, stream_count, on_pipe}
 use Rattle.meaning.specs.declared.Step.{Step}
 use Rattle.meaning.specs.declared.Step.TheVariants.{Send, Take, Fire, Give, Receive}
 use Rattle.meaning.specs.Rules.{Found, at, nothing}

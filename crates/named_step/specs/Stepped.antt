@@ -8,7 +8,7 @@ use Rattle.meaning.specs.Loops.{increment}
 use Rattle.meaning.specs.Tests.{Test, ◌if◌, refusal}
 use Rattle.meaning.specs.Description.{description_of}
 use Rattle.meaning.specs.Array.{array_of}
-use Rattle.meaning.specs.Rules.{Memory, Found, at, nothing, ready, apply}
+use Rattle.meaning.specs.Rules.{Memory, Found, at, nothing, ready}
 use Rattle.meaning.specs.Calls.{answer, step_of, is_nothing, ready_at, applied}
 use Rattle.vectors.specs.Within.{Within}
 use Rattle.layout.specs.Spans.{Spans}

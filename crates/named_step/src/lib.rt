@@ -1,5 +1,5 @@
-// A step by its name, as document 01's call Step has it, a kind, a process or pipe number and a stream: whether there is such a step, whether
-// it is ready, and the step done. The memory is opened, so that nothing else is refused.
+// A step by its name, as document 01's call Step has it, a kind, a process or pipe number and a stream: whether there is such a step,
+// whether it is ready, and the step done. The memory is opened, so that nothing else is refused.
 //
 // specs/, by file:
 //

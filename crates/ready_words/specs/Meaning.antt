@@ -1,7 +1,7 @@
 -- By the port table of an array, a process can move where the code says so. Assumes nothing.
-use Rattle.std.specs.Prelude.{◌≡◌, refl, ◌⊎◌, Bool, false, ℕ, ◌<◌}
+use Rattle.std.specs.Prelude.{◌≡◌, refl, Bool, false, ℕ, ◌<◌}
 use Rattle.std.proofs.Math.Path.{sym, ap, ap₂}
-use Rattle.std.proofs.Common.{◌∙◌, inl, inr, arith}
+use Rattle.std.proofs.Common.{◌∙◌, arith}
 use Rattle.std.proofs.Math.Bool.{true, cond, ◌||◌}
 use mathlib.Core.List.{List, ◌∷◌, map}
 use Rattle.meaning.specs.Lists.{any, numbers}
@@ -15,17 +15,8 @@ use Rattle.fire.specs.Firing.{can_fire}
 use Rattle.port_table.specs.declared.Size.{Size}
 use Rattle.port_table.specs.PortsOf.{port_at, ports_at}
 use Rattle.step_rules.specs.Steps.{can_by}
-use Rattle.step_rules.specs.Fits.{Inside}
 use Rattle.step_rules.specs.Meaning.{Stands, can_is}
 use Rattle.ready_words.specs.Moves.{passes_by, moves_by}
-
--- a take, a fire or a give has a process and a stream
-inside : {z : Size} (k p i : ℕ) → 0 < k → k < 4 → p < z.processes → i < z.streams → Inside z k p i
-inside {z} k p i a b h l = record { pipe = λ o. absurd (never o); process = λ a b. h; port = λ o. l }
-  where
-    never : (k ≡ 0) ⊎ (3 < k) → ⊥
-    never (inl e) = omega arith
-    never (inr e) = omega arith
 
 -- takes, fire and gives in either order
 order : (t f g : Bool) → (t || cond f true g) ≡ ((t || g) || f)
@@ -58,15 +49,15 @@ module _ {A : Array} {b : List ℕ} {z : Size} (s : Stands A b z) (M : Memory) (
 
   take_is : (i : ℕ) → i < z.streams → can_take st (port_at b p i) ≡ ready A st (Take p i)
   unfolding can_by
-  take_is i l = can_is s M t 1 p i (inside 1 p i (omega arith) (omega arith) h l)
+  take_is i l = can_is s M t (Take p i) (h, l)
 
   give_is : (i : ℕ) → i < z.streams → can_give st (port_at b p i) ≡ ready A st (Give p i)
   unfolding can_by
-  give_is i l = can_is s M t 3 p i (inside 3 p i (omega arith) (omega arith) h l)
+  give_is i l = can_is s M t (Give p i) (h, l)
 
   fire_is : can_fire st (ports_at b p) z.streams ≡ ready A st (Fire p)
   unfolding can_by
-  fire_is = can_is s M t 2 p 0 (inside 2 p 0 (omega arith) (omega arith) h s.size.some)
+  fire_is = can_is s M t (Fire p) h
 
   pub moves_is : moves_by b st z.streams p ≡ any (ready A st) (steps_of A p)
   unfolding moves_by passes_by

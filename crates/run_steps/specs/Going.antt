@@ -1,10 +1,10 @@
 -- A memory stays in order from step to step. Assumes nothing.
-use Rattle.std.specs.Prelude.{◌≡◌, refl, true, List, ℕ, ◌≤◌, ◌<◌, length}
+use Rattle.std.specs.Prelude.{◌≡◌, true, List, ℕ, ◌≤◌, length}
 use Rattle.std.proofs.Common.{◌∙◌, ap, arith}
 use Rattle.meaning.specs.declared.Description.{Description}
 use Rattle.meaning.specs.Limits.{gauge_limits}
 use Rattle.meaning.specs.Description.{description_of}
-use Rattle.meaning.specs.Array.{Array, array_of, pipe_number}
+use Rattle.meaning.specs.Array.{Array, array_of}
 use Rattle.meaning.specs.State.{word_count}
 use Rattle.meaning.specs.declared.Step.{Step}
 use Rattle.meaning.specs.declared.Step.TheVariants.{Send, Take, Fire, Give, Receive}

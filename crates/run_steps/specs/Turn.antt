@@ -7,7 +7,7 @@ use Rattle.meaning.specs.Lists.{position, numbers}
 use Rattle.meaning.specs.Description.{description_of}
 use Rattle.meaning.specs.Array.{Array, array_of}
 use Rattle.meaning.specs.Limits.{gauge_limits, state_words_most}
-use Rattle.meaning.specs.Rules.{Memory, ready, apply}
+use Rattle.meaning.specs.Rules.{Memory, apply}
 use Rattle.guarantee.proofs.Wired.{wired}
 use Rattle.port_table.specs.declared.Size.{Size}
 use Rattle.port_table.specs.PortsOf.{RowsFit, PartsFit}

@@ -1,6 +1,6 @@
 -- Every rank is that of a step inside the array, and different ranks are different steps. Assumes nothing.
 use Rattle.std.specs.Prelude.{◌≡◌, refl, Bool, true, false, ℕ, ◌+◌, ◌*◌, ◌-◌, ◌/◌, ◌%◌, ◌<◌, ltb}
-use Rattle.std.proofs.Common.{sym, ◌∙◌, ap, ⊎_elim, div-add-mod', div-lt_iff_lt-mul, mod-lt, arith, ltb-true, ltb-false}
+use Rattle.std.proofs.Common.{sym, ◌∙◌, ap, div-add-mod', div-lt_iff_lt-mul, mod-lt, arith, ltb-true, ltb-false}
 use Rattle.meaning.specs.declared.Step.{Step}
 use Rattle.meaning.specs.declared.Step.TheVariants.{Send, Take, Fire, Give, Receive}
 use Rattle.port_table.specs.declared.Size.{Size}

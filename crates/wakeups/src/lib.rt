@@ -22,7 +22,7 @@ ghost use Rattle.step_order.specs.Ranks.{Sized, rank_count, step_at};
 ghost use Rattle.wakeups.specs.Wakeups.{foreign_word, counter_word, flag_at, Apart, WakeupsOf, Local};
 ghost use Rattle.wakeups.specs.Renewed.{Renewed, OneRank, GiveRank, PortRank, OwnRank};
 
-use meaning::{Step, STATE_WORDS};
+use meaning::{STATE_WORDS, Step};
 use port_table::Size;
 
 // ---- the table
@@ -101,7 +101,14 @@ fn retest_gives(ports: &[u32], state: &[u32], z: Size, p: usize, flags: &mut [u6
         flags.new }
 {
     for i in 0..z.streams {
-        retest(ports, state, z, step_order::give_rank(z, p, i), Step::Give(p, i), flags);
+        retest(
+            ports,
+            state,
+            z,
+            step_order::give_rank(z, p, i),
+            Step::Give(p, i),
+            flags,
+        );
     }
 }
 
@@ -112,9 +119,30 @@ fn retest_port(ports: &[u32], state: &[u32], z: Size, p: usize, i: usize, flags:
     ensures { Renewed (flag_at ports.now state.now z) (PortRank z p i) flags.old
         flags.new }
 {
-    retest(ports, state, z, step_order::take_rank(z, p, i), Step::Take(p, i), flags);
-    retest(ports, state, z, step_order::fire_rank(z, p), Step::Fire(p), flags);
-    retest(ports, state, z, step_order::give_rank(z, p, i), Step::Give(p, i), flags);
+    retest(
+        ports,
+        state,
+        z,
+        step_order::take_rank(z, p, i),
+        Step::Take(p, i),
+        flags,
+    );
+    retest(
+        ports,
+        state,
+        z,
+        step_order::fire_rank(z, p),
+        Step::Fire(p),
+        flags,
+    );
+    retest(
+        ports,
+        state,
+        z,
+        step_order::give_rank(z, p, i),
+        Step::Give(p, i),
+        flags,
+    );
 }
 
 // Those of the steps of the process or pipe of the step of rank r.

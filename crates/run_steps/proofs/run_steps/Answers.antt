@@ -8,9 +8,6 @@ pub loop-done-init : goal.loop-done-init
 loop-done-init c =
     let p = c.requires in partly_start _ _ _ _ _ _ (record { opened = p.opened; kept = p.kept })
 
-pub lowest-r-requires : goal.lowest-r-requires
-lowest-r-requires c = c.loop-done.invariant.ready.kept.words
-
 pub step_of-step-requires : goal.step_of-step-requires
 step_of-step-requires c =
     let h = c.loop-done.invariant in rank_in c.requires h (c.lowest-r.ensures _ h.ready.kept) c.if-r-ge-MEMBERS.false
@@ -30,19 +27,13 @@ refresh-requires c =
 pub loop-done-preserved : goal.loop-done-preserved
 loop-done-preserved c =
     let h = c.loop-done.invariant in
-    turned c.requires h (c.lowest-r.ensures _ h.ready.kept) c.if-r-ge-MEMBERS.false (rw c.step_of-step.ensures at c.act.ensures) (omega arith)
-    c.refresh.ensures.1
-
-pub shape_of-state-then-r-ge-MEMBERS : goal.shape_of-state-then-r-ge-MEMBERS
-shape_of-state-then-r-ge-MEMBERS c = c.loop-done.invariant.words
+    turned c.requires h (c.lowest-r.ensures _ h.ready.kept) c.if-r-ge-MEMBERS.false (rw c.step_of-step.ensures at c.act.ensures)
+    (omega arith) c.refresh.ensures.1
 
 pub returns-then-r-ge-MEMBERS : goal.returns-then-r-ge-MEMBERS
 returns-then-r-ge-MEMBERS c =
     let h = c.loop-done.invariant in
     ended_none h (lowest_nothing h.ready (c.lowest-r.ensures _ h.ready.kept) c.if-r-ge-MEMBERS.true)
-
-pub shape_of-state : goal.shape_of-state
-shape_of-state c = c.loop-done.invariant.words
 
 pub returns : goal.returns
 returns c =

@@ -1,7 +1,6 @@
 -- `step_order::count` meets its contract: the products are bounded. Assumes nothing.
 use mathlib.Core.Path.{refl}
 use native.Mathlib.Omega.{arith}
-use borrow.Author.Rules.{rules}
 use Rattle.step_order.specs.Ranks.{steps_most}
 use Rattle.step_order.proofs.count.Goals as goal
 

@@ -1,7 +1,6 @@
 -- `step_order::fire_rank` meets its contract: the rank lies among the steps of its process. Assumes nothing.
 use mathlib.Core.Path.{refl}
 use native.Mathlib.Omega.{arith}
-use borrow.Author.Rules.{rules}
 use Rattle.step_order.specs.Ranks.{steps_most, steps_inside}
 use Rattle.step_order.proofs.fire_rank.Goals as goal
 

@@ -1,5 +1,5 @@
 -- `step_rules::can_use_all` meets its contract: the streams from i on say what all say. Assumes nothing.
-use Rattle.std.proofs.Common.{◌≡◌, refl, sym, ◌∙◌, ap, arith}
+use Rattle.std.proofs.Common.{sym, ◌∙◌, ap, arith}
 use Rattle.fire.specs.Firing.{can_use, every_next, every_stop, every_end}
 use Rattle.port_table.specs.PortsOf.{ports_at}
 use Rattle.step_rules.specs.Fits.{ports_at_lem}

@@ -1,7 +1,5 @@
 -- `step_rules::fire` meets its contract: a process that can fire has fired less often than it has instances, so there is a next one on its
 -- line. Assumes nothing.
-use mathlib.Core.Path.{refl, ◌∙◌}
-use borrow.Author.Rules.{rules}
 use Rattle.step_rules.specs.Fits.{process_fits, next_runs}
 use Rattle.step_rules.proofs.fire.Goals as goal
 

@@ -8,10 +8,6 @@ use Rattle.wakeups.proofs.fill_flags.Goals as goal
 pub loop-r-init : goal.loop-r-init
 loop-r-init c = renewed_none c.requires.2.words (λ x h. omega arith)
 
-pub retest-requires : goal.retest-requires
-retest-requires c =
-    let p = c.requires in (p.0, p.1, omega (arith, c.count-r-end.ensures.0), c.step_of.ensures, c.loop-r.invariant.words)
-
 pub loop-r-preserved : goal.loop-r-preserved
 loop-r-preserved c = renewed_then (below_next c.loop-r.r) c.loop-r.invariant c.retest.ensures
 

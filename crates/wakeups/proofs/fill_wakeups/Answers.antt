@@ -10,13 +10,11 @@ loop-r-init c = filled_none _ _ c.requires.3
 pub foreign-at-requires : goal.foreign-at-requires
 foreign-at-requires c = rw c.step_of.ensures (c.requires.0, step_inside c.args.z c.loop-r.r (omega (arith, c.count-r-end.ensures.0)))
 
-pub bounds-wakeups-at : goal.bounds-wakeups-at
-bounds-wakeups-at c = omega (arith, c.foreign-at.ensures.1, c.loop-r.invariant.words)
-
 pub loop-r-preserved : goal.loop-r-preserved
 loop-r-preserved c =
-    filled_next _ _ _ _ c.requires.2 (omega (arith, c.count-r-end.ensures.0)) (rw c.step_of.ensures at c.foreign-at.ensures.0) c.foreign-at.ensures.1
-    (omega arith) c.loop-r.invariant
+    let e = c.foreign-at.ensures in
+    filled_next _ _ _ _ c.requires.2 (omega (arith, c.count-r-end.ensures.0)) (rw c.step_of.ensures at e.0) e.1 (omega arith)
+    c.loop-r.invariant
 
 pub returns : goal.returns
 returns c = filled_all _ _ (omega (arith, c.count-r-end.ensures.0)) c.loop-r.invariant

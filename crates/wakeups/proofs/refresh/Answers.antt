@@ -13,15 +13,6 @@ pub overflow_cast-w : goal.overflow_cast-w
 overflow_cast-w c =
     let p = c.requires in omega (arith, p.3.ranks c.counter.result, steps_most p.2, p.2.pipes)
 
-pub step_of-requires : goal.step_of-requires
-step_of-requires c =
-    let p = c.requires in (p.2, omega (arith, p.3.ranks c.counter.result, c.if-w-ne0.true))
-
-pub retest-requires : goal.retest-requires
-retest-requires c =
-    let p = c.requires in
-    (p.0, p.2, omega (arith, p.3.ranks c.counter.result, c.if-w-ne0.true), c.step_of.ensures, c.retest_own.ensures.words)
-
 pub returns-then-w-ne0 : goal.returns-then-w-ne0
 returns-then-w-ne0 c =
     let a = c.args in

@@ -1,6 +1,5 @@
 -- `wakeups::retest` meets its contract: the flag becomes what the test says. Assumes nothing.
-use Rattle.std.proofs.Common.{◌≡◌, sym, ◌∙◌, arith}
-use Rattle.step_order.specs.Ranks.{steps_most}
+use Rattle.std.proofs.Common.{◌≡◌, sym, ◌∙◌}
 use Rattle.step_order.proofs.Steps.{step_inside}
 use Rattle.wakeups.specs.Wakeups.{can_at, flag_in}
 use Rattle.wakeups.specs.Renewed.{renewed_one}
@@ -9,10 +8,6 @@ use Rattle.wakeups.proofs.retest.Goals as goal
 pub can-requires : goal.can-requires
 can-requires c =
     let p = c.requires in rw p.3 (p.0, step_inside c.args.z c.args.r p.2)
-
-pub put-requires : goal.put-requires
-put-requires c =
-    let p = c.requires in (p.4, omega (arith, steps_most p.1, p.1.pipes, p.2))
 
 pub returns : goal.returns
 returns c =

@@ -1,7 +1,6 @@
 -- `wakeups::retest_port` meets its contract: three flags one after the other. Assumes nothing.
 use Rattle.std.proofs.Common.{sym}
 use Rattle.step_order.specs.Steps.{take_step, fire_step, give_step}
-use Rattle.wakeups.specs.Renewed.{port_renewed}
 use Rattle.wakeups.proofs.retest_port.Goals as goal
 
 pub retest-requires : goal.retest-requires
@@ -21,10 +20,3 @@ retest-requires-3 c =
     let p = c.requires in
     let r = c.give_rank.ensures in
     (p.0, p.1, r.1, rw r.0 (sym (give_step c.args.z c.args.p c.args.i p.2 p.3)), c.retest-2.ensures.words)
-
-pub returns : goal.returns
-returns c =
-    let a = c.args in
-    port_renewed a.z a.p a.i c.take_rank.result c.fire_rank.result c.give_rank.result
-    c.take_rank.ensures.0 c.fire_rank.ensures.0 c.give_rank.ensures.0
-    c.retest.ensures c.retest-2.ensures c.retest-3.ensures
