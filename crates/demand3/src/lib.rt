@@ -8,7 +8,8 @@
 #![tactic(auto)]
 
 ghost use Rattle.std.specs.Prelude.{◌≡◌, ◌+◌, ◌*◌, ◌/◌, ◌≤◌, length};
-ghost use Rattle.meaning.specs.declared.Answer.TheVariants.{Done};
+ghost use Rattle.refusals.specs.Numbers.{numbered};
+ghost use Rattle.meaning.specs.Answers.{Done};
 ghost use Rattle.meaning.specs.Limits.{limits_of};
 ghost use Rattle.meaning.specs.Rules.{memory_of};
 ghost use Rattle.meaning.specs.Calls.{start};
@@ -16,7 +17,7 @@ ghost use Rattle.meaning.specs.Demand3.{memory_after, Demand3};
 ghost use Rattle.demand3.specs.Play.{lent_of, made_of, made, turn, play_from, played, calls_made};
 
 use answer_words::Words;
-use meaning::Answer;
+use refusals::Refusal;
 
 // ---- one call
 
@@ -40,7 +41,7 @@ fn make_call(
 {
     let board = calls[5 * k + 4];
     match calls[5 * k] {
-        0 => answer_words::of_answer(step::step(
+        0 => answer_words::of_answer(&step::step(
             board,
             s,
             calls[5 * k + 1],
@@ -50,8 +51,15 @@ fn make_call(
             received,
             state,
         )),
-        1 => answer_words::of_ran(run::run(board, s, calls[5 * k + 1], waiting, received, state)),
-        2 => answer_words::of_readiness(ready::ready(board, s, words, waiting, received, state)),
+        1 => answer_words::of_values(&run::run(
+            board,
+            s,
+            calls[5 * k + 1],
+            waiting,
+            received,
+            state,
+        )),
+        2 => answer_words::of_values(&ready::ready(board, s, words, waiting, received, state)),
         3 => window_copy::see(
             board,
             s,
@@ -61,7 +69,7 @@ fn make_call(
             waiting,
             received,
         ),
-        _ => answer_words::of_answer(result::result(board, s, output, waiting, received, state)),
+        _ => answer_words::of_answer(&result::result(board, s, output, waiting, received, state)),
     }
 }
 
@@ -110,12 +118,10 @@ fn play_calls(
         words.old output.old part.old answers.old) }
 {
     let n = calls.len() / 5;
-    let mut k = 0;
-    while k < n {
+    for k in 0..n {
         play_call(
             s, calls, k, words, output, part, answers, waiting, received, state,
         );
-        k += 1;
     }
 }
 
@@ -132,15 +138,15 @@ pub fn play(
     waiting: &mut [u32],
     received: &mut [u32],
     state: &mut [u32],
-) -> Answer
-    ensures { (result ≡ (start (limits_of board) s.now values.now
+) -> Result<(), Refusal>
+    ensures { (numbered result ≡ (start (limits_of board) s.now values.now
         (memory_of waiting.old received.old state.old)).answer)
         × (lent_of waiting.new received.new state.new words.new output.new
         part.new answers.new
         ≡ played board s.now values.now calls.now
         (lent_of waiting.old received.old state.old
         words.old output.old part.old answers.old))
-        × (result ≡ Done → Demand3 (limits_of board) s.now values.now
+        × (numbered result ≡ Done → Demand3 (limits_of board) s.now values.now
         (memory_of waiting.old received.old state.old)
         × (memory_of waiting.new received.new state.new
         ≡ memory_after s.now (start (limits_of board) s.now values.now
@@ -149,11 +155,9 @@ pub fn play(
         (lent_of waiting.old received.old state.old
         words.old output.old part.old answers.old)))) }
 {
-    let answer = start::start(board, s, values, waiting, received, state);
-    if answer_words::number_of(answer) == 0 {
-        play_calls(
-            s, calls, words, output, part, answers, waiting, received, state,
-        );
-    }
-    answer
+    start::start(board, s, values, waiting, received, state)?;
+    play_calls(
+        s, calls, words, output, part, answers, waiting, received, state,
+    );
+    Ok(())
 }
