@@ -13,12 +13,10 @@ window_values s pipe n = cond (eqb n 0)
     (part_start (array_of (description_of s)) pipe ∷ elements_on (array_of (description_of s)) pipe ∷ []) []
 
 -- of the piece that is found, where n is the call's number
-module _ (s : List ℕ) (pipe : ℕ) (words : List ℕ) {r : Piece} {m n : ℕ} (e : r ≡ piece_of (description_of s) pipe m)
-    (q : r.refusal ≡ n) where
-  pub window_left : r.refusal ≡ 0 → r.from ∷ r.length ∷ [] ≡ or_kept (window_values s pipe n) words
-  window_left z =
-      ap (λ (r : Piece). r.from ∷ r.length ∷ []) e
-      ∙ rw (eq-eqb m 0 (sym (ap (λ (r : Piece). r.refusal) e) ∙ z), eq-eqb n 0 (sym q ∙ z)) refl
+module _ (s : List ℕ) (pipe : ℕ) (words : List ℕ) {n : ℕ} where
+  pub window_left : {p : Piece} → p ≡ piece_of (description_of s) pipe → 0 ≡ n
+      → p.from ∷ p.length ∷ [] ≡ or_kept (window_values s pipe n) words
+  window_left e q = ap (λ (p : Piece). p.from ∷ p.length ∷ []) e ∙ rw (eq-eqb n 0 (sym q)) refl
 
-  pub window_declined : (r.refusal ≡ 0 → ⊥) → words ≡ or_kept (window_values s pipe n) words
-  window_declined f = rw (ne_eqb n 0 (λ z. f (q ∙ z))) refl
+  pub window_declined : (n ≡ 0 → ⊥) → words ≡ or_kept (window_values s pipe n) words
+  window_declined f = rw (ne_eqb n 0 f) refl

@@ -34,7 +34,7 @@ pub extern "C" fn beqlanosh_accept(board: u32, bytes: &[u8], figures: &mut [u32;
         × (figures.new ≡ or_kept (accept_values (accept (limits_of board) bytes.now)) figures.old) }
 {
     let answer = accept::accept(board, bytes);
-    answer_words::put_acceptance(answer, figures)
+    answer_words::put_values(&answer, figures)
 }
 
 // STEP VECTORS: how many step vectors with entries from −k to k get each answer of Accept: accepted, then refusals 1 to 17.
@@ -49,7 +49,7 @@ pub extern "C" fn beqlanosh_step_vectors(
         × (counts.new ≡ (step_vectors (limits_of board) bytes.now k counts.old).counts) }
 {
     let answer = step_vectors::step_vectors(board, bytes, k, counts);
-    answer_words::number_of(answer)
+    answer_words::number_of(&answer)
 }
 
 // ---- table
@@ -61,7 +61,8 @@ pub extern "C" fn beqlanosh_table(board: u32, bytes: &[u8], words: &mut [u32]) -
         × (words.new
         ≡ laid (table_words (limits_of board) bytes.now (length words.old)) words.old) }
 {
-    table_words::table_words(board, bytes, words)
+    let answer = table_words::table_words(board, bytes, words);
+    answer_words::number_of(&answer)
 }
 
 // ---- plain run
@@ -78,7 +79,7 @@ pub extern "C" fn beqlanosh_plain_run(
         × (output.new ≡ (plain_run (limits_of board) bytes.now values.now output.old).output) }
 {
     let answer = plain::plain_run(board, bytes, values, output);
-    answer_words::number_of(answer)
+    answer_words::number_of(&answer)
 }
 
 // ---- the calls on a state
@@ -100,7 +101,7 @@ pub extern "C" fn beqlanosh_start(
         (memory_of waiting.old received.old state.old)).memory) }
 {
     let answer = start::start(board, bytes, values, waiting, received, state);
-    answer_words::number_of(answer)
+    answer_words::number_of(&answer)
 }
 
 // STEP: the step named, if it is ready.
@@ -122,7 +123,7 @@ pub extern "C" fn beqlanosh_step(
         (memory_of waiting.now received.old state.old)).memory) }
 {
     let answer = step::step(board, bytes, kind, number, stream, waiting, received, state);
-    answer_words::number_of(answer)
+    answer_words::number_of(&answer)
 }
 
 // RUN: so many steps, lowest first; how many were done, and 1 if any is ready, 0 if none.
@@ -145,7 +146,7 @@ pub extern "C" fn beqlanosh_run(
         (memory_of waiting.now received.old state.old)).answer) answer.old) }
 {
     let ran = run::run(board, bytes, steps, waiting, received, state);
-    answer_words::put_ran(ran, answer)
+    answer_words::put_values(&ran, answer)
 }
 
 // READY: the bits of the processes that can take, fire or give; how many they are, and the lowest.
@@ -168,7 +169,7 @@ pub extern "C" fn beqlanosh_ready(
         (memory_of waiting.now received.now state.now)).answer) answer.old) }
 {
     let found = ready::ready(board, bytes, words, waiting, received, state);
-    answer_words::put_readiness(found, answer)
+    answer_words::put_values(&found, answer)
 }
 
 // WINDOW: where the pipe's part of the waiting values or of the received ones begins, and how long it is.
@@ -187,12 +188,13 @@ pub extern "C" fn beqlanosh_window(
         (window (limits_of board) bytes.now pipe side waiting.now received.now).refusal)
         answer.old) }
 {
-    let piece = window::piece_of(board, bytes, pipe, side, waiting.len(), received.len());
-    let refusal = piece.refusal;
-    if refusal == 0 {
-        *answer = [piece.from, piece.length];
+    match window::piece_of(board, bytes, pipe, side, waiting.len(), received.len()) {
+        Ok(piece) => {
+            *answer = [piece.from, piece.length];
+            0
+        }
+        Err(refusal) => refusal.number(),
     }
-    refusal
 }
 
 // RESULT: once all values are out, those received, in element order.
@@ -211,7 +213,7 @@ pub extern "C" fn beqlanosh_result(
         (memory_of waiting.now received.now state.now)).output) }
 {
     let answer = result::result(board, bytes, output, waiting, received, state);
-    answer_words::number_of(answer)
+    answer_words::number_of(&answer)
 }
 
 // ---- the generated load
@@ -223,7 +225,7 @@ pub extern "C" fn beqlanosh_fill(seed: u32, n: usize, list: &mut [u32]) -> u32
         × (list.new ≡ (fill seed n list.old).list) }
 {
     let answer = fill::fill(seed, n, list);
-    answer_words::number_of(answer)
+    answer_words::number_of(&answer)
 }
 
 // MAKE: a whole description of these sizes, its words drawn from the seed; how many bytes it has.
@@ -242,10 +244,10 @@ pub extern "C" fn beqlanosh_make(
         ≡ or_kept (made_values (make seed (sizes loops streams lines) output.old).answer) answer.old) }
 {
     let z = Sizes {
-        loops: loops,
-        streams: streams,
-        lines: lines,
+        loops,
+        streams,
+        lines,
     };
     let made = make::make(seed, z, output);
-    answer_words::put_made(made, answer)
+    answer_words::put_values(&made, answer)
 }

@@ -1,10 +1,10 @@
 -- `beqlanosh::beqlanosh_fill` meets its contract. Assumes nothing.
-use mathlib.Core.Path.{◌∙◌, ap}
-use Rattle.meaning.specs.Answers.{answer_number}
+use mathlib.Core.Path.{◌∙◌}
+use Rattle.answer_words.specs.Kept.{number_is}
 use borrow.Author.Rules.{rules}
 use Rattle.beqlanosh.proofs.beqlanosh_fill.Goals as goal
 
 pub returns : goal.returns
 returns c =
     let p = c.fill-answer.ensures in
-    (c.number_of.ensures ∙ ap answer_number p.0, p.1)
+    (c.number_of.ensures ∙ number_is c.fill-answer.result p.0, p.1)

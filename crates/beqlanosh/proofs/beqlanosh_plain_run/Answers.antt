@@ -1,10 +1,10 @@
 -- `beqlanosh::beqlanosh_plain_run` meets its contract. Assumes nothing.
-use mathlib.Core.Path.{◌∙◌, ap}
-use Rattle.meaning.specs.Answers.{answer_number}
+use mathlib.Core.Path.{◌∙◌}
+use Rattle.answer_words.specs.Kept.{number_is}
 use borrow.Author.Rules.{rules}
 use Rattle.beqlanosh.proofs.beqlanosh_plain_run.Goals as goal
 
 pub returns : goal.returns
 returns c =
     let p = c.plain_run-answer.ensures in
-    (c.number_of.ensures ∙ ap answer_number p.0, p.1)
+    (c.number_of.ensures ∙ number_is c.plain_run-answer.result p.0, p.1)

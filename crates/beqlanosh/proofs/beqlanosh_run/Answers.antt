@@ -1,8 +1,12 @@
 -- `beqlanosh::beqlanosh_run` meets its contract: what its answer leaves in the lent words. Assumes nothing.
+use mathlib.Core.Path.{◌∙◌}
 use borrow.Author.Rules.{rules}
+use Rattle.answer_words.specs.Kept.{number_is, ran_left}
 use Rattle.beqlanosh.proofs.beqlanosh_run.Goals as goal
 
 pub returns : goal.returns
 returns c =
-    let h = rw c.run-ran.ensures.0 at c.put_ran.ensures in
-    (h.0, c.run-ran.ensures.1, h.1)
+    let r = c.run-ran.result in
+    let e = c.run-ran.ensures in
+    let p = c.put_values.ensures in
+    (p.0 ∙ number_is r e.0, e.1, p.1 ∙ ran_left r c.args.answer.now e.0)
