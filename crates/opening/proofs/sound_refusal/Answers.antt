@@ -2,6 +2,7 @@
 -- Assumes nothing.
 use mathlib.Core.Path.{◌∙◌, ap}
 use mathlib.Core.Bool.{Bool}
+use native.Mathlib.Omega.{arith}
 use Rattle.meaning.specs.Tests.{refusal}
 use Rattle.declines.specs.Tests.{state_tests}
 use Rattle.opening.specs.Opening.{rows_fit_in, sound_by}
