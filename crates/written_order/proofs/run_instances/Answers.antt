@@ -20,8 +20,7 @@ pub run_instance-requires : goal.run_instance-requires
 run_instance-requires c =
     let l = c.loop-k in
     let p = c.requires in
-    let t : l.k < length (instances c.args.v.description.nest) = omega (arith, c.args.v.surveyed.ground.instances_is) in
-    (
+    let t : l.k < length (instances c.args.v.description.nest) = omega (arith, c.args.v.surveyed.ground.instances_is) in (
       p.0,
       c.args.v.surveyed.in_use,
       p.1,
