@@ -30,7 +30,7 @@ const FLAGS: usize = TOP + 1;
 // A set of numbers below MEMBERS, with two levels of summary.
 #[derive(Clone, Copy)]
 pub struct ReadySet {
-    words: [u64; FLAGS],
+    pub words: [u64; FLAGS],
 }
 
 impl ReadySet {
