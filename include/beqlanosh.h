@@ -8,7 +8,7 @@
  * Every call answers 0, or the documents' number by which it declines, and then changes no lent word; 9 is never given (request 2.2).
  * Words beyond those that a comment names never change. A call keeps nothing between calls and allocates nothing. It takes up to 459 KB of
  * stack, whatever the array, as the bench measures it in steps of 4,096 bytes: Fill and Make under 5 KB, Step vectors 50, Window 58, Accept
- * 87, Table 119, Start 140, Plain run 152, Step and Ready 291, Result 340, Run 459.
+ * 62, Table 119, Start 140, Plain run 152, Step and Ready 291, Result 340, Run 459.
  *
  * What is proved holds if each pointer is not null, is aligned for its type and points to as many elements as its length says, also if
  * that is 0, and if no list that a call writes overlaps another list of that call. Lengths count elements. */

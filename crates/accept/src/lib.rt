@@ -5,12 +5,26 @@
 ghost use Rattle.std.specs.Prelude.{◌≡◌};
 ghost use Rattle.refusals.specs.Numbers.{numbered};
 ghost use Rattle.meaning.specs.Limits.{limits_of};
-ghost use Rattle.meaning.specs.Accept.{accept};
+ghost use Rattle.meaning.specs.Accept.{accept, figures, divisors};
+ghost use Rattle.figures.specs.Shares.{Described};
+ghost use Rattle.layout.specs.Spans.{Spans};
 
 use lanes::ALL;
 use layout::SPANS;
 use meaning::{Divisors, Figures};
 use refusals::Refusal;
+use survey::Survey;
+
+// Of an accepted description. Its lanes are on the stack when the survey's own lists are no longer.
+#[inline(never)]
+fn numbers_of(v: Survey, spans: &[u32; SPANS]) -> (Figures, Divisors)
+    requires { (Described v.description) × (Spans v.description.nest spans.now) }
+    ensures { result ≡ (figures v.description, divisors v.description) }
+{
+    let mut lanes = [0u16; ALL];
+    let figures = figures::figures_of(v, spans, &mut lanes);
+    (figures, divisors::divisors_of(v))
+}
 
 // ACCEPT
 pub fn accept(board: u32, s: &[u8]) -> Result<(Figures, Divisors), Refusal>
@@ -18,7 +32,5 @@ pub fn accept(board: u32, s: &[u8]) -> Result<(Figures, Divisors), Refusal>
 {
     let mut spans = [0u32; SPANS];
     let v = refuse::survey_of(board, s, &mut spans)?;
-    let mut lanes = [0u16; ALL];
-    let figures = figures::figures_of(v, &spans, &mut lanes);
-    Ok((figures, divisors::divisors_of(v)))
+    Ok(numbers_of(v, &spans))
 }

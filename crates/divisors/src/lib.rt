@@ -14,7 +14,7 @@ fn stream_divisor(v: Survey, i: u32) -> u32
     ensures { result ≡ stream_divisor v.description i }
 {
     if i < v.description.sizes.streams {
-        let f = survey::flow_at(v, i as usize);
+        let f = survey::flow_at(v.flows, i as usize);
         f.divisor
     } else {
         0

@@ -195,7 +195,7 @@ pub fn fill_places(v: Survey, spans: &[u32], lanes: &[u16], places: &mut [u16])
     ensures { PlacesOf v.description places.new }
 {
     for i in 0..v.description.sizes.streams {
-        let f = survey::flow_at(v, i as usize);
+        let f = survey::flow_at(v.flows, i as usize);
         let first = elements::elements_in(v, i);
         let a = LANES * i as usize;
         fill_stream(

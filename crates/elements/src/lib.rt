@@ -23,7 +23,7 @@ pub fn elements_in(v: Survey, count: u32) -> u32
 {
     let mut sum: u32 = 0;
     for i in 0..count {
-        sum += numbering::size_of(survey::flow_at(v, i as usize).elements);
+        sum += numbering::size_of(survey::flow_at(v.flows, i as usize).elements);
     }
     sum
 }

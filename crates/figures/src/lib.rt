@@ -130,7 +130,7 @@ fn totals_of(v: Survey, spans: &[u32], lanes: &mut [u16]) -> Totals
     };
     for i in 0..v.description.sizes.streams {
         let a = LANES * i as usize;
-        let f = survey::flow_at(v, i as usize);
+        let f = survey::flow_at(v.flows, i as usize);
         totals = joined(
             totals,
             share_of(f, processes, spans, &mut lanes[a..a + LANES]),

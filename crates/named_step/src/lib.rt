@@ -73,7 +73,7 @@ pub fn step_opened(
     if !step_rules::can(ports, state, z, step) {
         return Err(Refusal::NotReady);
     }
-    let g = step_rules::program_of(v);
+    let g = step_rules::program_of(v.description, v.loops);
     step_rules::act(g, ports, spans, z, step, waiting, received, state);
     Ok(())
 }

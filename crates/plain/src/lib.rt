@@ -2,7 +2,7 @@
 
 #![tactic(auto)]
 
-ghost use Rattle.std.specs.Prelude.{◌≡◌};
+ghost use Rattle.std.specs.Prelude.{◌≡◌, length};
 ghost use Rattle.refusals.specs.Numbers.{numbered};
 ghost use Rattle.meaning.specs.Limits.{limits_of};
 ghost use Rattle.meaning.specs.Calls.{plain_run};
@@ -13,6 +13,16 @@ use layout::SPANS;
 use refusals::Refusal;
 use survey::Survey;
 
+// The values go into the output. Word by word: std's copy of a slice would have C programs that link the library bring memmove.
+fn fill_output(values: &[u32], output: &mut [u32])
+    requires { length output.old ≡ length values.now }
+    ensures { output.new ≡ values.now }
+{
+    for i in 0..values.len() {
+        output[i] = values[i];
+    }
+}
+
 // The call on an accepted description.
 fn run_accepted(v: Survey, values: &[u32], output: &mut [u32]) -> Result<(), Refusal>
     requires { Fitting v.description }
@@ -20,7 +30,7 @@ fn run_accepted(v: Survey, values: &[u32], output: &mut [u32]) -> Result<(), Ref
 {
     let e = elements::element_count(v);
     declines::of_plain(e, values.len(), output.len())?;
-    output.copy_from_slice(values);
+    fill_output(values, output);
     written_order::run_loops(v, output);
     Ok(())
 }

@@ -78,7 +78,7 @@ fn stride_of(v: Survey) -> u32
 {
     let mut sum = 1;
     for i in 0..v.description.sizes.streams {
-        sum += 4 + survey::flow_at(v, i as usize).hop;
+        sum += 4 + survey::flow_at(v.flows, i as usize).hop;
     }
     sum
 }
@@ -211,7 +211,7 @@ fn fill_streams(v: Survey, stride: u32, spans: &[u32], lanes: &[u16], ports: &mu
         ends: 0,
     };
     for i in 0..v.description.sizes.streams {
-        let f = survey::flow_at(v, i as usize);
+        let f = survey::flow_at(v.flows, i as usize);
         let g = strand_of(f.hop, processes, stride, sums);
         let first = elements::elements_in(v, i);
         let a = LANES * i as usize;

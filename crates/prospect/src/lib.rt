@@ -96,7 +96,7 @@ fn outlooks_along(v: Survey, walk: &[i8]) -> [Outlook; STREAMS]
     let d = v.description;
     let mut out = [outlook::no_outlook(); STREAMS];
     for i in 0..d.sizes.streams {
-        let f = survey::flow_at(v, i as usize);
+        let f = survey::flow_at(v.flows, i as usize);
         out[i as usize] = outlook::outlook_of(f, v.loops, decode::written(d, i), walk);
     }
     out

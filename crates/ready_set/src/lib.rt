@@ -25,7 +25,7 @@ const MIDDLE: usize = LOW / 64;
 
 const TOP: usize = LOW + MIDDLE;
 
-const FLAGS: usize = TOP + 1;
+pub const FLAGS: usize = TOP + 1;
 
 // A set of numbers below MEMBERS, with two levels of summary.
 #[derive(Clone, Copy)]

@@ -28,7 +28,7 @@ fn streams_refusal(v: Survey, limits: Limits, walk: &[i8]) -> Result<(), Refusal
     let d = v.description;
     let m = d.sizes.streams;
     for i in 0..m {
-        let f = survey::flow_at(v, i as usize);
+        let f = survey::flow_at(v.flows, i as usize);
         refuse_stream::stream_refusal(f, v.loops, decode::written(d, i), limits, walk)?;
     }
     Ok(())

@@ -37,7 +37,7 @@ fn run_opened(
     ensures { RanBy s.now steps (memory_of waiting.now received.old state.old) (Ok result)
         (memory_of waiting.now received.new state.new) }
 {
-    let g = step_rules::program_of(v);
+    let g = step_rules::program_of(v.description, v.loops);
     let mut wakeups = [0u16; STATE_WORDS + 1];
     wakeups::fill_wakeups(ports, z, &mut wakeups);
     let mut set = ReadySet::new();

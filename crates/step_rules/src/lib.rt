@@ -20,10 +20,10 @@ ghost use Rattle.step_rules.specs.Fits.{Inside, Programmed};
 
 use fire::can_use;
 use integers::V3;
-use meaning::{Line, Nest, Step};
+use meaning::{Description, Line, Nest, Step};
 use port_table::Size;
 use send_receive::{can_receive, can_send, receive, send};
-use survey::Survey;
+use survey::Ground;
 use take_give::{can_give, can_take, give, take};
 
 // What processes run: the loops, the increment, and the first `count` of the lines.
@@ -36,16 +36,16 @@ pub struct Program {
 }
 
 // What the processes of a description run.
-pub fn program_of(v: Survey) -> Program
-    requires { GroundOf v.description.nest v.loops }
-    ensures { (result ≡ program_of v.description) × (Within 200 result.increment) }
+pub fn program_of(d: Description, g: Ground) -> Program
+    requires { GroundOf d.nest g }
+    ensures { (result ≡ program_of d) × (Within 200 result.increment) }
 {
-    let lines = v.description.lines;
+    let lines = d.lines;
     Program {
-        nest: v.description.nest,
-        increment: v.loops.increment,
+        nest: d.nest,
+        increment: g.increment,
         lines,
-        count: v.description.sizes.lines,
+        count: d.sizes.lines,
     }
 }
 

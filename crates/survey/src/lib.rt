@@ -223,12 +223,12 @@ fn flows_of(d: Description, g: Ground) -> [Flow; STREAMS]
     out
 }
 
-// Flow i of a survey.
-pub fn flow_at(v: Survey, i: usize) -> Flow
+// Flow i of those of a survey.
+pub fn flow_at(flows: [Flow; STREAMS], i: usize) -> Flow
     requires { i < 6 }
-    ensures { result ≡ get_or v.flows i no_flow }
+    ensures { result ≡ get_or flows i no_flow }
 {
-    v.flows[i]
+    flows[i]
 }
 
 // ---- a description

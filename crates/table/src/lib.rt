@@ -41,7 +41,7 @@ fn fill_streams(v: Survey, spans: &[u32; SPANS], words: &mut [u32])
     for i in 0..m {
         let a = SPANS + BLOCK * i;
         let e = a + BLOCK;
-        let f = survey::flow_at(v, i);
+        let f = survey::flow_at(v.flows, i);
         pipes::fill_stream(f, processes, spans, &mut words[a..e]);
     }
 }

@@ -3,7 +3,6 @@
 #![tactic(auto)]
 
 use integers::{V2, V3};
-use refusals::Refusal;
 use std::fmt::Display;
 use std::{fmt, io};
 
@@ -57,6 +56,6 @@ impl Display for Instance {
 }
 
 // `refused` and the number.
-pub fn print_refusal(rt: &impl Print, refusal: Refusal) -> io::Result<()> {
+pub fn print_refusal(rt: &impl Print, refusal: impl Display + Copy) -> io::Result<()> {
     println!(rt; "refused {refusal}")
 }

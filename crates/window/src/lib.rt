@@ -118,7 +118,7 @@ fn all_searched(v: Survey, spans: &[u32; SPANS], pipe: u32) -> Search
         length: None,
     };
     for i in 0..m {
-        w = stream_searched(survey::flow_at(v, i as usize), processes, spans, w);
+        w = stream_searched(survey::flow_at(v.flows, i as usize), processes, spans, w);
     }
     w
 }

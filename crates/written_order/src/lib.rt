@@ -44,7 +44,7 @@ fn fill_stream(v: Survey, i: u32, table: &mut [u32; ELEMENTS])
     ensures { table.new
         ≡ column i (place v.description i) (length (instances v.description.nest)) table.old }
 {
-    let f = survey::flow_at(v, i as usize);
+    let f = survey::flow_at(v.flows, i as usize);
     let start = elements::elements_in(v, i);
     fill_column(f, v.loops.instances, start, i, table);
 }

@@ -1,6 +1,6 @@
 -- `plain::run_accepted` meets its contract: where the lengths are right the output is the values, and then what the loops leave.
 -- Assumes nothing.
-use mathlib.Core.Path.{◌≡◌, refl, sym, ◌∙◌, subst}
+use mathlib.Core.Path.{◌≡◌, refl, sym, ◌∙◌, ap, subst}
 use native.Mathlib.Omega.{arith}
 use lib.ListN.{length}
 use borrow.Author.Rules.{rules}
@@ -12,8 +12,8 @@ use Rattle.plain.proofs.run_accepted.Goals as goal
 pub element_count-e-requires : goal.element_count-e-requires
 element_count-e-requires c = c.requires.few
 
-pub copy_from_slice-requires : goal.copy_from_slice-requires
-copy_from_slice-requires c =
+pub fill_output-requires : goal.fill_output-requires
+fill_output-requires c =
     let a = c.args in
     let d = a.v.description in
     let n = own_is d (length a.values.now) (length a.output.now) c.element_count-e.ensures.0 c.in_ok-of_plain.ensures in
@@ -26,14 +26,14 @@ run_loops-requires c =
     let d = a.v.description in
     let n = own_is d (length a.values.now) (length a.output.now) c.element_count-e.ensures.0 c.in_ok-of_plain.ensures in
     let l = lengths_are d (length a.values.now) (length a.output.now) n refl in
-    (c.requires, c.copy_from_slice.ensures.len ∙ l.1)
+    (c.requires, ap length c.fill_output.ensures ∙ l.0)
 
 pub returns : goal.returns
 returns c =
     let a = c.args in
     let d = a.v.description in
     let n = own_is d (length a.values.now) (length a.output.now) c.element_count-e.ensures.0 c.in_ok-of_plain.ensures in
-    run_done d a.values.now a.output.now n refl c.copy_from_slice.ensures.after c.run_loops.ensures
+    run_done d a.values.now a.output.now n refl c.fill_output.ensures c.run_loops.ensures
 
 pub returns-in_err-of_plain : goal.returns-in_err-of_plain
 returns-in_err-of_plain c =
