@@ -15,7 +15,7 @@ use meaning::{Divisors, Figures};
 use refusals::Refusal;
 use survey::Survey;
 
-// Of an accepted description. Its lanes are on the stack when the survey's own lists are no longer.
+// Of an accepted description. It is not inlined, so that its lanes and the lists of the survey are not on the stack together.
 #[inline(never)]
 fn numbers_of(v: Survey, spans: &[u32; SPANS]) -> (Figures, Divisors)
     requires { (Described v.description) × (Spans v.description.nest spans.now) }

@@ -31,7 +31,7 @@ pub fn skipped(input: &mut impl Read, bytes: u64) -> io::Result<bool> {
 // Reads a description of so many bytes; whether it was there. Of one that is longer than any good one the first 512 bytes are kept.
 pub fn read_description(input: &mut impl Read, length: u32, bytes: &mut [u8]) -> io::Result<bool> {
     let all = u64::from(length).next_multiple_of(4);
-    let kept = all.min(512);
+    let kept = all.min(KEPT as u64);
     let n = bytes.len().min(kept as usize);
     let found = reading::read_full(input, &mut bytes[..n])?;
     Ok(found == n && skipped(input, all - kept)?)

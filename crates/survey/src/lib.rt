@@ -223,7 +223,7 @@ fn flows_of(d: Description, g: Ground) -> [Flow; STREAMS]
     out
 }
 
-// Flow i of those of a survey.
+// Flow i of a survey's flows.
 pub fn flow_at(flows: [Flow; STREAMS], i: usize) -> Flow
     requires { i < 6 }
     ensures { result ≡ get_or flows i no_flow }
